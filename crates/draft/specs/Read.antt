@@ -1,0 +1,261 @@
+-- Reading, by document 01's rules: from a place in the message to rows, bytes used and the codebook, or to a refusal and its place.
+-- Items are read from left to right, and the first failure decides. Limits are parameters. Assumes nothing.
+use Prim.Native.Nat.{ℕ, zero, suc, _+_}
+use Prim.Native.Char.{code}
+use mathlib.Core.Bool.{Bool, true, false, _&&_}
+use mathlib.Core.List.{List, [], _∷_, _++_}
+use lib.ListN.{length}
+use lib.Dec.{ltb, leb, eqb}
+use Rattle.draft.specs.declared.Refusal.{Refusal}
+use Rattle.draft.specs.declared.Refusal.the-variants.{Ended, WrongPrefix, UnexpectedByte, UnsetPosition, TooDeep, NoRow, TooLong}
+use Rattle.draft.specs.declared.Verdict.{Verdict}
+use Rattle.draft.specs.declared.Verdict.the-variants.{Fine, Bad}
+use Rattle.draft.specs.declared.Content.{Content}
+use Rattle.draft.specs.declared.Content.the-variants as content
+use Rattle.draft.specs.declared.Tag.{Tag}
+use Rattle.draft.specs.declared.Tag.the-variants.{Plain, String, Array, Struct, Unknown}
+use Rattle.draft.specs.declared.Plain.{Plain as PlainItem}
+use Rattle.draft.specs.declared.Plain.the-variants.{Integer, True, False, Double, DateTime, Binary, Other}
+use Rattle.draft.specs.declared.Form.{Form}
+use Rattle.draft.specs.declared.Form.the-variants.{Regular, Recorded, Recalled}
+use Rattle.draft.specs.declared.Entry.{Entry}
+use Rattle.draft.specs.declared.Entry.the-variants.{Unset, Text}
+use Rattle.draft.specs.declared.Row.{Row}
+use Rattle.draft.specs.Bytes.{bytes, byteAt, unsignedAt, part}
+use Rattle.draft.specs.Rows.{row, kindOf}
+use Rattle.draft.specs.Content.{contentRule, nameRule}
+use Rattle.draft.specs.Codebook.{Book, clear, recorded}
+
+-- the rows, where the next byte stands, and the codebook; or why and where it is refused
+pub data Reading : Type 0 where
+  got : List Row → ℕ → Book → Reading
+  refused : Refusal → ℕ → Reading
+
+abbrev pub pick : Bool → Reading → Reading → Reading
+pick true x y = x
+pick false x y = y
+
+-- a reading, and what goes on from its rows, its end and its codebook
+abbrev pub then : Reading → (List Row → ℕ → Book → Reading) → Reading
+then (refused m p) more = refused m p
+then (got rows at book) more = more rows at book
+
+-- reads at a byte, for a row
+abbrev pub Reader : Type 0
+Reader = Book → ℕ → ℕ → Reading
+
+-- what a rule says, for the item at `at`
+abbrev pub judged : Verdict → ℕ → Reading → Reading
+judged Fine at o = o
+judged (Bad m) at o = refused m at
+
+-- the rows of what stands before, in front of a reading's rows
+abbrev pub behind : List Row → Reading → Reading
+behind rows (refused m p) = refused m p
+behind rows (got others at book) = got (rows ++ others) at book
+
+-- two readings, one after the other
+unfoldable pub pair : Reader → Reader → Reader
+pair f g book at r = then (f book at r) (λ rows at′ book′. behind rows (g book′ at′ (r + length rows)))
+
+-- n more readings by f, one after the other, behind the rows `acc`, the first of which is row r; f sees those rows
+unfoldable pub items : (List Row → Reader) → ℕ → List Row → Book → ℕ → ℕ → Reading
+items f zero acc book at r = got acc at book
+items f (suc n) acc book at r = then (f acc book at (r + length acc)) (λ rows at′ book′. items f n (acc ++ rows) book′ at′ r)
+
+-- each alike, whatever the rows so far
+unfoldable pub alike : Reader → List Row → Reader
+alike f acc = f
+
+-- an item's own row, in front of the rows of what it holds
+abbrev pub over : ℕ → ℕ → ℕ → Reading → Reading
+over kind b r (refused m p) = refused m p
+over kind b r (got rows at book) = got (row kind 0 b (r + 1 + length rows) ∷ rows) at book
+
+-- an item of one row
+abbrev pub leaf : ℕ → ℕ → ℕ → ℕ → ℕ → Book → Reading
+leaf kind a b r to book = got (row kind a b (r + 1) ∷ []) to book
+
+abbrev pub pickTag : Bool → Tag → Tag → Tag
+pickTag true x y = x
+pickTag false x y = y
+
+-- what a byte begins where a Value is looked for
+unfoldable pub tagOf : ℕ → Tag
+tagOf b =
+    pickTag (eqb b (code "I")) (Plain Integer)
+    (pickTag (eqb b (code "t")) (Plain True)
+    (pickTag (eqb b (code "f")) (Plain False)
+    (pickTag (eqb b (code "D")) (Plain Double)
+    (pickTag (eqb b (code "8")) (Plain DateTime)
+    (pickTag (eqb b (code "B")) (Plain Binary)
+    (pickTag (eqb b (code "A")) Array
+    (pickTag (eqb b (code "S")) Struct
+    (pickTag (eqb b (code "O")) (Plain Other)
+    (pickTag (eqb b (code "U")) (String Regular)
+    (pickTag (eqb b (code ">")) (String Recorded)
+    (pickTag (eqb b (code "<")) (String Recalled)
+    Unknown)))))))))))
+
+-- what may nest here: nothing more, or what f reads
+pub data Nest : Type 0 where
+  floor : Nest
+  under : Reader → Nest
+
+-- a message's bytes, and the rows that there is room for
+module _ (s : List ℕ) (room : ℕ) where
+  -- no byte there is 1
+  abbrev pub present : ℕ → Reading → Reading
+  present at o = pick (ltb at (length s)) o (refused Ended at)
+
+  -- 9, then 1 for the fixed fields: a row is left, and the item's first `size` bytes are there
+  abbrev pub opened : ℕ → ℕ → ℕ → Reading → Reading
+  opened size at r o = pick (ltb r room) (pick (leb (at + size) (length s)) o (refused Ended at)) (refused NoRow at)
+
+  -- 1 for the content, then what its rule says: the n bytes at o, for the item at `at`
+  unfoldable pub contents : Content → ℕ → ℕ → ℕ → ℕ → Book → Reading
+  contents c o n at r book =
+      pick (leb (o + n) (length s)) (judged (contentRule c (part s o n)) at (leaf (kindOf c) o n r (o + n) book)) (refused Ended at)
+
+  abbrev pub integerItem : Reader
+  integerItem book at r = opened 5 at r (leaf 4 (unsignedAt s (at + 1)) 0 r (at + 5) book)
+
+  abbrev pub booleanItem : ℕ → Reader
+  booleanItem a book at r = opened 1 at r (leaf 5 a 0 r (at + 1) book)
+
+  -- a Double or a DateTime: a size byte
+  abbrev pub shortItem : Content → Reader
+  shortItem c book at r = opened 2 at r (contents c (at + 2) (byteAt s (at + 1)) at r book)
+
+  -- a Binary or a regular String: a length
+  abbrev pub longItem : Content → Reader
+  longItem c book at r = opened 5 at r (contents c (at + 5) (unsignedAt s (at + 1)) at r book)
+
+  -- a position and a length; the text is recorded there
+  abbrev pub recordedItem : Reader
+  recordedItem book at r =
+      opened 6 at r
+      (contents content.Text (at + 6) (unsignedAt s (at + 2)) at r
+      (recorded book (byteAt s (at + 1)) (at + 6) (unsignedAt s (at + 2))))
+
+  -- the text set last at a position, or 6
+  abbrev pub recalled : Entry → ℕ → ℕ → Book → Reading
+  recalled Unset at r book = refused UnsetPosition at
+  recalled (Text o n) at r book = leaf (kindOf content.Text) o n r (at + 2) book
+
+  abbrev pub recalledItem : Reader
+  recalledItem book at r = opened 2 at r (recalled (book (byteAt s (at + 1))) at r book)
+
+  abbrev pub stringItem : Form → Reader
+  stringItem Regular book at r = longItem content.Text book at r
+  stringItem Recorded book at r = recordedItem book at r
+  stringItem Recalled book at r = recalledItem book at r
+
+  -- a String, where nothing else is allowed
+  abbrev pub ifString : Tag → Reader
+  ifString (String form) book at r = stringItem form book at r
+  ifString (Plain item) book at r = refused UnexpectedByte at
+  ifString Array book at r = refused UnexpectedByte at
+  ifString Struct book at r = refused UnexpectedByte at
+  ifString Unknown book at r = refused UnexpectedByte at
+
+  unfoldable pub string : Reader
+  string book at r = present at (ifString (tagOf (byteAt s at)) book at r)
+
+  -- what f reads, where only the byte b may begin it
+  unfoldable pub only : ℕ → Reader → Reader
+  only b f book at r = present at (pick (eqb (byteAt s at) b) (f book at r) (refused UnexpectedByte at))
+
+  -- the text of the first row
+  abbrev pub firstText : List Row → List ℕ
+  firstText [] = []
+  firstText (x ∷ rows) = part s (x .a) (x .b)
+
+  -- an Other's name, judged as soon as it is read, with the place o of the Other
+  unfoldable pub name : ℕ → Reader
+  name o book at r = then (string book at r) (λ rows at′ book′. judged (nameRule (firstText rows)) o (got rows at′ book′))
+
+  abbrev pub otherItem : Reader
+  otherItem book at r = opened 1 at r (over 12 2 r (pair (name at) (only (code "B") (longItem content.Binary)) book (at + 1) (r + 1)))
+
+  abbrev pub plainItem : PlainItem → Reader
+  plainItem Integer book at r = integerItem book at r
+  plainItem True book at r = booleanItem 1 book at r
+  plainItem False book at r = booleanItem 0 book at r
+  plainItem Double book at r = shortItem content.Double book at r
+  plainItem DateTime book at r = shortItem content.DateTime book at r
+  plainItem Binary book at r = longItem content.Binary book at r
+  plainItem Other book at r = otherItem book at r
+
+  -- a count, and that many items, each read by f. Counts are not judged beforehand
+  abbrev pub counted : ℕ → (List Row → Reader) → Reader
+  counted kind f book at r =
+      opened 5 at r (over kind (unsignedAt s (at + 1)) r (items f (unsignedAt s (at + 1)) [] book (at + 5) (r + 1)))
+
+  -- 8 where nothing more may nest
+  abbrev pub arrayItem : Nest → Reader
+  arrayItem floor book at r = refused TooDeep at
+  arrayItem (under f) book at r = counted 9 (alike f) book at r
+
+  abbrev pub structItem : Nest → Reader
+  structItem floor book at r = refused TooDeep at
+  structItem (under f) book at r = counted 10 (alike (pair string f)) book at r
+
+  abbrev pub item : Tag → Nest → Reader
+  item (Plain plain) nest book at r = plainItem plain book at r
+  item (String form) nest book at r = stringItem form book at r
+  item Array nest book at r = arrayItem nest book at r
+  item Struct nest book at r = structItem nest book at r
+  item Unknown nest book at r = refused UnexpectedByte at
+
+  -- a Value in which Arrays and Structs nest to a depth of at most `deep`
+  unfoldable pub value : ℕ → Reader
+  value zero book at r = present at (item (tagOf (byteAt s at)) floor book at r)
+  value (suc deep) book at r = present at (item (tagOf (byteAt s at)) (under (value deep)) book at r)
+
+  unfoldable pub nested : ℕ → Nest
+  nested zero = floor
+  nested (suc deep) = under (value deep)
+
+  -- `C`, a String (method), an Array
+  abbrev pub callItem : ℕ → Reader
+  callItem deep book at r =
+      opened 1 at r (over 1 2 r (pair string (only (code "A") (arrayItem (nested deep))) book (at + 1) (r + 1)))
+
+  -- `R`, then `F` and a Struct, or a Value
+  abbrev pub responseItem : ℕ → Reader
+  responseItem deep book at r =
+      opened 1 at r
+      (present (at + 1)
+      (pick (eqb (byteAt s (at + 1)) (code "F"))
+      (over 3 1 r (only (code "S") (structItem (nested deep)) book (at + 2) (r + 1)))
+      (over 2 1 r (value deep book (at + 1) (r + 1)))))
+
+  unfoldable pub callOrResponse : ℕ → Reader
+  callOrResponse deep book at r =
+      present at
+      (pick (eqb (byteAt s at) (code "C")) (callItem deep book at r)
+      (pick (eqb (byteAt s at) (code "R")) (responseItem deep book at r)
+      (refused UnexpectedByte at)))
+
+-- the 12 bytes that every message begins with
+abbrev pub prefix : List ℕ
+prefix = bytes "binmode-rpc:"
+
+-- two byte strings agree as far as both go
+unfoldable pub agree : List ℕ → List ℕ → Bool
+agree [] ys = true
+agree (x ∷ xs) [] = true
+agree (x ∷ xs) (y ∷ ys) = eqb x y && agree xs ys
+
+-- a message with room for so many rows and so much nesting: 2, over as many of the 12 bytes as are present; 1 if fewer than 12;
+-- then the Call or Response, with an empty codebook
+unfoldable pub message : List ℕ → ℕ → ℕ → Reading
+message s room deep =
+    pick (agree s prefix)
+    (pick (leb 12 (length s)) (callOrResponse s room deep clear 12 0) (refused Ended 0))
+    (refused WrongPrefix 0)
+
+-- the same, of at most so many bytes: else 10
+unfoldable pub messageWithin : ℕ → List ℕ → ℕ → ℕ → Reading
+messageWithin most s room deep = pick (leb (length s) most) (message s room deep) (refused TooLong 0)

@@ -1,0 +1,107 @@
+// The declared types that the definitions in specs/ cite.
+ghost use mathlib.Core.Path.{_≡_};
+ghost use Rattle.draft.specs.Refusals.{numberOf};
+ghost use Rattle.draft.specs.Rows.{kindOf};
+
+// Why a message or a table is refused, in the order of document 01's numbers.
+pub enum Refusal {
+    Ended,
+    WrongPrefix,
+    UnexpectedByte,
+    BadText,
+    UnsetPosition,
+    StandardName,
+    TooDeep,
+    NoRow,
+    TooLong,
+    NotWritable,
+    FormTooLong,
+    OutputTooShort,
+}
+
+// What a rule says of some content.
+pub enum Verdict {
+    Fine,
+    Bad(Refusal),
+}
+
+// The items whose rows name content bytes.
+pub enum Content {
+    Double,
+    DateTime,
+    Binary,
+    Text,
+}
+
+// What a byte begins where a Value is looked for, if anything.
+pub enum Tag {
+    Plain(Plain),
+    String(Form),
+    Array,
+    Struct,
+    Unknown,
+}
+
+// The items that are no String and hold no Values.
+pub enum Plain {
+    Integer,
+    True,
+    False,
+    Double,
+    DateTime,
+    Binary,
+    Other,
+}
+
+// The three kinds of String.
+pub enum Form {
+    Regular,
+    Recorded,
+    Recalled,
+}
+
+// What a position of the codebook holds: nothing, or a text by where its bytes lie.
+pub enum Entry {
+    Unset,
+    Text { offset: u32, length: u32 },
+}
+
+// A row of a table: four words.
+pub struct Row {
+    pub kind: u32,
+    pub a: u32,
+    pub b: u32,
+    pub end: u32,
+}
+
+// Document 01's number of a refusal.
+pub fn number(refusal: Refusal) -> u8
+    ensures { λ n. ⌜ n ≡ numberOf refusal ⌝ }
+{
+    match refusal {
+        Refusal::Ended => 1,
+        Refusal::WrongPrefix => 2,
+        Refusal::UnexpectedByte => 3,
+        Refusal::BadText => 5,
+        Refusal::UnsetPosition => 6,
+        Refusal::StandardName => 7,
+        Refusal::TooDeep => 8,
+        Refusal::NoRow => 9,
+        Refusal::TooLong => 10,
+        Refusal::NotWritable => 11,
+        Refusal::FormTooLong => 12,
+        Refusal::OutputTooShort => 13,
+    }
+}
+
+// The kind of a row that names content bytes.
+pub fn kind(content: Content) -> u32
+    ensures { λ n. ⌜ n ≡ kindOf content ⌝ }
+{
+    match content {
+        Content::Double => 6,
+        Content::DateTime => 7,
+        Content::Binary => 8,
+        Content::Text => 11,
+    }
+}

@@ -1,0 +1,54 @@
+-- Rows fetched back from the table that they were stored in. Assumes nothing.
+use mathlib.Core.Path.{_≡_, refl, _∙_}
+use mathlib.Core.List.{List, [], _∷_}
+use Prim.Native.Nat.{ℕ, suc, _+_, _*_, _≤_, _<_}
+use native.Mathlib.Omega.{arith}
+use lib.Dec.{lit<}
+use lib.Seq.{getD-set-same, getD-set-other}
+use lib.ListN.{length, getD, set, length-set}
+use Rattle.draft.specs.declared.Row.{Row}
+use Rattle.draft.specs.Table.{place, setRow, putRows, rowAt}
+use Rattle.table.proofs.Rows.{place-in, place-one, length-putRows}
+
+-- the words of a row that was stored
+module _ (c : ℕ) (T : List ℕ) (r : ℕ) (x : Row) (h : r < c) (m : c * 4 ≤ length T) where
+  apart : (k k′ : ℕ) → k < 4 → k′ < 4 → (k ≡ k′ → ⊥) → place c r k ≡ place c r k′ → ⊥
+  apart k k′ l l′ n e = n (place-one c r r k k′ h h l l′ e .1)
+
+  in-table : (j : ℕ) → j < 4 → place c r j < length T
+  in-table j l = omega (arith, place-in c r j h l)
+
+  stored-end : getD (setRow c T r x) (place c r 3) 0 ≡ x .end
+  unfolding setRow
+  stored-end =
+      getD-set-same (set (set (set T (place c r 0) (x .kind)) (place c r 1) (x .a)) (place c r 2) (x .b)) (place c r 3) (x .end) 0 (simp length-set (in-table 3 (lit< tt)))
+
+  stored-b : getD (setRow c T r x) (place c r 2) 0 ≡ x .b
+  unfolding setRow
+  stored-b =
+      getD-set-other (set (set (set T (place c r 0) (x .kind)) (place c r 1) (x .a)) (place c r 2) (x .b)) (place c r 3) (place c r 2) (x .end) 0 (apart 2 3 (lit< tt) (lit< tt) (λ e. omega arith))
+      ∙ getD-set-same (set (set T (place c r 0) (x .kind)) (place c r 1) (x .a)) (place c r 2) (x .b) 0 (simp length-set (in-table 2 (lit< tt)))
+
+  stored-a : getD (setRow c T r x) (place c r 1) 0 ≡ x .a
+  unfolding setRow
+  stored-a =
+      getD-set-other (set (set (set T (place c r 0) (x .kind)) (place c r 1) (x .a)) (place c r 2) (x .b)) (place c r 3) (place c r 1) (x .end) 0 (apart 1 3 (lit< tt) (lit< tt) (λ e. omega arith))
+      ∙ getD-set-other (set (set T (place c r 0) (x .kind)) (place c r 1) (x .a)) (place c r 2) (place c r 1) (x .b) 0 (apart 1 2 (lit< tt) (lit< tt) (λ e. omega arith))
+      ∙ getD-set-same (set T (place c r 0) (x .kind)) (place c r 1) (x .a) 0 (simp length-set (in-table 1 (lit< tt)))
+
+  stored-kind : getD (setRow c T r x) (place c r 0) 0 ≡ x .kind
+  unfolding setRow
+  stored-kind =
+      getD-set-other (set (set (set T (place c r 0) (x .kind)) (place c r 1) (x .a)) (place c r 2) (x .b)) (place c r 3) (place c r 0) (x .end) 0 (apart 0 3 (lit< tt) (lit< tt) (λ e. omega arith))
+      ∙ getD-set-other (set (set T (place c r 0) (x .kind)) (place c r 1) (x .a)) (place c r 2) (place c r 0) (x .b) 0 (apart 0 2 (lit< tt) (lit< tt) (λ e. omega arith))
+      ∙ getD-set-other (set T (place c r 0) (x .kind)) (place c r 1) (place c r 0) (x .a) 0 (apart 0 1 (lit< tt) (lit< tt) (λ e. omega arith))
+      ∙ getD-set-same T (place c r 0) (x .kind) 0 (in-table 0 (lit< tt))
+
+  pub stored-row : rowAt c (setRow c T r x) r ≡ x
+  unfolding rowAt
+  stored-row = rw (stored-kind, stored-a, stored-b, stored-end)
+
+-- the first of several rows
+pub first-row : (c : ℕ) (T : List ℕ) (r : ℕ) (x : Row) (xs : List Row) → r < c → c * 4 ≤ length T → rowAt c (putRows c T r (x ∷ xs)) r ≡ x
+unfolding putRows
+first-row c T r x xs h m = stored-row c (putRows c T (suc r) xs) r x h (omega (arith, length-putRows c T (suc r) xs))
