@@ -23,7 +23,7 @@ use Rattle.draft.specs.declared.Entry.the-variants.{Unset, Text}
 use Rattle.draft.specs.declared.Row.{Row}
 use Rattle.draft.specs.Bytes.{bytes, byteAt, unsignedAt, part}
 use Rattle.draft.specs.Rows.{row, kindOf}
-use Rattle.draft.specs.Content.{contentRule, nameRule}
+use Rattle.draft.specs.Content.{verdict, nameRule}
 use Rattle.draft.specs.Codebook.{Book, clear, recorded}
 
 -- the rows, where the next byte stands, and the codebook; or why and where it is refused
@@ -42,7 +42,7 @@ then (got rows at book) more = more rows at book
 
 -- reads at a byte, for a row
 abbrev pub Reader : Type 0
-Reader = Book → ℕ → ℕ → Reading
+Reader = ℕ → ℕ → Book → Reading
 
 -- what a rule says, for the item at `at`
 abbrev pub judged : Verdict → ℕ → Reading → Reading
@@ -56,12 +56,12 @@ behind rows (got others at book) = got (rows ++ others) at book
 
 -- two readings, one after the other
 unfoldable pub pair : Reader → Reader → Reader
-pair f g book at r = then (f book at r) (λ rows at′ book′. behind rows (g book′ at′ (r + length rows)))
+pair f g at r book = then (f at r book) (λ rows at′ book′. behind rows (g at′ (r + length rows) book′))
 
 -- n more readings by f, one after the other, behind the rows `acc`, the first of which is row r; f sees those rows
-unfoldable pub items : (List Row → Reader) → ℕ → List Row → Book → ℕ → ℕ → Reading
-items f zero acc book at r = got acc at book
-items f (suc n) acc book at r = then (f acc book at (r + length acc)) (λ rows at′ book′. items f n (acc ++ rows) book′ at′ r)
+unfoldable pub items : (List Row → Reader) → ℕ → List Row → Reader
+items f zero acc at r book = got acc at book
+items f (suc n) acc at r book = then (f acc at (r + length acc) book) (λ rows at′ book′. items f n (acc ++ rows) at′ r book′)
 
 -- each alike, whatever the rows so far
 unfoldable pub alike : Reader → List Row → Reader
@@ -113,27 +113,26 @@ module _ (s : List ℕ) (room : ℕ) where
   opened size at r o = pick (ltb r room) (pick (leb (at + size) (length s)) o (refused Ended at)) (refused NoRow at)
 
   -- 1 for the content, then what its rule says: the n bytes at o, for the item at `at`
-  unfoldable pub contents : Content → ℕ → ℕ → ℕ → ℕ → Book → Reading
-  contents c o n at r book =
-      pick (leb (o + n) (length s)) (judged (contentRule c (part s o n)) at (leaf (kindOf c) o n r (o + n) book)) (refused Ended at)
+  abbrev pub contents : Content → ℕ → ℕ → ℕ → ℕ → Book → Reading
+  contents c o n at r book = judged (verdict c s o n) at (leaf (kindOf c) o n r (o + n) book)
 
   abbrev pub integerItem : Reader
-  integerItem book at r = opened 5 at r (leaf 4 (unsignedAt s (at + 1)) 0 r (at + 5) book)
+  integerItem at r book = opened 5 at r (leaf 4 (unsignedAt s (at + 1)) 0 r (at + 5) book)
 
   abbrev pub booleanItem : ℕ → Reader
-  booleanItem a book at r = opened 1 at r (leaf 5 a 0 r (at + 1) book)
+  booleanItem a at r book = opened 1 at r (leaf 5 a 0 r (at + 1) book)
 
   -- a Double or a DateTime: a size byte
   abbrev pub shortItem : Content → Reader
-  shortItem c book at r = opened 2 at r (contents c (at + 2) (byteAt s (at + 1)) at r book)
+  shortItem c at r book = opened 2 at r (contents c (at + 2) (byteAt s (at + 1)) at r book)
 
   -- a Binary or a regular String: a length
   abbrev pub longItem : Content → Reader
-  longItem c book at r = opened 5 at r (contents c (at + 5) (unsignedAt s (at + 1)) at r book)
+  longItem c at r book = opened 5 at r (contents c (at + 5) (unsignedAt s (at + 1)) at r book)
 
   -- a position and a length; the text is recorded there
   abbrev pub recordedItem : Reader
-  recordedItem book at r =
+  recordedItem at r book =
       opened 6 at r
       (contents content.Text (at + 6) (unsignedAt s (at + 2)) at r
       (recorded book (byteAt s (at + 1)) (at + 6) (unsignedAt s (at + 2))))
@@ -144,27 +143,27 @@ module _ (s : List ℕ) (room : ℕ) where
   recalled (Text o n) at r book = leaf (kindOf content.Text) o n r (at + 2) book
 
   abbrev pub recalledItem : Reader
-  recalledItem book at r = opened 2 at r (recalled (book (byteAt s (at + 1))) at r book)
+  recalledItem at r book = opened 2 at r (recalled (book (byteAt s (at + 1))) at r book)
 
   abbrev pub stringItem : Form → Reader
-  stringItem Regular book at r = longItem content.Text book at r
-  stringItem Recorded book at r = recordedItem book at r
-  stringItem Recalled book at r = recalledItem book at r
+  stringItem Regular at r book = longItem content.Text at r book
+  stringItem Recorded at r book = recordedItem at r book
+  stringItem Recalled at r book = recalledItem at r book
 
   -- a String, where nothing else is allowed
   abbrev pub ifString : Tag → Reader
-  ifString (String form) book at r = stringItem form book at r
-  ifString (Plain item) book at r = refused UnexpectedByte at
-  ifString Array book at r = refused UnexpectedByte at
-  ifString Struct book at r = refused UnexpectedByte at
-  ifString Unknown book at r = refused UnexpectedByte at
+  ifString (String form) at r book = stringItem form at r book
+  ifString (Plain item) at r book = refused UnexpectedByte at
+  ifString Array at r book = refused UnexpectedByte at
+  ifString Struct at r book = refused UnexpectedByte at
+  ifString Unknown at r book = refused UnexpectedByte at
 
   unfoldable pub string : Reader
-  string book at r = present at (ifString (tagOf (byteAt s at)) book at r)
+  string at r book = present at (ifString (tagOf (byteAt s at)) at r book)
 
   -- what f reads, where only the byte b may begin it
   unfoldable pub only : ℕ → Reader → Reader
-  only b f book at r = present at (pick (eqb (byteAt s at) b) (f book at r) (refused UnexpectedByte at))
+  only b f at r book = present at (pick (eqb (byteAt s at) b) (f at r book) (refused UnexpectedByte at))
 
   -- the text of the first row
   abbrev pub firstText : List Row → List ℕ
@@ -173,45 +172,45 @@ module _ (s : List ℕ) (room : ℕ) where
 
   -- an Other's name, judged as soon as it is read, with the place o of the Other
   unfoldable pub name : ℕ → Reader
-  name o book at r = then (string book at r) (λ rows at′ book′. judged (nameRule (firstText rows)) o (got rows at′ book′))
+  name o at r book = then (string at r book) (λ rows at′ book′. judged (nameRule (firstText rows)) o (got rows at′ book′))
 
   abbrev pub otherItem : Reader
-  otherItem book at r = opened 1 at r (over 12 2 r (pair (name at) (only (code "B") (longItem content.Binary)) book (at + 1) (r + 1)))
+  otherItem at r book = opened 1 at r (over 12 2 r (pair (name at) (only (code "B") (longItem content.Binary)) (at + 1) (r + 1) book))
 
   abbrev pub plainItem : PlainItem → Reader
-  plainItem Integer book at r = integerItem book at r
-  plainItem True book at r = booleanItem 1 book at r
-  plainItem False book at r = booleanItem 0 book at r
-  plainItem Double book at r = shortItem content.Double book at r
-  plainItem DateTime book at r = shortItem content.DateTime book at r
-  plainItem Binary book at r = longItem content.Binary book at r
-  plainItem Other book at r = otherItem book at r
+  plainItem Integer at r book = integerItem at r book
+  plainItem True at r book = booleanItem 1 at r book
+  plainItem False at r book = booleanItem 0 at r book
+  plainItem Double at r book = shortItem content.Double at r book
+  plainItem DateTime at r book = shortItem content.DateTime at r book
+  plainItem Binary at r book = longItem content.Binary at r book
+  plainItem Other at r book = otherItem at r book
 
   -- a count, and that many items, each read by f. Counts are not judged beforehand
   abbrev pub counted : ℕ → (List Row → Reader) → Reader
-  counted kind f book at r =
-      opened 5 at r (over kind (unsignedAt s (at + 1)) r (items f (unsignedAt s (at + 1)) [] book (at + 5) (r + 1)))
+  counted kind f at r book =
+      opened 5 at r (over kind (unsignedAt s (at + 1)) r (items f (unsignedAt s (at + 1)) [] (at + 5) (r + 1) book))
 
   -- 8 where nothing more may nest
   abbrev pub arrayItem : Nest → Reader
-  arrayItem floor book at r = refused TooDeep at
-  arrayItem (under f) book at r = counted 9 (alike f) book at r
+  arrayItem floor at r book = refused TooDeep at
+  arrayItem (under f) at r book = counted 9 (alike f) at r book
 
   abbrev pub structItem : Nest → Reader
-  structItem floor book at r = refused TooDeep at
-  structItem (under f) book at r = counted 10 (alike (pair string f)) book at r
+  structItem floor at r book = refused TooDeep at
+  structItem (under f) at r book = counted 10 (alike (pair string f)) at r book
 
   abbrev pub item : Tag → Nest → Reader
-  item (Plain plain) nest book at r = plainItem plain book at r
-  item (String form) nest book at r = stringItem form book at r
-  item Array nest book at r = arrayItem nest book at r
-  item Struct nest book at r = structItem nest book at r
-  item Unknown nest book at r = refused UnexpectedByte at
+  item (Plain plain) nest at r book = plainItem plain at r book
+  item (String form) nest at r book = stringItem form at r book
+  item Array nest at r book = arrayItem nest at r book
+  item Struct nest at r book = structItem nest at r book
+  item Unknown nest at r book = refused UnexpectedByte at
 
   -- a Value in which Arrays and Structs nest to a depth of at most `deep`
   unfoldable pub value : ℕ → Reader
-  value zero book at r = present at (item (tagOf (byteAt s at)) floor book at r)
-  value (suc deep) book at r = present at (item (tagOf (byteAt s at)) (under (value deep)) book at r)
+  value zero at r book = present at (item (tagOf (byteAt s at)) floor at r book)
+  value (suc deep) at r book = present at (item (tagOf (byteAt s at)) (under (value deep)) at r book)
 
   unfoldable pub nested : ℕ → Nest
   nested zero = floor
@@ -219,23 +218,23 @@ module _ (s : List ℕ) (room : ℕ) where
 
   -- `C`, a String (method), an Array
   abbrev pub callItem : ℕ → Reader
-  callItem deep book at r =
-      opened 1 at r (over 1 2 r (pair string (only (code "A") (arrayItem (nested deep))) book (at + 1) (r + 1)))
+  callItem deep at r book =
+      opened 1 at r (over 1 2 r (pair string (only (code "A") (arrayItem (nested deep))) (at + 1) (r + 1) book))
 
   -- `R`, then `F` and a Struct, or a Value
   abbrev pub responseItem : ℕ → Reader
-  responseItem deep book at r =
+  responseItem deep at r book =
       opened 1 at r
       (present (at + 1)
       (pick (eqb (byteAt s (at + 1)) (code "F"))
-      (over 3 1 r (only (code "S") (structItem (nested deep)) book (at + 2) (r + 1)))
-      (over 2 1 r (value deep book (at + 1) (r + 1)))))
+      (over 3 1 r (only (code "S") (structItem (nested deep)) (at + 2) (r + 1) book))
+      (over 2 1 r (value deep (at + 1) (r + 1) book))))
 
   unfoldable pub callOrResponse : ℕ → Reader
-  callOrResponse deep book at r =
+  callOrResponse deep at r book =
       present at
-      (pick (eqb (byteAt s at) (code "C")) (callItem deep book at r)
-      (pick (eqb (byteAt s at) (code "R")) (responseItem deep book at r)
+      (pick (eqb (byteAt s at) (code "C")) (callItem deep at r book)
+      (pick (eqb (byteAt s at) (code "R")) (responseItem deep at r book)
       (refused UnexpectedByte at)))
 
 -- the 12 bytes that every message begins with
@@ -253,7 +252,7 @@ agree (x ∷ xs) (y ∷ ys) = eqb x y && agree xs ys
 unfoldable pub message : List ℕ → ℕ → ℕ → Reading
 message s room deep =
     pick (agree s prefix)
-    (pick (leb 12 (length s)) (callOrResponse s room deep clear 12 0) (refused Ended 0))
+    (pick (leb 12 (length s)) (callOrResponse s room deep 12 0 clear) (refused Ended 0))
     (refused WrongPrefix 0)
 
 -- the same, of at most so many bytes: else 10

@@ -1,0 +1,79 @@
+-- What answers each return of the functions that judge content. Assumes nothing.
+use mathlib.Core.Path.{_≡_, refl, _∙_}
+use mathlib.Core.Bool.{Bool, true, false}
+use mathlib.Core.List.{List, []}
+use Prim.Native.Nat.{ℕ, _+_, _-_, _≤_, _<_}
+use native.Mathlib.Omega.{arith}
+use native.Mathlib.Nat.{sub-zero}
+use lib.ListN.{length, take, drop, length-drop, drop-of-length-le}
+use lib.Seq.{take-all, take-nil}
+use borrow.Author.Tests.{le-leb, lt-leb}
+use Rattle.text.specs.Utf8.{wellFormed}
+use Rattle.text.specs.Texts.{ascii, standardName}
+use Rattle.draft.specs.declared.Refusal.the-variants.{Ended, BadText, StandardName}
+use Rattle.draft.specs.declared.Verdict.{Verdict}
+use Rattle.draft.specs.declared.Verdict.the-variants.{Fine, Bad}
+use Rattle.draft.specs.declared.Content.{Content}
+use Rattle.draft.specs.declared.Content.the-variants.{Double, DateTime, Binary, Text}
+use Rattle.draft.specs.Bytes.{part}
+use Rattle.draft.specs.Content.{fineIf, contentRule, verdict, nameRule}
+
+rest-all : (s : List ℕ) (o : ℕ) → take (length s - o) (drop o s) ≡ drop o s
+rest-all s o = take-all (length s - o) (drop o s) (omega (arith, length-drop o s))
+
+-- a part, cut where the bytes end
+module _ (s : List ℕ) (o n : ℕ) where
+  pub part-past : length s ≤ o → [] ≡ part s o n
+  part-past h = rw (drop-of-length-le s h, take-nil n)
+
+  pub part-rest : length (take (length s - o) (drop o s)) ≤ n → take (length s - o) (drop o s) ≡ part s o n
+  part-rest = rw (rest-all s o) (λ h. rw (take-all n (drop o s) h))
+
+  pub part-cut : take (n - 0) (take (length s - o) (drop o s)) ≡ part s o n
+  part-cut = rw (sub-zero n, rest-all s o)
+
+-- by the kind of content
+module _ {c : Content} (s : List ℕ) {good : Bool} {v : Verdict} (e : v ≡ fineIf good BadText) where
+  pub judge-double : c ≡ Double → good ≡ ascii s → v ≡ contentRule c s
+  unfolding contentRule
+  judge-double i g = e ∙ rw (i, g)
+
+  pub judge-date : c ≡ DateTime → good ≡ ascii s → v ≡ contentRule c s
+  unfolding contentRule
+  judge-date i g = e ∙ rw (i, g)
+
+  pub judge-text : c ≡ Text → good ≡ wellFormed s → v ≡ contentRule c s
+  unfolding contentRule
+  judge-text i g = e ∙ rw (i, g)
+
+pub judge-binary : {c : Content} (s : List ℕ) → c ≡ Binary → Fine ≡ contentRule c s
+unfolding contentRule
+judge-binary s i = rw i
+
+-- an Other's name
+pub name-standard : (s : List ℕ) {b : Bool} → b ≡ standardName s → b ≡ true → Bad StandardName ≡ nameRule s
+unfolding nameRule
+name-standard s e t = rw (← e, t)
+
+pub name-other : (s : List ℕ) {b : Bool} → b ≡ standardName s → b ≡ false → Fine ≡ nameRule s
+unfolding nameRule
+name-other s e t = rw (← e, t)
+
+-- whether the bytes are there
+module _ (c : Content) (s : List ℕ) (o n : ℕ) where
+  pub starts-past : length s < o → Bad Ended ≡ verdict c s o n
+  unfolding verdict
+  starts-past h = rw (lt-leb (o + n) (length s) (omega arith))
+
+  pub ends-past : o ≤ length s → length s - o < n → Bad Ended ≡ verdict c s o n
+  unfolding verdict
+  ends-past h k = rw (lt-leb (o + n) (length s) (omega arith))
+
+  pub there : {t : List ℕ} {v : Verdict} → o ≤ length s → n ≤ length s - o → t ≡ part s o n → v ≡ contentRule c t → v ≡ verdict c s o n
+  unfolding verdict
+  there h k e f = f ∙ rw (le-leb (o + n) (length s) (omega arith), e)
+
+pub fine-not : {good : Bool} → good ≡ false → Bad BadText ≡ fineIf good BadText
+fine-not e = rw e
+
+pub ruleset judging = (part-past, part-rest, part-cut, fine-not, judge-double, judge-date, judge-text, judge-binary, name-standard, name-other, starts-past, ends-past, there)

@@ -1,0 +1,67 @@
+-- What the reading functions ask and what they do, as against the definition of reading. Assumes nothing.
+use mathlib.Core.Path.{_≡_}
+use mathlib.Core.List.{List}
+use Prim.Native.Nat.{ℕ, _+_, _*_, _≤_}
+use lib.ListN.{length}
+use Rattle.draft.specs.declared.Row.{Row}
+use Rattle.draft.specs.Codebook.{Book}
+use Rattle.draft.specs.Table.{setRow, putRows}
+use Rattle.draft.specs.Rows.{row}
+use Rattle.draft.specs.Read.{Reading, got, refused}
+use Rattle.codebook.specs.Words.{bookOf}
+use Rattle.item.specs.declared.Place.{Place}
+use Rattle.item.specs.declared.Step.{Step}
+use Rattle.item.specs.declared.Step.the-variants.{Next, Refused}
+
+-- what each reading function asks: the place is within the message and the table, and the buffers have their sizes
+pub record Ready (p : Place) (room bytes words marks : ℕ) : Type 0 where
+  pub within : p .at ≤ bytes
+  pub fits : p .row ≤ room
+  pub rows : room ≤ 4096
+  pub table : room * 4 ≤ words
+  pub message : bytes ≤ 65536
+  pub book : marks ≡ 512
+
+-- the answer to a reading that began at row r
+abbrev pub answer : ℕ → Reading → Step
+answer r (refused m p) = Refused m p
+answer r (got rows at book) = Next (record { at = at; row = r + length rows })
+
+-- what an accepted reading leaves: its rows in the table, the codebook in its words, and places within their bounds, `from` the least end
+pub record Left (rows : List Row) (at : ℕ) (book : Book) (bytes room from r : ℕ) (T T′ W′ : List ℕ) : Type 0 where
+  pub wrote : T′ ≡ putRows room T r rows
+  pub ahead : from ≤ at
+  pub within : at ≤ bytes
+  pub fits : r + length rows ≤ room
+  pub holds : bookOf W′ ≡ book
+
+-- a refused reading leaves anything: the outermost function clears the table
+abbrev pub Leaves : Reading → ℕ → ℕ → ℕ → ℕ → List ℕ → List ℕ → List ℕ → Type 0
+Leaves (refused m p) bytes room from r T T′ W′ = Unit {0}
+Leaves (got rows at book) bytes room from r T T′ W′ = Left rows at book bytes room from r T T′ W′
+
+-- what a call did that was to give this reading: its answer, and the table and the codebook's words after it
+pub record Did (o : Reading) (bytes room from r : ℕ) (T T′ W′ : List ℕ) (step : Step) : Type 0 where
+  pub says : step ≡ answer r o
+  pub leaves : Leaves o bytes room from r T T′ W′
+
+-- the same of a call that leaves the codebook alone, whatever its words hold
+pub record Stored (o : Book → Reading) (bytes room from r : ℕ) (T T′ : List ℕ) (step : Step) : Type 0 where
+  pub did : (W : List ℕ) → Did (o (bookOf W)) bytes room from r T T′ W step
+
+-- an item's row, stored behind the rows of what it holds if those were read
+abbrev pub closed : Step → ℕ → ℕ → ℕ → ℕ → List ℕ → List ℕ → Type 0
+closed (Refused m p) kind b r room T T′ = Unit {0}
+closed (Next p) kind b r room T T′ = T′ ≡ setRow room T r (row kind 0 b (p .row))
+
+pub record Closed (step : Step) (kind b r room : ℕ) (T T′ : List ℕ) (result : Step) : Type 0 where
+  pub same : result ≡ step
+  pub wrote : closed step kind b r room T T′
+
+-- a step ends within the room
+abbrev pub ends : Step → ℕ → Type 0
+ends (Refused m p) room = Unit {0}
+ends (Next p) room = p .row ≤ room
+
+pub record Ends (step : Step) (room : ℕ) : Type 0 where
+  pub within : ends step room
