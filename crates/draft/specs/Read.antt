@@ -102,6 +102,10 @@ pub data Nest : Type 0 where
   floor : Nest
   under : Reader → Nest
 
+-- the text that a row names
+abbrev pub textOf : List ℕ → Row → List ℕ
+textOf s x = part s (x .a) (x .b)
+
 -- a message's bytes, and the rows that there is room for
 module _ (s : List ℕ) (room : ℕ) where
   -- no byte there is 1
@@ -113,7 +117,7 @@ module _ (s : List ℕ) (room : ℕ) where
   opened size at r o = pick (ltb r room) (pick (leb (at + size) (length s)) o (refused Ended at)) (refused NoRow at)
 
   -- 1 for the content, then what its rule says: the n bytes at o, for the item at `at`
-  abbrev pub contents : Content → ℕ → ℕ → ℕ → ℕ → Book → Reading
+  unfoldable pub contents : Content → ℕ → ℕ → ℕ → ℕ → Book → Reading
   contents c o n at r book = judged (verdict c s o n) at (leaf (kindOf c) o n r (o + n) book)
 
   abbrev pub integerItem : Reader
@@ -168,7 +172,7 @@ module _ (s : List ℕ) (room : ℕ) where
   -- the text of the first row
   abbrev pub firstText : List Row → List ℕ
   firstText [] = []
-  firstText (x ∷ rows) = part s (x .a) (x .b)
+  firstText (x ∷ rows) = textOf s x
 
   -- an Other's name, judged as soon as it is read, with the place o of the Other
   unfoldable pub name : ℕ → Reader

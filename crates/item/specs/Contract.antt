@@ -13,13 +13,17 @@ use Rattle.item.specs.declared.Place.{Place}
 use Rattle.item.specs.declared.Step.{Step}
 use Rattle.item.specs.declared.Step.the-variants.{Next, Refused}
 
--- what each reading function asks: the place is within the message and the table, and the buffers have their sizes
-pub record Ready (p : Place) (room bytes words marks : ℕ) : Type 0 where
+-- what each reading function asks: the place is within the message and the table, the message is short enough, and the table has its room
+pub record Fitting (p : Place) (room bytes words : ℕ) : Type 0 where
   pub within : p .at ≤ bytes
   pub fits : p .row ≤ room
   pub rows : room ≤ 4096
   pub table : room * 4 ≤ words
   pub message : bytes ≤ 65536
+
+-- and the codebook its words
+pub record Ready (p : Place) (room bytes words marks : ℕ) : Type 0 where
+  pub fitting : Fitting p room bytes words
   pub book : marks ≡ 512
 
 -- the answer to a reading that began at row r

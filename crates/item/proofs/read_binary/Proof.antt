@@ -1,0 +1,13 @@
+use Rattle.item.proofs.Items.{strings}
+use borrow.Author.Needs.{needs}
+use Rattle.item.proofs.read_binary.Statement.{statement}
+use Rattle.item.proofs.read_binary.Tie as tie
+
+pub read-binary-spec : {M : Type 1} → statement M
+read-binary-spec = tie.close (tie.spec
+    (λ c. record { did = λ W. search strings })  -- returns
+    (λ c. search needs)  -- shared-slice-read-if2
+    (λ c κs. search needs)  -- read-long-requires
+    (λ c. search needs)  -- same-length
+    (λ c. record { did = λ W. search strings })  -- returns-2
+    (λ c. record { did = λ W. search strings }))  -- returns-3

@@ -1,0 +1,15 @@
+use Rattle.item.proofs.Items.{others}
+use borrow.Author.Needs.{needs}
+use Rattle.item.proofs.read_other.Statement.{statement}
+use Rattle.item.proofs.read_other.Tie as tie
+
+pub read-other-spec : {M : Type 1} → statement M
+read-other-spec = tie.close (tie.spec
+    (λ c. search others)  -- returns
+    (λ c. search needs)  -- add-t12
+    (λ c. search needs)  -- add-t13
+    (λ c κs. search needs)  -- read-name-and-binary-requires
+    (λ c κs. (search others, search needs, search needs, search needs))  -- close-requires
+    (λ c. search needs)  -- same-length
+    (λ c. search needs)  -- same-length-2
+    (λ c. search others))  -- returns-2
