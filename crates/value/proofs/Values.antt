@@ -1,0 +1,81 @@
+-- What answers each return of the functions that read a Value, an Array or a Struct. Assumes nothing.
+use mathlib.Core.Path.{_≡_, refl}
+use mathlib.Core.List.{List, []}
+use Prim.Native.Nat.{ℕ, zero, suc, _+_, _-_, _≤_, _<_}
+use native.Mathlib.Omega.{arith}
+use native.Mathlib.Numerals.{sub-one}
+use lib.ListN.{length, getD}
+use borrow.Author.Tests.{lt-ltb, le-ltb}
+use Rattle.draft.specs.declared.Refusal.the-variants.{Ended, UnexpectedByte, TooDeep}
+use Rattle.draft.specs.declared.Tag.{Tag}
+use Rattle.draft.specs.declared.Tag.the-variants.{Plain, String, Array, Struct, Unknown}
+use Rattle.draft.specs.declared.Plain.{Plain as PlainItem}
+use Rattle.draft.specs.declared.Form.{Form}
+use Rattle.draft.specs.declared.Row.{Row}
+use Rattle.draft.specs.Codebook.{Book}
+use Rattle.draft.specs.Read.{Reading, refused, floor, under, Reader, pair, items, alike, over, string, counted, arrayItem, structItem, plainItem, stringItem, item, value, nested, tagOf}
+use Rattle.item.specs.declared.Step.{Step}
+use Rattle.item.specs.declared.Step.the-variants.{Next, Refused}
+use Rattle.item.specs.Contract.{Did}
+use Rattle.item.proofs.Readings.{done, did-no, did-ends, at-in, row-in, opened-full, opened-cut, opened-on, pair-first, pair-both, over-closed}
+use Rattle.value.proofs.Turns.{turn-again, turn-refused, turn-done, turn-less, ahead-next}
+
+-- a Value, by its tag
+value-is : (s : List ℕ) (room deep at r : ℕ) (book : Book) {t u : Tag} → at < length s → t ≡ tagOf (getD s at 0) → t ≡ u → value s room deep at r book ≡ item s room u (nested s room deep) at r book
+unfolding value nested
+value-is s room zero at r book h e i = rw (lt-ltb _ _ h, ← e, i)
+value-is s room (suc deep) at r book h e i = rw (lt-ltb _ _ h, ← e, i)
+
+value-none : (s : List ℕ) (room deep at r : ℕ) (book : Book) → length s ≤ at → value s room deep at r book ≡ refused Ended at
+unfolding value
+value-none s room zero at r book h = simp (le-ltb _ _ h)
+value-none s room (suc deep) at r book h = simp (le-ltb _ _ h)
+
+module _ (s : List ℕ) (deep at : ℕ) (book : Book) {bytes room from r : ℕ} {T T′ W′ : List ℕ} where
+  pub value-short : length s ≤ at → Did (value s room deep at r book) bytes room from r T T′ W′ (Refused Ended at)
+  value-short h = did-no (value-none s room deep at r book h)
+
+  module _ {t : Tag} (h : at < length s) (e : t ≡ tagOf (getD s at 0)) where
+    pub value-unknown : t ≡ Unknown → Did (value s room deep at r book) bytes room from r T T′ W′ (Refused UnexpectedByte at)
+    value-unknown i = did-no (value-is s room deep at r book h e i)
+
+    pub value-plain : {x : PlainItem} {step : Step} → t ≡ Plain x → Did (plainItem s room x at r book) bytes room from r T T′ W′ step → Did (value s room deep at r book) bytes room from r T T′ W′ step
+    value-plain i d = done (value-is s room deep at r book h e i) d
+
+    pub value-string : {form : Form} {step : Step} → t ≡ String form → Did (stringItem s room form at r book) bytes room from r T T′ W′ step → Did (value s room deep at r book) bytes room from r T T′ W′ step
+    value-string i d = done (value-is s room deep at r book h e i) d
+
+    pub value-array : {step : Step} → t ≡ Array → Did (arrayItem s room (nested s room deep) at r book) bytes room from r T T′ W′ step → Did (value s room deep at r book) bytes room from r T T′ W′ step
+    value-array i d = done (value-is s room deep at r book h e i) d
+
+    pub value-struct : {step : Step} → t ≡ Struct → Did (structItem s room (nested s room deep) at r book) bytes room from r T T′ W′ step → Did (value s room deep at r book) bytes room from r T T′ W′ step
+    value-struct i d = done (value-is s room deep at r book h e i) d
+
+-- what may nest: nothing more, or a level less
+nested-none : (s : List ℕ) (room deep : ℕ) → deep ≡ 0 → nested s room deep ≡ floor
+unfolding nested
+nested-none s room deep e = rw e
+
+nested-less : (s : List ℕ) (room deep : ℕ) → (deep ≡ 0 → ⊥) → nested s room deep ≡ under (value s room (deep - 1))
+unfolding nested
+nested-less s room zero n = absurd (n refl)
+nested-less s room (suc deep) n = rw sub-one
+
+module _ (s : List ℕ) (deep at : ℕ) (book : Book) {bytes room from r : ℕ} {T T′ W′ : List ℕ} where
+  pub array-deep : deep ≡ 0 → Did (arrayItem s room (nested s room deep) at r book) bytes room from r T T′ W′ (Refused TooDeep at)
+  array-deep e = did-no (rw (nested-none s room deep e))
+
+  pub struct-deep : deep ≡ 0 → Did (structItem s room (nested s room deep) at r book) bytes room from r T T′ W′ (Refused TooDeep at)
+  struct-deep e = did-no (rw (nested-none s room deep e))
+
+  pub array-less : {step : Step} → (deep ≡ 0 → ⊥) → Did (counted s room 9 (alike (value s room (deep - 1))) at r book) bytes room from r T T′ W′ step → Did (arrayItem s room (nested s room deep) at r book) bytes room from r T T′ W′ step
+  array-less n d = done (rw (nested-less s room deep n)) d
+
+  pub struct-less : {step : Step} → (deep ≡ 0 → ⊥) → Did (counted s room 10 (alike (pair (string s room) (value s room (deep - 1)))) at r book) bytes room from r T T′ W′ step → Did (structItem s room (nested s room deep) at r book) bytes room from r T T′ W′ step
+  struct-less n d = done (rw (nested-less s room deep n)) d
+
+-- the count, as it was read
+pub over-count : (f : List Row → Reader) (k at to : ℕ) (book : Book) {m n : ℕ} {bytes room from r : ℕ} {T T′ W′ : List ℕ} {step : Step} → m ≡ n → Did (over k m r (items f m [] to (r + 1) book)) bytes room from r T T′ W′ step → Did (over k n r (items f n [] to (r + 1) book)) bytes room from r T T′ W′ step
+over-count f k at to book e d = rw (← e) d
+
+pub ruleset values = (opened-full, opened-cut, opened-on, over-closed, over-count, did-ends, at-in, row-in, pair-first, pair-both, value-short, value-unknown, value-plain, value-string, value-array, value-struct, array-deep, struct-deep, array-less, struct-less, turn-again, turn-refused, turn-done, turn-less, ahead-next)
