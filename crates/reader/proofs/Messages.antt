@@ -1,0 +1,107 @@
+-- What answers each return of the functions that read a Call, a Response and a whole message. Assumes nothing.
+use mathlib.Core.Path.{_≡_, refl, ap, _∙_}
+use mathlib.Core.Bool.{Bool, true, false}
+use mathlib.Core.List.{List}
+use Prim.Native.Nat.{ℕ, _+_, _≤_, _<_}
+use native.Mathlib.Omega.{arith}
+use native.Mathlib.Nat.{zero-add}
+use lib.ListN.{length, getD, replicate}
+use borrow.Author.Tests.{lt-ltb, le-ltb, le-leb, lt-leb, eq-eqb, ne-eqb}
+use Rattle.draft.specs.declared.Refusal.{Refusal}
+use Rattle.draft.specs.declared.Refusal.the-variants.{Ended, WrongPrefix, UnexpectedByte, TooLong}
+use Rattle.draft.specs.Codebook.{Book, clear}
+use Rattle.draft.specs.Table.{roomOf}
+use Rattle.draft.specs.Read.{Reading, over, only, opened, value, structItem, nested, callItem, responseItem, callOrResponse, prefix, agree, message, messageWithin}
+use Rattle.codebook.specs.Words.{bookOf}
+use Rattle.codebook.proofs.Recording.{clear-holds}
+use Rattle.item.specs.declared.Place.{Place}
+use Rattle.item.specs.declared.Step.{Step}
+use Rattle.item.specs.declared.Step.the-variants.{Next, Refused}
+use Rattle.item.specs.Contract.{Did}
+use Rattle.item.proofs.Readings.{Got, did-next, did-refused, done, did-no, did-ends, at-in, row-in, opened-full, opened-on, only-short, only-no, only-on, pair-first, pair-both, over-closed}
+use Rattle.reader.specs.declared.Answer.{Answer}
+use Rattle.reader.specs.declared.Answer.the-variants as answer
+use Rattle.reader.specs.Answers.{reading, answerOf, tableOf, Answers}
+
+-- what follows `R`
+module _ (s : List ℕ) (deep at : ℕ) (book : Book) {bytes room from r : ℕ} {T T′ W′ : List ℕ} (h : r < room) (k : at < length s) where
+  pub response-short : length s ≤ at + 1 → Did (responseItem s room deep at r book) bytes room from r T T′ W′ (Refused Ended (at + 1))
+  response-short l = opened-on s 1 at _ h (omega arith) (did-no (simp (le-ltb _ _ l)))
+
+  pub response-fault : {step : Step} → at + 1 < length s → getD s (at + 1) 0 ≡ 70 → Did (over 3 1 r (only s room 83 (structItem s room (nested s room deep)) (at + 2) (r + 1) book)) bytes room from r T T′ W′ step → Did (responseItem s room deep at r book) bytes room from r T T′ W′ step
+  response-fault l e d = opened-on s 1 at _ h (omega arith) (done (simp (lt-ltb _ _ l, eq-eqb _ _ e)) d)
+
+  pub response-value : {step : Step} → at + 1 < length s → (getD s (at + 1) 0 ≡ 70 → ⊥) → Did (over 2 1 r (value s room deep (at + 1) (r + 1) book)) bytes room from r T T′ W′ step → Did (responseItem s room deep at r book) bytes room from r T T′ W′ step
+  response-value l n d = opened-on s 1 at _ h (omega arith) (done (simp (lt-ltb _ _ l, ne-eqb _ _ n)) d)
+
+-- the first item
+module _ (s : List ℕ) (deep at : ℕ) (book : Book) {bytes room from r : ℕ} {T T′ W′ : List ℕ} where
+  pub first-short : length s ≤ at → Did (callOrResponse s room deep at r book) bytes room from r T T′ W′ (Refused Ended at)
+  unfolding callOrResponse
+  first-short h = did-no (simp (le-ltb _ _ h))
+
+  pub first-call : {step : Step} → at < length s → getD s at 0 ≡ 67 → Did (callItem s room deep at r book) bytes room from r T T′ W′ step → Did (callOrResponse s room deep at r book) bytes room from r T T′ W′ step
+  unfolding callOrResponse
+  first-call h e d = done (simp (lt-ltb _ _ h, eq-eqb _ _ e)) d
+
+  module _ (h : at < length s) (n : getD s at 0 ≡ 67 → ⊥) where
+    pub first-response : {step : Step} → getD s at 0 ≡ 82 → Did (responseItem s room deep at r book) bytes room from r T T′ W′ step → Did (callOrResponse s room deep at r book) bytes room from r T T′ W′ step
+    unfolding callOrResponse
+    first-response e d = done (simp (lt-ltb _ _ h, ne-eqb _ _ n, eq-eqb _ _ e)) d
+
+    pub first-neither : (getD s at 0 ≡ 82 → ⊥) → Did (callOrResponse s room deep at r book) bytes room from r T T′ W′ (Refused UnexpectedByte at)
+    unfolding callOrResponse
+    first-neither m = did-no (simp (lt-ltb _ _ h, ne-eqb _ _ n, ne-eqb _ _ m))
+
+pub ahead-next : (n : ℕ) → n + 1 ≤ n + 1 + 1
+ahead-next n = omega arith
+
+pub ahead-two : (n : ℕ) → n + 1 ≤ n + 2 + 1
+ahead-two n = omega arith
+
+pub one-in : {n m : ℕ} → n < m → n + 1 ≤ m
+one-in h = omega arith
+
+pub ruleset messages = (only-short, only-no, only-on, pair-first, pair-both, at-in, row-in, did-ends, opened-full, opened-on, over-closed, response-short, response-fault, response-value, first-short, first-call, first-response, first-neither, ahead-next, ahead-two, one-in)
+
+-- what follows the first bytes, read into zeros with an empty codebook
+module _ (s : List ℕ) (words : ℕ) {room from : ℕ} {T T₁ W W₁ : List ℕ} {step : Step} (f : room ≡ roomOf 4096 words) (w : W ≡ replicate 512 0) (d : Did (callOrResponse s room 32 12 0 (bookOf W)) (length s) room from 0 T T₁ W₁ step) where
+  began : callOrResponse s (roomOf 4096 words) 32 12 0 clear ≡ callOrResponse s room 32 12 0 (bookOf W)
+  began = simp (f, w, clear-holds 512)
+
+  pub body-no : (words₁ : ℕ) {T′ : List ℕ} {m : Refusal} {q : ℕ} → step ≡ Refused m q → T′ ≡ replicate words₁ 0 → words₁ ≡ words → Answers (callOrResponse s (roomOf 4096 words) 32 12 0 clear) words T′ (answer.Refused m q)
+  body-no words₁ e t k = let o = began ∙ did-refused d e in record { says = simp o; leaves = t ∙ simp (o, k) }
+
+  pub body-got : {p : Place} → step ≡ Next p → T ≡ replicate words 0 → Answers (callOrResponse s (roomOf 4096 words) 32 12 0 clear) words T₁ (answer.Accepted (p .row) (p .at))
+  body-got {p} e t = go (did-next d e)
+    where
+      go : Got (callOrResponse s room 32 12 0 (bookOf W)) (length s) room from 0 T T₁ W₁ p → Answers (callOrResponse s (roomOf 4096 words) 32 12 0 clear) words T₁ (answer.Accepted (p .row) (p .at))
+      go g =
+          let o = began ∙ g .reading in
+          let n : p .row ≡ length (g .rows) = g .next ∙ zero-add _ in
+          record { says = simp (o, n); leaves = g .wrote ∙ simp (o, f, t) }
+
+-- the whole message
+module _ (s : List ℕ) (words : ℕ) where
+  pub read-long : {T′ : List ℕ} → T′ ≡ replicate words 0 → 65536 < length s → Answers (reading s words) words T′ (answer.Refused TooLong 0)
+  unfolding reading messageWithin
+  read-long w h = record { says = simp (lt-leb _ _ h); leaves = simp (lt-leb _ _ h, w) }
+
+  module _ {b : Bool} (h : length s ≤ 65536) (a : b ≡ agree s prefix) where
+    pub read-wrong : {T′ : List ℕ} → b ≡ false → T′ ≡ replicate words 0 → Answers (reading s words) words T′ (answer.Refused WrongPrefix 0)
+    unfolding reading messageWithin message
+    read-wrong i w = let e : agree s prefix ≡ false = cc in record { says = simp (le-leb _ _ h, e); leaves = simp (le-leb _ _ h, e, w) }
+
+    module _ (i : b ≡ true) where
+      pub read-short : {T′ : List ℕ} → T′ ≡ replicate words 0 → length s < 12 → Answers (reading s words) words T′ (answer.Refused Ended 0)
+      unfolding reading messageWithin message
+      read-short w l = let e : agree s prefix ≡ true = cc in record { says = simp (le-leb _ _ h, e, lt-leb _ _ l); leaves = simp (le-leb _ _ h, e, lt-leb _ _ l, w) }
+
+      pub read-on : (words₁ : ℕ) {T′ : List ℕ} {r : Answer} → 12 ≤ length s → Answers (callOrResponse s (roomOf 4096 words₁) 32 12 0 clear) words₁ T′ r → words₁ ≡ words → Answers (reading s words) words T′ r
+      unfolding reading messageWithin message
+      read-on words₁ l d k = let e : agree s prefix ≡ true = cc in rw (le-leb _ _ h, e, le-leb _ _ l, ← k) d
+
+pub zeros : (words words₁ : ℕ) {T : List ℕ} → T ≡ replicate words 0 → words₁ ≡ words → T ≡ replicate words₁ 0
+zeros words words₁ e k = rw k e
+
+pub ruleset whole = (body-no, body-got, read-long, read-wrong, read-short, read-on, zeros)

@@ -1,0 +1,17 @@
+use Rattle.reader.proofs.Messages.{whole}
+use borrow.Author.Needs.{needs}
+use Rattle.reader.proofs.read_body.Statement.{statement}
+use Rattle.reader.proofs.read_body.Tie as tie
+
+pub read-body-spec : {M : Type 1} → statement M
+read-body-spec = tie.close (tie.spec
+    (λ c κs. search needs)  -- room-of-requires
+    (λ c. search needs)  -- slice-aggregate-read-call-or-response
+    (λ c κs. search needs)  -- read-call-or-response-requires
+    (λ c. search needs)  -- enum-known-step
+    (λ c κs. search needs)  -- clear-requires
+    (λ c. search needs)  -- enum-known-step-2
+    (λ c. search needs)  -- same-length
+    (λ c. search whole)  -- returns
+    (λ c. search needs)  -- same-length-2
+    (λ c. search whole))  -- returns-2

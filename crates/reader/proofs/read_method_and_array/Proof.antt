@@ -1,0 +1,20 @@
+use Rattle.reader.proofs.Messages.{messages}
+use borrow.Author.Needs.{needs}
+use Rattle.reader.proofs.read_method_and_array.Statement.{statement}
+use Rattle.reader.proofs.read_method_and_array.Tie as tie
+
+read-array-only-requires : tie.Need-read-array-only-requires
+read-array-only-requires c κs = record { fitting = record { within = search messages; fits = search messages; rows = search needs; table = search needs; message = search needs }; book = search needs }
+
+pub read-method-and-array-spec : {M : Type 1} → statement M
+read-method-and-array-spec = tie.close (tie.spec
+    (λ c κs. search needs)  -- read-string-requires
+    (λ c. search needs)  -- enum-known-step
+    (λ c. search needs)  -- enum-known-step-2
+    read-array-only-requires
+    (λ c. search needs)  -- same-length
+    (λ c. search needs)  -- same-length-2
+    (λ c. search messages)  -- returns
+    (λ c. search needs)  -- same-length-3
+    (λ c. search needs)  -- same-length-4
+    (λ c. search messages))  -- returns-2

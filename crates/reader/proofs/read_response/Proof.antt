@@ -1,0 +1,24 @@
+use Rattle.reader.proofs.Messages.{messages}
+use borrow.Author.Needs.{needs}
+use Rattle.reader.proofs.read_response.Statement.{statement}
+use Rattle.reader.proofs.read_response.Tie as tie
+
+pub read-response-spec : {M : Type 1} → statement M
+read-response-spec = tie.close (tie.spec
+    (λ c. search messages)  -- returns
+    (λ c. search needs)  -- add-next
+    (λ c. search messages)  -- returns-2
+    (λ c. search needs)  -- shared-slice-read-if3
+    (λ c. search needs)  -- add-t21
+    (λ c. search needs)  -- add-t22
+    (λ c κs. search needs)  -- read-struct-only-requires
+    (λ c κs. (search messages, search needs, search needs, search needs))  -- close-requires
+    (λ c. search needs)  -- add-t29
+    (λ c κs. search needs)  -- read-value-requires
+    (λ c κs. (search messages, search needs, search needs, search needs))  -- close-requires-2
+    (λ c. search needs)  -- same-length
+    (λ c. search needs)  -- same-length-2
+    (λ c. search messages)  -- returns-3
+    (λ c. search needs)  -- same-length-3
+    (λ c. search needs)  -- same-length-4
+    (λ c. search messages))  -- returns-4

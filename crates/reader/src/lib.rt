@@ -1,0 +1,242 @@
+// Reading a whole message into a lent table of rows.
+use draft::Refusal;
+use item::Place;
+use item::Step;
+ghost use mathlib.Core.Path.{_≡_};
+ghost use Prim.Native.Nat.{_+_, _≤_, _<_};
+ghost use lib.ListN.{length, replicate};
+ghost use Rattle.draft.specs.Read.{pair, string, only, arrayItem, structItem, nested, callItem, responseItem, callOrResponse, prefix, agree};
+ghost use Rattle.draft.specs.Codebook.{clear};
+ghost use Rattle.draft.specs.Table.{roomOf};
+ghost use Rattle.codebook.specs.Words.{bookOf};
+ghost use Rattle.item.specs.Contract.{Ready, Did};
+ghost use Rattle.reader.specs.Answers.{reading, Answers};
+
+// What reading a message answers.
+pub enum Answer {
+    Accepted { rows: usize, used: usize },
+    Refused { refusal: Refusal, place: usize },
+}
+
+// Document 01's limits.
+const MOST_BYTES: usize = 65536;
+
+const MOST_NESTING: usize = 32;
+
+// An Array, where nothing else is allowed.
+fn read_array_only(
+    s: &[u8],
+    p: Place,
+    deep: usize,
+    room: usize,
+    table: &mut [u32],
+    book: &mut [u32],
+) -> Step
+    requires { ⌜ Ready p room (length (now s)) (length (now table)) (length (now book)) ⌝ }
+    ensures { λ r. ⌜ Did (only (now (s .entry)) room 65 (arrayItem (now (s .entry)) room (nested (now (s .entry)) room deep)) (p .at) (p .row) (bookOf (now (book .entry)))) (length (now (s .entry))) room (p .at + 1) (p .row) (now (table .entry)) (now (table .exit)) (now (book .exit)) r ⌝ }
+{
+    let at = p.at;
+    if s.len() <= at {
+        return Step::Refused(Refusal::Ended, at);
+    }
+    if s[at] == b'A' {
+        value::read_array(s, p, deep, room, table, book)
+    } else {
+        Step::Refused(Refusal::UnexpectedByte, at)
+    }
+}
+
+// A Struct, where nothing else is allowed.
+fn read_struct_only(
+    s: &[u8],
+    p: Place,
+    deep: usize,
+    room: usize,
+    table: &mut [u32],
+    book: &mut [u32],
+) -> Step
+    requires { ⌜ Ready p room (length (now s)) (length (now table)) (length (now book)) ⌝ }
+    ensures { λ r. ⌜ Did (only (now (s .entry)) room 83 (structItem (now (s .entry)) room (nested (now (s .entry)) room deep)) (p .at) (p .row) (bookOf (now (book .entry)))) (length (now (s .entry))) room (p .at + 1) (p .row) (now (table .entry)) (now (table .exit)) (now (book .exit)) r ⌝ }
+{
+    let at = p.at;
+    if s.len() <= at {
+        return Step::Refused(Refusal::Ended, at);
+    }
+    if s[at] == b'S' {
+        value::read_struct(s, p, deep, room, table, book)
+    } else {
+        Step::Refused(Refusal::UnexpectedByte, at)
+    }
+}
+
+// A Call's method and its Array.
+fn read_method_and_array(
+    s: &[u8],
+    p: Place,
+    deep: usize,
+    room: usize,
+    table: &mut [u32],
+    book: &mut [u32],
+) -> Step
+    requires { ⌜ Ready p room (length (now s)) (length (now table)) (length (now book)) ⌝ }
+    ensures { λ r. ⌜ Did (pair (string (now (s .entry)) room) (only (now (s .entry)) room 65 (arrayItem (now (s .entry)) room (nested (now (s .entry)) room deep))) (p .at) (p .row) (bookOf (now (book .entry)))) (length (now (s .entry))) room (p .at + 1) (p .row) (now (table .entry)) (now (table .exit)) (now (book .exit)) r ⌝ }
+{
+    let step = item::read_string(s, p, room, table, book);
+    match step {
+        Step::Refused(refusal, place) => Step::Refused(refusal, place),
+        Step::Next(next) => read_array_only(s, next, deep, room, table, book),
+    }
+}
+
+// The Call whose byte stands at p.
+fn read_call(
+    s: &[u8],
+    p: Place,
+    deep: usize,
+    room: usize,
+    table: &mut [u32],
+    book: &mut [u32],
+) -> Step
+    requires { ⌜ (p .at < length (now s)) × Ready p room (length (now s)) (length (now table)) (length (now book)) ⌝ }
+    ensures { λ r. ⌜ Did (callItem (now (s .entry)) room deep (p .at) (p .row) (bookOf (now (book .entry)))) (length (now (s .entry))) room (p .at + 1) (p .row) (now (table .entry)) (now (table .exit)) (now (book .exit)) r ⌝ }
+{
+    let at = p.at;
+    let row = p.row;
+    if room <= row {
+        return Step::Refused(Refusal::NoRow, at);
+    }
+    let first = Place {
+        at: at + 1,
+        row: row + 1,
+    };
+    let step = read_method_and_array(s, first, deep, room, table, book);
+    item::close(step, 1, 2, row, room, table)
+}
+
+// The Response whose byte stands at p: a fault's Struct, or a Value.
+fn read_response(
+    s: &[u8],
+    p: Place,
+    deep: usize,
+    room: usize,
+    table: &mut [u32],
+    book: &mut [u32],
+) -> Step
+    requires { ⌜ (p .at < length (now s)) × Ready p room (length (now s)) (length (now table)) (length (now book)) ⌝ }
+    ensures { λ r. ⌜ Did (responseItem (now (s .entry)) room deep (p .at) (p .row) (bookOf (now (book .entry)))) (length (now (s .entry))) room (p .at + 1) (p .row) (now (table .entry)) (now (table .exit)) (now (book .exit)) r ⌝ }
+{
+    let at = p.at;
+    let row = p.row;
+    if room <= row {
+        return Step::Refused(Refusal::NoRow, at);
+    }
+    let next = at + 1;
+    if s.len() <= next {
+        return Step::Refused(Refusal::Ended, next);
+    }
+    if s[next] == b'F' {
+        let fault = Place {
+            at: at + 2,
+            row: row + 1,
+        };
+        let step = read_struct_only(s, fault, deep, room, table, book);
+        item::close(step, 3, 1, row, room, table)
+    } else {
+        let first = Place {
+            at: next,
+            row: row + 1,
+        };
+        let step = value::read_value(s, first, deep, room, table, book);
+        item::close(step, 2, 1, row, room, table)
+    }
+}
+
+fn read_call_or_response(
+    s: &[u8],
+    p: Place,
+    deep: usize,
+    room: usize,
+    table: &mut [u32],
+    book: &mut [u32],
+) -> Step
+    requires { ⌜ Ready p room (length (now s)) (length (now table)) (length (now book)) ⌝ }
+    ensures { λ r. ⌜ Did (callOrResponse (now (s .entry)) room deep (p .at) (p .row) (bookOf (now (book .entry)))) (length (now (s .entry))) room (p .at + 1) (p .row) (now (table .entry)) (now (table .exit)) (now (book .exit)) r ⌝ }
+{
+    let at = p.at;
+    if s.len() <= at {
+        return Step::Refused(Refusal::Ended, at);
+    }
+    if s[at] == b'C' {
+        return read_call(s, p, deep, room, table, book);
+    }
+    if s[at] == b'R' {
+        return read_response(s, p, deep, room, table, book);
+    }
+    Step::Refused(Refusal::UnexpectedByte, at)
+}
+
+// Whether a message begins as all do, as far as it goes.
+fn agrees(s: &[u8]) -> bool
+    ensures { λ r. ⌜ r ≡ agree (now (s .entry)) prefix ⌝ }
+{
+    let start = b"binmode-rpc:";
+    let mut i = 0;
+    while i < 12 {
+        if s.len() <= i {
+            return true;
+        }
+        if s[i] != start[i] {
+            return false;
+        }
+        i += 1;
+    }
+    true
+}
+
+// What follows the first 12 bytes, into a table of zeros.
+fn read_body(s: &[u8], table: &mut [u32]) -> Answer
+    requires { ⌜ (12 ≤ length (now s)) × (length (now s) ≤ 65536) × (now table ≡ replicate (length (now table)) 0) ⌝ }
+    ensures { λ r. ⌜ Answers (callOrResponse (now (s .entry)) (roomOf 4096 (length (now (table .entry)))) 32 12 0 clear) (length (now (table .entry))) (now (table .exit)) r ⌝ }
+{
+    let room = table::room_of(table.len());
+    let mut book = [0u32; 512];
+    let start = Place { at: 12, row: 0 };
+    let step = read_call_or_response(s, start, MOST_NESTING, room, table, &mut book);
+    match step {
+        Step::Refused(refusal, place) => {
+            table::clear(table);
+            Answer::Refused { refusal, place }
+        }
+        Step::Next(next) => Answer::Accepted {
+            rows: next.row,
+            used: next.at,
+        },
+    }
+}
+
+// Reads a message into a table. Every word of the table is settled: the rows, and zeros behind them; on a refusal, zeros.
+pub fn read(message: &[u8], table: &mut [u32]) -> Answer
+    ensures { λ r. ⌜ Answers (reading (now (message .entry)) (length (now (table .entry)))) (length (now (table .entry))) (now (table .exit)) r ⌝ }
+{
+    table::clear(table);
+    if MOST_BYTES < message.len() {
+        return Answer::Refused {
+            refusal: Refusal::TooLong,
+            place: 0,
+        };
+    }
+    if agrees(message) {
+        if message.len() < 12 {
+            return Answer::Refused {
+                refusal: Refusal::Ended,
+                place: 0,
+            };
+        }
+        read_body(message, table)
+    } else {
+        Answer::Refused {
+            refusal: Refusal::WrongPrefix,
+            place: 0,
+        }
+    }
+}
