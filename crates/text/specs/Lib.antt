@@ -1,2 +1,5 @@
+-- The definitions of `text`.
+pub mod Rfc3629
 pub mod Utf8
+pub mod Classes
 pub mod Texts

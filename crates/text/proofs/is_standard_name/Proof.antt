@@ -1,14 +1,27 @@
-use Rattle.text.specs.Texts.{standardName}
-use mathlib.Core.Path.{refl}
+-- `text::is_standard_name` meets its contract: the nine comparisons are the definition's. Assumes nothing.
+use Rattle.text.proofs.Comparing.{comparing}
+use borrow.Author.Needs.{needs}
 use Rattle.text.proofs.is_standard_name.Statement.{statement}
 use Rattle.text.proofs.is_standard_name.Tie as tie
-use Rattle.text.proofs.is_standard_name.Reads as reads
-use Rattle.text.proofs.is_standard_name.Lts as lts
-
--- src/lib.rt:14:1
-returns : tie.Need-returns
-unfolding standardName
-returns c = refl
 
 pub is-standard-name-spec : {M : Type 1} → statement M
-is-standard-name-spec = tie.close (tie.spec returns)
+is-standard-name-spec = tie.close (tie.spec
+    (λ c. search needs)  -- slice-aggregate-equal
+    (λ c κs. search needs)  -- equal-requires
+    (λ c. search needs)  -- slice-aggregate-equal-2
+    (λ c κs. search needs)  -- equal-requires-2
+    (λ c. search needs)  -- slice-aggregate-equal-3
+    (λ c κs. search needs)  -- equal-requires-3
+    (λ c. search needs)  -- slice-aggregate-equal-4
+    (λ c κs. search needs)  -- equal-requires-4
+    (λ c. search needs)  -- slice-aggregate-equal-5
+    (λ c κs. search needs)  -- equal-requires-5
+    (λ c. search needs)  -- slice-aggregate-equal-6
+    (λ c κs. search needs)  -- equal-requires-6
+    (λ c. search needs)  -- slice-aggregate-equal-7
+    (λ c κs. search needs)  -- equal-requires-7
+    (λ c. search needs)  -- slice-aggregate-equal-8
+    (λ c κs. search needs)  -- equal-requires-8
+    (λ c. search needs)  -- slice-aggregate-equal-9
+    (λ c κs. search needs)  -- equal-requires-9
+    (λ c. search comparing))  -- returns

@@ -1,14 +1,16 @@
-use Rattle.text.specs.Utf8.{wellFormed}
+-- `text::is_utf8` meets its contract: the code's table is the table that the rule fills, entry by entry, which antt computes. Assumes nothing.
 use mathlib.Core.Path.{refl}
+use Rattle.text.specs.Utf8.{within}
+use Rattle.text.specs.Classes.{classBy, classOf, classTable}
+use borrow.Author.Needs.{needs}
 use Rattle.text.proofs.is_utf8.Statement.{statement}
 use Rattle.text.proofs.is_utf8.Tie as tie
-use Rattle.text.proofs.is_utf8.Reads as reads
-use Rattle.text.proofs.is_utf8.Lts as lts
 
--- src/lib.rt:4:1
-returns : tie.Need-returns
-unfolding wellFormed
-returns c = refl
+walk-requires : tie.Need-walk-requires
+unfolding classTable classOf classBy within
+walk-requires c κs = refl
 
 pub is-utf8-spec : {M : Type 1} → statement M
-is-utf8-spec = tie.close (tie.spec returns)
+is-utf8-spec = tie.close (tie.spec
+    walk-requires
+    (λ c. search needs))  -- returns
