@@ -1,0 +1,81 @@
+-- Document 01's messages P1 to P11, read: one table of cases, under a single statement. Assumes nothing.
+use mathlib.Core.Path.{_≡_, refl}
+use mathlib.Core.List.{List, [], _∷_, _++_}
+use Prim.Native.Nat.{ℕ, _-_, _*_}
+use Prim.Native.String.{String}
+use lib.ListN.{length, replicate}
+use Rattle.text.specs.Utf8.{within, dueBy, dueAfter, step, octets, wellFormed}
+use Rattle.text.specs.Texts.{ascii, same, among, standardName}
+use Rattle.draft.specs.declared.Row.{Row}
+use Rattle.draft.specs.Bytes.{bytes}
+use Rattle.draft.specs.Rows.{row}
+use Rattle.draft.specs.Content.{contentRule, verdict, nameRule}
+use Rattle.draft.specs.Codebook.{recorded}
+use Rattle.draft.specs.Table.{place, setRow, putRows}
+use Rattle.draft.specs.Read.{pair, items, alike, tagOf, contents, string, only, name, value, nested, callOrResponse, agree, message, messageWithin}
+use Rattle.reader.specs.Answers.{reading, answerOf, tableOf, Report, reportOf}
+
+-- a message, a table's number of words, and what reading the one into the other gives: the report, and the rows that the table begins with
+pub record Case : Type 0 where
+  pub sent : List ℕ
+  pub words : ℕ
+  pub report : Report
+  pub rows : List Row
+
+abbrev accepted : String → ℕ → ℕ → List Row → Case
+accepted s words used rows = record { sent = bytes s; words = words; report = record { number = 0; rows = length rows; used = used; place = 0 }; rows = rows }
+
+abbrev refused : String → ℕ → ℕ → ℕ → Case
+refused s words number place = record { sent = bytes s; words = words; report = record { number = number; rows = 0; used = 0; place = place }; rows = [] }
+
+-- a character of a text here is the byte of its number, as `\u{FF}`
+pub cases : List Case
+cases =
+    -- P1
+    refused "" 64 1 0
+    -- P2
+    ∷ refused "binmode-rpc2:RI\x04\0\0\0" 64 2 0
+    -- P3
+    ∷ accepted "binmode-rpc:RI\x04\0\0\0" 64 18 (row 2 0 1 2 ∷ row 4 4 0 2 ∷ [])
+    -- P4
+    ∷ accepted "binmode-rpc:CU\x03\0\0\0addA\x02\0\0\0I\x02\0\0\0I\x02\0\0\0" 64 36
+    (row 1 0 2 5 ∷ row 11 18 3 2 ∷ row 9 0 2 5 ∷ row 4 2 0 4 ∷ row 4 2 0 5 ∷ [])
+    -- P5
+    ∷ accepted "binmode-rpc:RA\x06\0\0\0>\0\x03\0\0\0foo>\x01\x03\0\0\0bar<\0>\0\x03\0\0\0baz<\0<\x01" 64 51
+    (row 2 0 1 8 ∷ row 9 0 6 8 ∷ row 11 24 3 3 ∷ row 11 33 3 4 ∷ row 11 24 3 5 ∷ row 11 44 3 6 ∷ row 11 44 3 7 ∷ row 11 33 3 8 ∷ [])
+    -- P6
+    ∷ accepted "binmode-rpc:RA\x02\0\0\0>\0\0\0\0\0<\0" 64 26 (row 2 0 1 4 ∷ row 9 0 2 4 ∷ row 11 24 0 3 ∷ row 11 24 0 4 ∷ [])
+    -- P7
+    ∷ refused "binmode-rpc:R<\x02" 64 6 13
+    -- P8
+    ∷ refused "binmode-rpc:ROU\x06\0\0\0stringB\x03\0\0\0xyz" 64 7 13
+    -- P9
+    ∷ refused "binmode-rpc:RU\x21\0\0\0Copyright \u{A9} 1995 J. Random Hacker" 64 5 13
+    -- P10
+    ∷ refused "binmode-rpc:RU\x21\0\0\0Bad linefeed: \u{C0}\u{8A} (too many bytes)" 64 5 13
+    -- P11
+    ∷ refused "binmode-rpc:RA\u{FF}\u{FF}\u{FF}\u{FF}" 64 1 18
+    ∷ refused "binmode-rpc:RA\u{FF}\u{FF}\u{FF}\u{FF}t" 8 9 18
+    ∷ []
+
+-- a row's four words, one row after the other
+abbrev wordsOf : List Row → List ℕ
+wordsOf [] = []
+wordsOf (x ∷ rows) = x .kind ∷ x .a ∷ x .b ∷ x .end ∷ wordsOf rows
+
+-- the report, and the whole table
+pub data Outcome : Type 0 where
+  outcome : Report → List ℕ → Outcome
+
+abbrev expected : List Case → List Outcome
+expected [] = []
+expected (c ∷ cs) = outcome (c .report) (wordsOf (c .rows) ++ replicate (c .words - 4 * length (c .rows)) 0) ∷ expected cs
+
+abbrev given : List Case → List Outcome
+given [] = []
+given (c ∷ cs) = outcome (reportOf (answerOf (reading (c .sent) (c .words)))) (tableOf (c .words) (reading (c .sent) (c .words))) ∷ given cs
+
+-- THE STATEMENT: reading gives what document 01 says, for each case
+pub cases-read : given cases ≡ expected cases
+unfolding cases reading messageWithin message agree callOrResponse nested value name only string contents tagOf alike items pair putRows setRow place recorded nameRule verdict contentRule standardName among same ascii wellFormed octets step dueAfter dueBy within
+cases-read = refl
