@@ -5,7 +5,7 @@ use reader::Answer;
 ghost use mathlib.Core.Path.{_≡_};
 ghost use Prim.Native.Nat.{_-_, _≤_};
 ghost use lib.ListN.{length};
-ghost use Rattle.reader.specs.Answers.{reading, answerOf};
+ghost use Rattle.reader.specs.Answers.{reading, Answers};
 ghost use Rattle.console.specs.Input.{Advances, Within};
 
 // What one read brought.
@@ -31,11 +31,7 @@ fn read_piece(fd: i32, buffer: &mut [u8], at: usize) -> Piece
         return Piece::Failed;
     }
     let n = io::count(got, &buffer[at..]);
-    if n == 0 {
-        Piece::End
-    } else {
-        Piece::More(n)
-    }
+    if n == 0 { Piece::End } else { Piece::More(n) }
 }
 
 // Reads until the input ends or the buffer is full, whatever pieces come.
@@ -102,7 +98,7 @@ fn put_byte(line: &mut [u8], at: usize, b: u8) -> usize {
     at
 }
 
-fn put_text(line: &mut [u8], at: usize, text: &[u8]) -> usize {
+pub fn put_text(line: &mut [u8], at: usize, text: &[u8]) -> usize {
     let mut end = at;
     let mut i = 0;
     while i < text.len() {
@@ -170,19 +166,18 @@ fn write_rows(table: &[u32], rows: usize) {
     }
 }
 
-// Lists a message, read into a table with room for 4,096 rows: how many rows and bytes used, and a line for each row; or the refusal.
-pub fn list(message: &[u8]) -> Answer
-    ensures { λ r. ⌜ r ≡ answerOf (reading (now (message .entry)) 16384) ⌝ }
+// Reads a message into a table and lists it: how many rows and bytes used, and a line for each row; or the refusal.
+pub fn list(message: &[u8], table: &mut [u32]) -> Answer
+    ensures { λ r. ⌜ Answers (reading (now (message .entry)) (length (now (table .entry)))) (length (now (table .entry))) (now (table .exit)) r ⌝ }
 {
-    let mut table = [0u32; 16384];
-    let answer = reader::read(message, &mut table);
+    let answer = reader::read(message, table);
     match answer {
         Answer::Refused { refusal, place } => {
             write_refusal(draft::number(refusal), place);
         }
         Answer::Accepted { rows, used } => {
             write_pair(b"rows ", rows as u64, b" used ", used as u64);
-            write_rows(&table, rows);
+            write_rows(table, rows);
         }
     }
     answer

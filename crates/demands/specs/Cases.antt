@@ -34,28 +34,28 @@ cases =
     -- P1
     refused "" 64 1 0
     -- P2
-    ∷ refused "binmode-rpc2:RI\x04\0\0\0" 64 2 0
+    ∷ refused "binmode-rpc2:RI\u{4}\0\0\0" 64 2 0
     -- P3
-    ∷ accepted "binmode-rpc:RI\x04\0\0\0" 64 18 (row 2 0 1 2 ∷ row 4 4 0 2 ∷ [])
+    ∷ accepted "binmode-rpc:RI\u{4}\0\0\0" 64 18 (row 2 0 1 2 ∷ row 4 4 0 2 ∷ [])
     -- P4
-    ∷ accepted "binmode-rpc:CU\x03\0\0\0addA\x02\0\0\0I\x02\0\0\0I\x02\0\0\0" 64 36
+    ∷ accepted "binmode-rpc:CU\u{3}\0\0\0addA\u{2}\0\0\0I\u{2}\0\0\0I\u{2}\0\0\0" 64 36
     (row 1 0 2 5 ∷ row 11 18 3 2 ∷ row 9 0 2 5 ∷ row 4 2 0 4 ∷ row 4 2 0 5 ∷ [])
     -- P5
-    ∷ accepted "binmode-rpc:RA\x06\0\0\0>\0\x03\0\0\0foo>\x01\x03\0\0\0bar<\0>\0\x03\0\0\0baz<\0<\x01" 64 51
+    ∷ accepted "binmode-rpc:RA\u{6}\0\0\0>\0\u{3}\0\0\0foo>\u{1}\u{3}\0\0\0bar<\0>\0\u{3}\0\0\0baz<\0<\u{1}" 64 51
     (row 2 0 1 8 ∷ row 9 0 6 8 ∷ row 11 24 3 3 ∷ row 11 33 3 4 ∷ row 11 24 3 5 ∷ row 11 44 3 6 ∷ row 11 44 3 7 ∷ row 11 33 3 8 ∷ [])
     -- P6
-    ∷ accepted "binmode-rpc:RA\x02\0\0\0>\0\0\0\0\0<\0" 64 26 (row 2 0 1 4 ∷ row 9 0 2 4 ∷ row 11 24 0 3 ∷ row 11 24 0 4 ∷ [])
+    ∷ accepted "binmode-rpc:RA\u{2}\0\0\0>\0\0\0\0\0<\0" 64 26 (row 2 0 1 4 ∷ row 9 0 2 4 ∷ row 11 24 0 3 ∷ row 11 24 0 4 ∷ [])
     -- P7
-    ∷ refused "binmode-rpc:R<\x02" 64 6 13
+    ∷ refused "binmode-rpc:R<\u{2}" 64 6 13
     -- P8
-    ∷ refused "binmode-rpc:ROU\x06\0\0\0stringB\x03\0\0\0xyz" 64 7 13
+    ∷ refused "binmode-rpc:ROU\u{6}\0\0\0stringB\u{3}\0\0\0xyz" 64 7 13
     -- P9
-    ∷ refused "binmode-rpc:RU\x21\0\0\0Copyright \u{A9} 1995 J. Random Hacker" 64 5 13
+    ∷ refused "binmode-rpc:RU!\0\0\0Copyright © 1995 J. Random Hacker" 64 5 13
     -- P10
-    ∷ refused "binmode-rpc:RU\x21\0\0\0Bad linefeed: \u{C0}\u{8A} (too many bytes)" 64 5 13
+    ∷ refused "binmode-rpc:RU!\0\0\0Bad linefeed: À\u{8a} (too many bytes)" 64 5 13
     -- P11
-    ∷ refused "binmode-rpc:RA\u{FF}\u{FF}\u{FF}\u{FF}" 64 1 18
-    ∷ refused "binmode-rpc:RA\u{FF}\u{FF}\u{FF}\u{FF}t" 8 9 18
+    ∷ refused "binmode-rpc:RAÿÿÿÿ" 64 1 18
+    ∷ refused "binmode-rpc:RAÿÿÿÿt" 8 9 18
     ∷ []
 
 -- a row's four words, one row after the other

@@ -2,11 +2,11 @@
 use console::Input;
 use libc::STDIN_FILENO;
 
-fn list_input(room: &mut [u8]) {
-    let input = console::read_all(STDIN_FILENO, room);
+fn list_input(message: &mut [u8], table: &mut [u32]) {
+    let input = console::read_all(STDIN_FILENO, message);
     match input {
         Input::Bytes(n) => {
-            console::list(content::part(room, 0, n));
+            console::list(content::part(message, 0, n), table);
         }
         Input::Failed => {
             os::fail(b"standard input");
@@ -14,8 +14,9 @@ fn list_input(room: &mut [u8]) {
     }
 }
 
-// A message over 65,536 bytes is refused, so no more than one byte past that is kept of it.
+// The table has room for 4,096 rows. A message over 65,536 bytes is refused, so no more than one byte past that is kept of it.
 fn main() {
-    let mut room = [0u8; 65537];
-    list_input(&mut room);
+    let mut message = [0u8; 65537];
+    let mut table = [0u32; 16384];
+    list_input(&mut message, &mut table);
 }

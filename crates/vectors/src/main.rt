@@ -1,0 +1,123 @@
+// Reads the messages of document 01 and the examples and counter-examples of the draft (document 002), and lists each.
+
+fn run(name: &[u8], message: &[u8], table: &mut [u32]) {
+    console::write(name);
+    console::write(b"\n");
+    console::list(message, table);
+}
+
+// A Response with so many nested Arrays, the innermost empty.
+fn nest(message: &mut [u8], arrays: usize) -> usize {
+    let mut at = console::put_text(message, 0, b"binmode-rpc:R");
+    let mut i = 1;
+    while i < arrays {
+        at = console::put_text(message, at, b"A\x01\0\0\0");
+        i += 1;
+    }
+    console::put_text(message, at, b"A\0\0\0\0")
+}
+
+fn run_nested(name: &[u8], arrays: usize, message: &mut [u8], table: &mut [u32]) {
+    let n = nest(message, arrays);
+    run(name, content::part(message, 0, n), table);
+}
+
+fn run_examples(table: &mut [u32]) {
+    run(
+        b"002: the add call (P4)",
+        b"binmode-rpc:CU\x03\0\0\0addA\x02\0\0\0I\x02\0\0\0I\x02\0\0\0",
+        table,
+    );
+    run(b"002: its answer (P3)", b"binmode-rpc:RI\x04\0\0\0", table);
+    run(
+        b"002: the fault",
+        b"binmode-rpc:RFS\x02\0\0\0U\x09\0\0\0faultCodeI\x01\0\0\0U\x0b\0\0\0faultStringU\x11\0\0\0An error occurred",
+        table,
+    );
+    run(
+        b"002: foo, bar, foo, baz, baz, bar (P5)",
+        b"binmode-rpc:RA\x06\0\0\0>\x00\x03\0\0\0foo>\x01\x03\0\0\0bar<\x00>\x00\x03\0\0\0baz<\x00<\x01",
+        table,
+    );
+    run(
+        b"002: a copyright sign in UTF-8",
+        b"binmode-rpc:RU\x22\0\0\0Copyright \xc2\xa9 1995 J. Random Hacker",
+        table,
+    );
+}
+
+fn run_mixed_arrays(table: &mut [u32]) {
+    run(
+        b"002: the mixed array, which announces 2 pairs and shows 1",
+        b"binmode-rpc:RA\x08\0\0\0I\x06\0\0\0tfD\x042.758\x1119980717T14:08:55U\x03\0\0\0fooB\x03\0\0\0abcS\x02\0\0\0U\x03\0\0\0runt",
+        table,
+    );
+    run(
+        b"01: the mixed array with the count 1",
+        b"binmode-rpc:RA\x08\0\0\0I\x06\0\0\0tfD\x042.758\x1119980717T14:08:55U\x03\0\0\0fooB\x03\0\0\0abcS\x01\0\0\0U\x03\0\0\0runt",
+        table,
+    );
+}
+
+fn run_counter_examples(table: &mut [u32]) {
+    run(
+        b"002: a different format name (P2)",
+        b"binmode-rpc2:RI\x04\0\0\0",
+        table,
+    );
+    run(
+        b"002: a built-in type in an Other (P8)",
+        b"binmode-rpc:ROU\x06\0\0\0stringB\x03\0\0\0xyz",
+        table,
+    );
+    run(
+        b"002: a recall of an unrecorded string (P7)",
+        b"binmode-rpc:R<\x02",
+        table,
+    );
+    run(
+        b"002: Latin 1 data (P9)",
+        b"binmode-rpc:RU\x21\0\0\0Copyright \xa9 1995 J. Random Hacker",
+        table,
+    );
+    run(
+        b"002: an overlong line feed (P10)",
+        b"binmode-rpc:RU\x21\0\0\0Bad linefeed: \xc0\x8a (too many bytes)",
+        table,
+    );
+}
+
+fn run_others(message: &mut [u8], table: &mut [u32]) {
+    run(b"01: no bytes (P1)", b"", table);
+    run(
+        b"01: an empty text recorded and recalled (P6)",
+        b"binmode-rpc:RA\x02\0\0\0>\x00\0\0\0\0<\x00",
+        table,
+    );
+    run(
+        b"01: a count of 4294967295 and nothing after (P11)",
+        b"binmode-rpc:RA\xff\xff\xff\xff",
+        table,
+    );
+    run_nested(b"01: 32 nested Arrays", 32, message, table);
+    run_nested(b"01: 33 nested Arrays", 33, message, table);
+}
+
+fn run_all(message: &mut [u8], table: &mut [u32], small: &mut [u32]) {
+    run_examples(table);
+    run_mixed_arrays(table);
+    run_counter_examples(table);
+    run_others(message, table);
+    run(
+        b"01: that count and a t, into 8 words (P11)",
+        b"binmode-rpc:RA\xff\xff\xff\xfft",
+        small,
+    );
+}
+
+fn main() {
+    let mut message = [0u8; 256];
+    let mut table = [0u32; 16384];
+    let mut small = [0u32; 8];
+    run_all(&mut message, &mut table, &mut small);
+}
