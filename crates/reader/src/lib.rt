@@ -199,9 +199,10 @@ fn read_body(s: &[u8], table: &mut [u32]) -> Answer
     ensures { λ r. ⌜ Answers (callOrResponse (now (s .entry)) (roomOf 4096 (length (now (table .entry)))) 32 12 0 clear) (length (now (table .entry))) (now (table .exit)) r ⌝ }
 {
     let room = table::room_of(table.len());
-    let mut book = [0u32; 512];
+    let mut words = [0u32; 512];
+    let book: &mut [u32] = &mut words;
     let start = Place { at: 12, row: 0 };
-    let step = read_call_or_response(s, start, MOST_NESTING, room, table, &mut book);
+    let step = read_call_or_response(s, start, MOST_NESTING, room, table, book);
     match step {
         Step::Refused(refusal, place) => {
             table::clear(table);

@@ -81,9 +81,9 @@ fn read_values(
     requires { ⌜ Ready p room (length (now s)) (length (now table)) (length (now book)) ⌝ }
     ensures { λ r. ⌜ Did (items (alike (value (now (s .entry)) room deep)) n [] (p .at) (p .row) (bookOf (now (book .entry)))) (length (now (s .entry))) room (p .at) (p .row) (now (table .entry)) (now (table .exit)) (now (book .exit)) r ⌝ }
 {
-    let mut left = n;
+    let mut values = n;
     let mut here = p;
-    while 0 < left {
+    while 0 < values {
         let step = read_value(s, here, deep, room, table, book);
         match step {
             Step::Refused(refusal, place) => {
@@ -93,7 +93,7 @@ fn read_values(
                 here = next;
             }
         }
-        left -= 1;
+        values -= 1;
     }
     Step::Next(here)
 }
@@ -142,9 +142,9 @@ fn read_pairs(
     requires { ⌜ Ready p room (length (now s)) (length (now table)) (length (now book)) ⌝ }
     ensures { λ r. ⌜ Did (items (alike (pair (string (now (s .entry)) room) (value (now (s .entry)) room deep))) n [] (p .at) (p .row) (bookOf (now (book .entry)))) (length (now (s .entry))) room (p .at) (p .row) (now (table .entry)) (now (table .exit)) (now (book .exit)) r ⌝ }
 {
-    let mut left = n;
+    let mut pairs = n;
     let mut here = p;
-    while 0 < left {
+    while 0 < pairs {
         let step = read_pair(s, here, deep, room, table, book);
         match step {
             Step::Refused(refusal, place) => {
@@ -154,7 +154,7 @@ fn read_pairs(
                 here = next;
             }
         }
-        left -= 1;
+        pairs -= 1;
     }
     Step::Next(here)
 }

@@ -6,7 +6,7 @@ use Rattle.reader.proofs.read_body.Tie as tie
 pub read-body-spec : {M : Type 1} → statement M
 read-body-spec = tie.close (tie.spec
     (λ c κs. search needs)  -- room-of-requires
-    (λ c. search needs)  -- slice-aggregate-read-call-or-response
+    (λ c. search needs)  -- slice-aggregate-book
     (λ c κs. search needs)  -- read-call-or-response-requires
     (λ c. search needs)  -- enum-known-step
     (λ c κs. search needs)  -- clear-requires

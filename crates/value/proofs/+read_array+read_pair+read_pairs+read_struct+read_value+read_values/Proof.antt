@@ -125,18 +125,18 @@ read-pair-read-value-requires : (t : ℕ) → read-pair-lts.Need-read-value-requ
 read-pair-read-value-requires t c κs = (search needs, record { fitting = record { within = search values; fits = search values; rows = search needs; table = search needs; message = search needs }; book = search needs })
 
 abbrev read-pairs-Inv-loop : read-pairs-lts.InvT-loop
-read-pairs-Inv-loop s deep n room table₀ book₀ left₀ here₀ table book left here =
-    Turn (alike (pair (string s room) (value s room deep))) n here₀ (length s) room table₀ book₀ left here table book × (length table ≡ length table₀) × (length book ≡ length book₀)
+read-pairs-Inv-loop s deep n room table₀ book₀ pairs₀ here₀ table book pairs here =
+    Turn (alike (pair (string s room) (value s room deep))) n here₀ (length s) room table₀ book₀ pairs here table book × (length table ≡ length table₀) × (length book ≡ length book₀)
 
 abbrev read-pairs-μ-loop : read-pairs-lts.MeasureT-loop
-read-pairs-μ-loop s deep n room table₀ book₀ left₀ here₀ table book left here = length s - here .at
+read-pairs-μ-loop s deep n room table₀ book₀ pairs₀ here₀ table book pairs here = length s - here .at
 
 abbrev read-values-Inv-loop : read-values-lts.InvT-loop
-read-values-Inv-loop s deep n room table₀ book₀ left₀ here₀ table book left here =
-    Turn (alike (value s room deep)) n here₀ (length s) room table₀ book₀ left here table book × (length table ≡ length table₀) × (length book ≡ length book₀)
+read-values-Inv-loop s deep n room table₀ book₀ values₀ here₀ table book values here =
+    Turn (alike (value s room deep)) n here₀ (length s) room table₀ book₀ values here table book × (length table ≡ length table₀) × (length book ≡ length book₀)
 
 abbrev read-values-μ-loop : read-values-lts.MeasureT-loop
-read-values-μ-loop s deep n room table₀ book₀ left₀ here₀ table book left here = length s - here .at
+read-values-μ-loop s deep n room table₀ book₀ values₀ here₀ table book values here = length s - here .at
 
 pub +read-array+read-pair+read-pairs+read-struct+read-value+read-values-spec :
     {M : Type 1} → statement M
