@@ -5,3 +5,5 @@ pub mod Content
 pub mod Codebook
 pub mod Table
 pub mod Read
+pub mod Grammar
+pub mod Meaning

@@ -1,5 +1,5 @@
 -- Rows in a table of words: where word j of row r stands, one row stored, and several. Assumes nothing.
-use Prim.Native.Nat.{ℕ, suc, _+_, _*_, _/_, min}
+use Prim.Native.Nat.{ℕ, zero, suc, _+_, _*_, _/_, min}
 use mathlib.Core.List.{List, [], _∷_}
 use lib.ListN.{getD, set}
 use Rattle.draft.specs.declared.Row.{Row}
@@ -24,3 +24,8 @@ putRows c T r (x ∷ xs) = setRow c (putRows c T (suc r) xs) r x
 -- row r, fetched
 unfoldable pub rowAt : ℕ → List ℕ → ℕ → Row
 rowAt c T r = row (getD T (place c r 0) 0) (getD T (place c r 1) 0) (getD T (place c r 2) 0) (getD T (place c r 3) 0)
+
+-- the n rows from row r on, fetched
+unfoldable pub rowsAt : ℕ → List ℕ → ℕ → ℕ → List Row
+rowsAt c T r zero = []
+rowsAt c T r (suc n) = rowAt c T r ∷ rowsAt c T (suc r) n

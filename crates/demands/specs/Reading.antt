@@ -1,0 +1,202 @@
+-- Demand 2 for reading: reading accepts exactly what the draft's grammar derives within the limits, and the rows say what was derived.
+-- The grammar and the meaning of rows are crate draft's Grammar and Meaning; the long arguments are in crate exact. Assumes nothing.
+use mathlib.Core.Path.{_≡_, refl, _∙_}
+use mathlib.Core.Bool.{Bool, true, false}
+use mathlib.Core.Logic.{_↔_, _≢_}
+use mathlib.Core.List.{List, _++_}
+use Prim.Native.Nat.{ℕ, _≤_, _<_}
+use native.Mathlib.Omega.{arith}
+use lib.ListN.{length}
+use Rattle.text.specs.Rfc3629.{UTF8-octets}
+use Rattle.text.specs.Utf8.{wellFormed}
+use Rattle.text.proofs.Comparing.{clash}
+use Rattle.text.proofs.Grammar.{accepted, derived}
+use Rattle.draft.specs.declared.Refusal.{Refusal}
+use Rattle.draft.specs.declared.Refusal.the-variants.{Ended, WrongPrefix, UnexpectedByte, BadText, UnsetPosition, StandardName, TooDeep, NoRow, TooLong, NotWritable, FormTooLong, OutputTooShort}
+use Rattle.draft.specs.declared.Verdict.the-variants.{Fine}
+use Rattle.draft.specs.declared.Content.the-variants as content
+use Rattle.draft.specs.declared.Row.{Row}
+use Rattle.draft.specs.Content.{fineIf, contentRule}
+use Rattle.draft.specs.Codebook.{Book}
+use Rattle.draft.specs.Table.{roomOf}
+use Rattle.draft.specs.Read.{Reading, got, refused, message, messageWithin}
+use Rattle.draft.specs.Grammar.{Cell, Keeps, Begins}
+use Rattle.draft.specs.Meaning.{MeanSame, Realises}
+use Rattle.reader.specs.Answers.{reading}
+use Rattle.exact.proofs.Realising.{counts, same-meaning, one-meaning as one-list}
+use Rattle.exact.proofs.Deriving.{sound as derived-from}
+use Rattle.exact.proofs.Growing.{no-longer, longer, message-stays}
+use Rattle.exact.proofs.Concluding.{stays-but, of-reading, reads, begins, begins-once, underived, beyond, within-is, within-got, WithinRefused, of-bytes, of-message, within-refused}
+
+-- an answer accepts s, with that many bytes used and rows of this meaning
+pub record Accepts (answer : Reading) (s : List ℕ) (used : ℕ) (cells : List Cell) : Type 0 where
+  pub rows : List Row
+  pub book : Book
+  pub is : answer ≡ got rows used book
+  pub meaning : Realises s 0 rows cells
+
+-- rows and bytes used are what the draft derives, within the limits
+pub record Derived (most : ℕ) (s : List ℕ) (room deep : ℕ) (rows : List Row) (used : ℕ) : Type 0 where
+  pub cells : List Cell
+  pub begins : Begins s used deep cells
+  pub meaning : Realises s 0 rows cells
+  pub fits : length rows ≤ room
+  pub bytes : length s ≤ most
+
+-- SOUND. If reading accepts with rows and bytes used, the grammar derives exactly the used bytes, with the meaning that the rows and the
+-- message have, within the limits.
+pub sound :
+    (most : ℕ) (s : List ℕ) (room deep : ℕ) {rows : List Row} {used : ℕ} {book : Book} → messageWithin most s room deep ≡ got rows used book
+    → Derived most s room deep rows used
+sound most s room deep e =
+    let f = within-got most s room deep e in
+    let g = derived-from s room deep (f .1) in
+    record { cells = g .cells; begins = begins s room deep g; meaning = g .realises; fits = omega (arith, g .fits); bytes = f .0 }
+
+-- COMPLETE. If the grammar derives a beginning of the message within the limits, reading accepts it with that meaning and that number of bytes
+-- used, whatever follows.
+pub complete :
+    (most : ℕ) (s : List ℕ) (room deep : ℕ) {used nesting : ℕ} {cells : List Cell} → Begins s used nesting cells → length s ≤ most
+    → length cells ≤ room → nesting ≤ deep → Accepts (messageWithin most s room deep) s used cells
+complete most s room deep b h i j =
+    let g = reads s room deep b i j in
+    record { rows = g .rows; book = g .book; is = within-is most s room deep h ∙ g .is; meaning = g .realises }
+
+-- EXACTLY, with document 01's numbers: `reader::read` accepts a message into a table of so many words exactly if the draft derives a beginning
+-- of it within them, and then with that meaning.
+pub exactly :
+    (s : List ℕ) (words used : ℕ) (cells : List Cell)
+    → Accepts (reading s words) s used cells ↔ ((length s ≤ 65536) × (length cells ≤ roomOf 4096 words) × Begins s used 32 cells)
+unfolding reading
+exactly s words used cells = (there, λ h. complete 65536 s (roomOf 4096 words) 32 (h .2) (h .0) (h .1) (omega arith))
+  where
+    there : Accepts (reading s words) s used cells → (length s ≤ 65536) × (length cells ≤ roomOf 4096 words) × Begins s used 32 cells
+    there a =
+        let d = sound 65536 s (roomOf 4096 words) 32 (a .is) in
+        let e : d .cells ≡ cells = one-list (d .meaning) (a .meaning) in
+        (d .bytes, omega (arith, counts (a .meaning), d .fits), rw e at (d .begins))
+
+-- NESTING is spoken of by a bound: what nests to a depth of at most d nests to at most any greater one.
+pub nesting-bound : {s : List ℕ} {used d e : ℕ} {cells : List Cell} → Begins s used d cells → d ≤ e → Begins s used e cells
+nesting-bound {s} {used} {d} {e} {cells} b h =
+    let g = reads s (length cells) e b (omega arith) h in
+    let k = derived-from s (length cells) e (g .is) in
+    let i : k .cells ≡ cells = one-list (k .realises) (g .realises) in
+    rw i at (begins s (length cells) e k)
+
+-- ONE MEANING. Two derivations of beginnings of one message have the same length and the same meaning.
+pub one-meaning :
+    {s : List ℕ} {used used′ nesting nesting′ : ℕ} {cells cells′ : List Cell} → Begins s used nesting cells → Begins s used′ nesting′ cells′
+    → (used ≡ used′) × (cells ≡ cells′)
+one-meaning {s} b c = begins-once s b c
+
+-- no beginning of s is derived at all
+abbrev pub Underived : List ℕ → Type 0
+Underived s = (used nesting : ℕ) (cells : List Cell) → Begins s used nesting cells → ⊥
+
+-- a derivation of a beginning of s, if there is one, nests deeper or has more rows than allowed
+abbrev pub Beyond : List ℕ → ℕ → ℕ → Type 0
+Beyond s room deep = (used nesting : ℕ) (cells : List Cell) → Begins s used nesting cells → nesting ≤ deep → room < length cells
+
+-- what a refusal says of a message; the last three are the writer's alone
+abbrev pub Meant : Refusal → ℕ → List ℕ → ℕ → ℕ → Type 0
+Meant Ended most s room deep = Underived s
+Meant WrongPrefix most s room deep = Underived s
+Meant UnexpectedByte most s room deep = Underived s
+Meant BadText most s room deep = Underived s
+Meant UnsetPosition most s room deep = Underived s
+Meant StandardName most s room deep = Underived s
+Meant TooDeep most s room deep = Beyond s room deep
+Meant NoRow most s room deep = Beyond s room deep
+Meant TooLong most s room deep = most < length s
+Meant NotWritable most s room deep = ⊥
+Meant FormTooLong most s room deep = ⊥
+Meant OutputTooShort most s room deep = ⊥
+
+-- REFUSALS SPEAK THE TRUTH. 1, 2, 3, 5, 6 and 7 mean that no beginning of the message is derived at all, 8 and 9 that a derivation, if there is
+-- one, is beyond the limits, and 10 only that there are too many bytes.
+pub refusals-true :
+    (most : ℕ) (s : List ℕ) (room deep : ℕ) {m : Refusal} {at : ℕ} → messageWithin most s room deep ≡ refused m at → Meant m most s room deep
+refusals-true most s room deep {m} {at} e = go m (within-refused most s room deep e)
+  where
+    by : (m : Refusal) → message s room deep ≡ refused m at → Meant m most s room deep
+    by Ended e = λ used nesting cells b. underived s room deep e (omega arith) (omega arith) b
+    by WrongPrefix e = λ used nesting cells b. underived s room deep e (omega arith) (omega arith) b
+    by UnexpectedByte e = λ used nesting cells b. underived s room deep e (omega arith) (omega arith) b
+    by BadText e = λ used nesting cells b. underived s room deep e (omega arith) (omega arith) b
+    by UnsetPosition e = λ used nesting cells b. underived s room deep e (omega arith) (omega arith) b
+    by StandardName e = λ used nesting cells b. underived s room deep e (omega arith) (omega arith) b
+    by TooDeep e = λ used nesting cells b h. beyond s room deep e b h
+    by NoRow e = λ used nesting cells b h. beyond s room deep e b h
+    by TooLong e = absurd (of-reading s room deep e)
+    by NotWritable e = of-reading s room deep e
+    by FormTooLong e = of-reading s room deep e
+    by OutputTooShort e = of-reading s room deep e
+
+    go : (m : Refusal) → WithinRefused most s room deep m at → Meant m most s room deep
+    go m (of-message e) = by m e
+    go m (of-bytes h e) = rw e h
+
+-- PUT ASIDE. With 8, 9 and 10 put aside, that is for some rows and nesting and with no test of the number of bytes, reading accepts exactly the
+-- messages of which a beginning is derived; and with exactly the meaning and the bytes used that are derived.
+pub put-aside :
+    (s : List ℕ) (used : ℕ)
+    → ((room : ℕ) × (deep : ℕ) × (rows : List Row) × (book : Book) × (message s room deep ≡ got rows used book))
+    ↔ ((nesting : ℕ) × (cells : List Cell) × Begins s used nesting cells)
+put-aside s used = (there, back)
+  where
+    there :
+        ((room : ℕ) × (deep : ℕ) × (rows : List Row) × (book : Book) × (message s room deep ≡ got rows used book))
+        → (nesting : ℕ) × (cells : List Cell) × Begins s used nesting cells
+    there (room, deep, rows, book, e) = let g = derived-from s room deep e in (deep, g .cells, begins s room deep g)
+
+    back :
+        ((nesting : ℕ) × (cells : List Cell) × Begins s used nesting cells)
+        → (room : ℕ) × (deep : ℕ) × (rows : List Row) × (book : Book) × (message s room deep ≡ got rows used book)
+    back (nesting, cells, b) =
+        let g = reads s (length cells) nesting b (omega arith) (omega arith) in
+        (length cells, nesting, g .rows, g .book, g .is)
+
+pub put-aside-meaning :
+    (s : List ℕ) (used : ℕ) (cells : List Cell)
+    → ((room : ℕ) × (deep : ℕ) × Accepts (message s room deep) s used cells) ↔ ((nesting : ℕ) × Begins s used nesting cells)
+put-aside-meaning s used cells = (there, back)
+  where
+    there : ((room : ℕ) × (deep : ℕ) × Accepts (message s room deep) s used cells) → (nesting : ℕ) × Begins s used nesting cells
+    there (room, deep, a) =
+        let g = derived-from s room deep (a .is) in
+        let e : g .cells ≡ cells = one-list (g .realises) (a .meaning) in
+        (deep, rw e at (begins s room deep g))
+
+    back : ((nesting : ℕ) × Begins s used nesting cells) → (room : ℕ) × (deep : ℕ) × Accepts (message s room deep) s used cells
+    back (nesting, b) =
+        let g = reads s (length cells) nesting b (omega arith) (omega arith) in
+        (length cells, nesting, record { rows = g .rows; book = g .book; is = g .is; meaning = g .realises })
+
+-- GROWTH of the limits. With no less room and no less nesting, an answer other than 8 and 9 stays, with its place, rows and bytes used.
+pub growth-of-limits :
+    (s : List ℕ) {room room′ deep deep′ : ℕ} → room ≤ room′ → deep ≤ deep′ → ((at : ℕ) → message s room deep ≢ refused TooDeep at)
+    → ((at : ℕ) → message s room deep ≢ refused NoRow at) → message s room′ deep′ ≡ message s room deep
+growth-of-limits s {room} {room′} {deep} {deep′} h k f g =
+    stays-but (message-stays s s room room′ (no-longer s) h deep deep′ k) (λ i. clash i refl) f g
+
+-- GROWTH of the message. For a longer message that begins with this one, an answer other than 1, 8 and 9 stays so.
+pub growth-of-message :
+    (s more : List ℕ) {room room′ deep deep′ : ℕ} → room ≤ room′ → deep ≤ deep′ → ((at : ℕ) → message s room deep ≢ refused Ended at)
+    → ((at : ℕ) → message s room deep ≢ refused TooDeep at) → ((at : ℕ) → message s room deep ≢ refused NoRow at)
+    → message (s ++ more) room′ deep′ ≡ message s room deep
+growth-of-message s more {room} {room′} {deep} {deep′} h k e f g =
+    stays-but (message-stays s (s ++ more) room room′ (longer s more) h deep deep′ k) (λ i. e) f g
+
+-- MEANING. Tables that realise cells mean the same, in document 01's words, exactly if the cells are equal.
+pub mean-same : {s t : List ℕ} {xs ys : List Row} {cs ds : List Cell} → Realises s 0 xs cs → Realises t 0 ys ds → MeanSame s t xs ys ↔ (cs ≡ ds)
+mean-same a b = same-meaning a b
+
+-- UTF-8. What the grammar asks of a text is RFC 3629's syntax of UTF-8.
+pub text-is-utf8 : (t : List ℕ) → Keeps content.Text t ↔ UTF8-octets t
+unfolding contentRule
+text-is-utf8 t = (λ h. derived t (fine (wellFormed t) h), λ h. rw (accepted h))
+  where
+    fine : (b : Bool) → fineIf b BadText ≡ Fine → b ≡ true
+    fine true h = refl
+    fine false h = let z : _≡_ {A = ℕ} 0 1 = cc in absurd (omega arith)

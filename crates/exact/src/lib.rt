@@ -1,0 +1,1 @@
+// That reading is the draft's grammar, proved in proofs/: no function.
