@@ -57,12 +57,13 @@ pub fn read_array(
     if room <= row {
         return Step::Refused(Refusal::NoRow, at);
     }
-    if s.len() < at + 5 {
+    let values_at = at + 5;
+    if s.len() < values_at {
         return Step::Refused(Refusal::Ended, at);
     }
     let n = item::unsigned(s, at + 1);
     let first = Place {
-        at: at + 5,
+        at: values_at,
         row: row + 1,
     };
     let step = read_values(s, first, deep - 1, n, room, table, book);
@@ -118,12 +119,13 @@ pub fn read_struct(
     if room <= row {
         return Step::Refused(Refusal::NoRow, at);
     }
-    if s.len() < at + 5 {
+    let pairs_at = at + 5;
+    if s.len() < pairs_at {
         return Step::Refused(Refusal::Ended, at);
     }
     let n = item::unsigned(s, at + 1);
     let first = Place {
-        at: at + 5,
+        at: pairs_at,
         row: row + 1,
     };
     let step = read_pairs(s, first, deep - 1, n, room, table, book);

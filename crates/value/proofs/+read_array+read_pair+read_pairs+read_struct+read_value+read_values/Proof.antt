@@ -153,12 +153,11 @@ pub +read-array+read-pair+read-pairs+read-struct+read-value+read-values-spec :
     read-array.Post
     (λ c. search values)  -- read-array-returns
     (λ c. search values)  -- read-array-returns-2
-    (λ c. search needs)  -- read-array-add-if3
+    (λ c. search needs)  -- read-array-add-values-at
     (λ c. search values)  -- read-array-returns-3
     (λ c. search needs)  -- read-array-add-unsigned
     (λ c κs. search needs)  -- read-array-unsigned-requires
     (λ c. search needs)  -- read-array-add-read-values
-    (λ c. search needs)  -- read-array-add-t15
     (λ c. search needs)  -- read-array-sub-read-values
     (λ c κs. search needs)  -- read-array-read-values-requires
     (λ c. search needs)  -- read-array-cast-close
@@ -192,7 +191,7 @@ pub +read-array+read-pair+read-pairs+read-struct+read-value+read-values-spec :
     (λ c. search needs)  -- read-pairs-same-length-2
     (λ c. search values)  -- read-pairs-returns
     (λ c. search needs)  -- read-pairs-enum-known-step-2
-    (λ c. search needs)  -- read-pairs-sub-left
+    (λ c. search needs)  -- read-pairs-sub-pairs
     (λ c. search values)  -- read-pairs-loop-less
     (λ c. (search values, search needs, search needs))  -- read-pairs-loop-again
     (λ c. search needs)  -- read-pairs-same-length-3
@@ -203,12 +202,11 @@ pub +read-array+read-pair+read-pairs+read-struct+read-value+read-values-spec :
     read-struct.Post
     (λ c. search values)  -- read-struct-returns
     (λ c. search values)  -- read-struct-returns-2
-    (λ c. search needs)  -- read-struct-add-if3
+    (λ c. search needs)  -- read-struct-add-pairs-at
     (λ c. search values)  -- read-struct-returns-3
     (λ c. search needs)  -- read-struct-add-unsigned
     (λ c κs. search needs)  -- read-struct-unsigned-requires
     (λ c. search needs)  -- read-struct-add-read-pairs
-    (λ c. search needs)  -- read-struct-add-t15
     (λ c. search needs)  -- read-struct-sub-read-pairs
     (λ c κs. search needs)  -- read-struct-read-pairs-requires
     (λ c. search needs)  -- read-struct-cast-close
@@ -257,7 +255,7 @@ pub +read-array+read-pair+read-pairs+read-struct+read-value+read-values-spec :
     (λ c. search needs)  -- read-values-same-length-2
     (λ c. search values)  -- read-values-returns
     (λ c. search needs)  -- read-values-enum-known-step-2
-    (λ c. search needs)  -- read-values-sub-left
+    (λ c. search needs)  -- read-values-sub-values
     (λ c. search values)  -- read-values-loop-less
     (λ c. (search values, search needs, search needs))  -- read-values-loop-again
     (λ c. search needs)  -- read-values-same-length-3
