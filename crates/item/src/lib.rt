@@ -274,7 +274,7 @@ fn read_binary(s: &[u8], p: Place, room: usize, table: &mut [u32]) -> Step
 }
 
 // The text of row r, or as much of it as lies in the message.
-pub fn row_text<'a>(s: &'a [u8], table: &[u32], room: usize, r: usize) -> &'a [u8]
+fn row_text<'a>(s: &'a [u8], table: &[u32], room: usize, r: usize) -> &'a [u8]
     requires { ⌜ (r < room) × (room ≤ 4096) × (room * 4 ≤ length (now table)) ⌝ }
     ensures { λ t. ⌜ now t ≡ textOf (now (s .entry)) (rowAt room (now (table .entry)) r) ⌝ }
 {
