@@ -28,7 +28,7 @@ accepted s words used rows = record { sent = bytes s; words = words; report = re
 abbrev refused : String → ℕ → ℕ → ℕ → Case
 refused s words number place = record { sent = bytes s; words = words; report = record { number = number; rows = 0; used = 0; place = place }; rows = [] }
 
--- a character of a text here is the byte of its number, as `\u{FF}`
+-- each character of a text here stands for the byte of its number: `©` for 169, `ÿ` for 255
 pub cases : List Case
 cases =
     -- P1
