@@ -1,4 +1,4 @@
--- Document 01's messages P1 to P11, read: one table of cases, under a single statement. Assumes nothing.
+-- Document 01's messages P1 to P11, read and written again: one table of cases, under a single statement. Assumes nothing.
 use mathlib.Core.Path.{_≡_, refl}
 use mathlib.Core.List.{List, [], _∷_, _++_}
 use Prim.Native.Nat.{ℕ, _-_, _*_}
@@ -8,25 +8,43 @@ use Rattle.text.specs.Utf8.{within, dueBy, dueAfter, step, octets, wellFormed}
 use Rattle.text.specs.Texts.{ascii, same, among, standardName}
 use Rattle.draft.specs.declared.Row.{Row}
 use Rattle.draft.specs.Bytes.{bytes}
-use Rattle.draft.specs.Rows.{row}
+use Rattle.draft.specs.Rows.{row, itemOf}
 use Rattle.draft.specs.Content.{contentRule, verdict, nameRule}
 use Rattle.draft.specs.Codebook.{recorded}
-use Rattle.draft.specs.Table.{place, setRow, putRows}
-use Rattle.draft.specs.Read.{pair, items, alike, tagOf, contents, string, only, name, value, nested, callOrResponse, agree, message, messageWithin}
+use Rattle.draft.specs.Table.{place, setRow, putRows, rowAt, from}
+use Rattle.draft.specs.Read.{Reading, got, refused as unread, pair, items, alike, tagOf, contents, string, only, name, value, nested, callOrResponse, agree, message, messageWithin}
+use Rattle.draft.specs.Strings.{textsOf, repeats, position, sents}
+use Rattle.draft.specs.Written.{lsb, counted, stringBytes, itemBytes, itemsOf, messageOf, written, rowsOf}
 use Rattle.reader.specs.Answers.{reading, answerOf, tableOf, Report, reportOf}
 
--- a message, a table's number of words, and what reading the one into the other gives: the report, and the rows that the table begins with
+-- a message, a table's number of words, and what reading the one into the other gives: the report, and the rows that the table begins with;
+-- and the written form of that table with the message as text bytes, if it was accepted, with its length
 pub record Case : Type 0 where
   pub sent : List ℕ
   pub words : ℕ
   pub report : Report
   pub rows : List Row
+  pub again : List ℕ
+  pub long : ℕ
 
+abbrev rewritten : String → ℕ → ℕ → List Row → String → ℕ → Case
+rewritten s words used rows again long =
+    record {
+      sent = bytes s;
+      words = words;
+      report = record { number = 0; rows = length rows; used = used; place = 0 };
+      rows = rows;
+      again = bytes again;
+      long = long;
+    }
+
+-- one that is its own written form
 abbrev accepted : String → ℕ → ℕ → List Row → Case
-accepted s words used rows = record { sent = bytes s; words = words; report = record { number = 0; rows = length rows; used = used; place = 0 }; rows = rows }
+accepted s words used rows = rewritten s words used rows s used
 
 abbrev refused : String → ℕ → ℕ → ℕ → Case
-refused s words number place = record { sent = bytes s; words = words; report = record { number = number; rows = 0; used = 0; place = place }; rows = [] }
+refused s words number place =
+    record { sent = bytes s; words = words; report = record { number = number; rows = 0; used = 0; place = place }; rows = []; again = []; long = 0 }
 
 -- each character of a text here stands for the byte of its number: `©` for 169, `ÿ` for 255
 pub cases : List Case
@@ -40,9 +58,10 @@ cases =
     -- P4
     ∷ accepted "binmode-rpc:CU\u{3}\0\0\0addA\u{2}\0\0\0I\u{2}\0\0\0I\u{2}\0\0\0" 64 36
     (row 1 0 2 5 ∷ row 11 18 3 2 ∷ row 9 0 2 5 ∷ row 4 2 0 4 ∷ row 4 2 0 5 ∷ [])
-    -- P5
-    ∷ accepted "binmode-rpc:RA\u{6}\0\0\0>\0\u{3}\0\0\0foo>\u{1}\u{3}\0\0\0bar<\0>\0\u{3}\0\0\0baz<\0<\u{1}" 64 51
+    -- P5: written again it is 51 bytes too, baz at position 2
+    ∷ rewritten "binmode-rpc:RA\u{6}\0\0\0>\0\u{3}\0\0\0foo>\u{1}\u{3}\0\0\0bar<\0>\0\u{3}\0\0\0baz<\0<\u{1}" 64 51
     (row 2 0 1 8 ∷ row 9 0 6 8 ∷ row 11 24 3 3 ∷ row 11 33 3 4 ∷ row 11 24 3 5 ∷ row 11 44 3 6 ∷ row 11 44 3 7 ∷ row 11 33 3 8 ∷ [])
+    "binmode-rpc:RA\u{6}\0\0\0>\0\u{3}\0\0\0foo>\u{1}\u{3}\0\0\0bar<\0>\u{2}\u{3}\0\0\0baz<\u{2}<\u{1}" 51
     -- P6
     ∷ accepted "binmode-rpc:RA\u{2}\0\0\0>\0\0\0\0\0<\0" 64 26 (row 2 0 1 4 ∷ row 9 0 2 4 ∷ row 11 24 0 3 ∷ row 11 24 0 4 ∷ [])
     -- P7
@@ -63,19 +82,27 @@ abbrev wordsOf : List Row → List ℕ
 wordsOf [] = []
 wordsOf (x ∷ rows) = x .kind ∷ x .a ∷ x .b ∷ x .end ∷ wordsOf rows
 
--- the report, and the whole table
+-- the written form of the table after a reading of s, if it was accepted
+abbrev writtenAgain : List ℕ → ℕ → Reading → List ℕ
+writtenAgain s words (got rows used book) = written s (rowsOf 4096 (tableOf words (got rows used book)) (length rows))
+writtenAgain s words (unread refusal place) = []
+
+-- the report, the whole table, and the written form with its length
 pub data Outcome : Type 0 where
-  outcome : Report → List ℕ → Outcome
+  outcome : Report → List ℕ → List ℕ → ℕ → Outcome
 
 abbrev expected : List Case → List Outcome
 expected [] = []
-expected (c ∷ cs) = outcome (c .report) (wordsOf (c .rows) ++ replicate (c .words - 4 * length (c .rows)) 0) ∷ expected cs
+expected (c ∷ cs) = outcome (c .report) (wordsOf (c .rows) ++ replicate (c .words - 4 * length (c .rows)) 0) (c .again) (c .long) ∷ expected cs
+
+abbrev outcomeOf : List ℕ → ℕ → Reading → Outcome
+outcomeOf s words o = outcome (reportOf (answerOf o)) (tableOf words o) (writtenAgain s words o) (length (writtenAgain s words o))
 
 abbrev given : List Case → List Outcome
 given [] = []
-given (c ∷ cs) = outcome (reportOf (answerOf (reading (c .sent) (c .words)))) (tableOf (c .words) (reading (c .sent) (c .words))) ∷ given cs
+given (c ∷ cs) = outcomeOf (c .sent) (c .words) (reading (c .sent) (c .words)) ∷ given cs
 
--- THE STATEMENT: reading gives what document 01 says, for each case
+-- THE STATEMENT: reading and the written form give what document 01 says, for each case
 pub cases-read : given cases ≡ expected cases
-unfolding cases reading messageWithin message agree callOrResponse nested value name only string contents tagOf alike items pair putRows setRow place recorded nameRule verdict contentRule standardName among same ascii wellFormed octets step dueAfter dueBy within
+unfolding cases reading messageWithin message agree callOrResponse nested value name only string contents tagOf alike items pair putRows setRow place recorded nameRule verdict contentRule standardName among same ascii wellFormed octets step dueAfter dueBy within rowAt from rowsOf itemOf textsOf repeats position sents lsb counted stringBytes itemBytes itemsOf messageOf written
 cases-read = refl

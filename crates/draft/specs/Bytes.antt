@@ -1,5 +1,5 @@
--- Bytes of a message: an ASCII text's, one, four as a number, and a part. Assumes nothing.
-use Prim.Native.Nat.{ℕ, _+_, _*_}
+-- Bytes of a message: an ASCII text's, one, four as a number, and a part; and that they are bytes. Assumes nothing.
+use Prim.Native.Nat.{ℕ, _+_, _*_, _<_}
 use Prim.Native.Char.{code}
 use Prim.Native.String.{String, [] as empty, _∷_ as first}
 use mathlib.Core.List.{List, [], _∷_}
@@ -21,3 +21,8 @@ unsignedAt s i = byteAt s i + 256 * (byteAt s (i + 1) + 256 * (byteAt s (i + 2) 
 -- the n bytes at o
 abbrev pub part : List ℕ → ℕ → ℕ → List ℕ
 part s o n = take n (drop o s)
+
+-- numbers that are each below n: 256 for bytes, 4,294,967,296 for a table's words
+pub data Below (n : ℕ) : List ℕ → Type 0 where
+  none-below : Below n []
+  and-below : {x : ℕ} {xs : List ℕ} → x < n → Below n xs → Below n (x ∷ xs)

@@ -7,3 +7,6 @@ pub mod Table
 pub mod Read
 pub mod Grammar
 pub mod Meaning
+pub mod Writable
+pub mod Strings
+pub mod Written

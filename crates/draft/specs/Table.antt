@@ -1,4 +1,4 @@
--- Rows in a table of words: where word j of row r stands, one row stored, and several. Assumes nothing.
+-- Rows in a table of words: where word j of row r stands, rows stored, and rows fetched. Assumes nothing.
 use Prim.Native.Nat.{ℕ, zero, suc, _+_, _*_, _/_, min}
 use mathlib.Core.List.{List, [], _∷_}
 use lib.ListN.{getD, set}
@@ -25,7 +25,11 @@ putRows c T r (x ∷ xs) = setRow c (putRows c T (suc r) xs) r x
 unfoldable pub rowAt : ℕ → List ℕ → ℕ → Row
 rowAt c T r = row (getD T (place c r 0) 0) (getD T (place c r 1) 0) (getD T (place c r 2) 0) (getD T (place c r 3) 0)
 
+-- what f gives for n numbers from r on
+unfoldable pub from : {A : Type 0} → (ℕ → A) → ℕ → ℕ → List A
+from f r zero = []
+from f r (suc n) = f r ∷ from f (suc r) n
+
 -- the n rows from row r on, fetched
-unfoldable pub rowsAt : ℕ → List ℕ → ℕ → ℕ → List Row
-rowsAt c T r zero = []
-rowsAt c T r (suc n) = rowAt c T r ∷ rowsAt c T (suc r) n
+abbrev pub rowsAt : ℕ → List ℕ → ℕ → ℕ → List Row
+rowsAt c T r n = from (rowAt c T) r n

@@ -1,7 +1,7 @@
 // The declared types that the definitions in specs/ cite.
 ghost use mathlib.Core.Path.{_≡_};
 ghost use Rattle.draft.specs.Refusals.{numberOf};
-ghost use Rattle.draft.specs.Rows.{kindOf};
+ghost use Rattle.draft.specs.Rows.{kindOf, itemOf};
 
 // Why a message or a table is refused, in the order of document 01's numbers.
 pub enum Refusal {
@@ -74,6 +74,26 @@ pub struct Row {
     pub end: u32,
 }
 
+// The item that a row's kind names, if any.
+pub enum Item {
+    Call,
+    Response,
+    Fault,
+    Integer,
+    Boolean,
+    Content(Content),
+    Array,
+    Struct,
+    Other,
+    Unknown,
+}
+
+// Which rows of a table are an item's: those until a row, or that they are no such item's.
+pub enum Extent {
+    Until(usize),
+    Unfit,
+}
+
 // Document 01's number of a refusal.
 pub fn number(refusal: Refusal) -> u8
     ensures { λ n. ⌜ n ≡ numberOf refusal ⌝ }
@@ -103,5 +123,26 @@ pub fn kind(content: Content) -> u32
         Content::DateTime => 7,
         Content::Binary => 8,
         Content::Text => 11,
+    }
+}
+
+// The item that a row's kind names, if any.
+pub fn item_of(kind: u32) -> Item
+    ensures { λ r. ⌜ r ≡ itemOf kind ⌝ }
+{
+    match kind {
+        1 => Item::Call,
+        2 => Item::Response,
+        3 => Item::Fault,
+        4 => Item::Integer,
+        5 => Item::Boolean,
+        6 => Item::Content(Content::Double),
+        7 => Item::Content(Content::DateTime),
+        8 => Item::Content(Content::Binary),
+        9 => Item::Array,
+        10 => Item::Struct,
+        11 => Item::Content(Content::Text),
+        12 => Item::Other,
+        _ => Item::Unknown,
     }
 }

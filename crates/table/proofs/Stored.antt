@@ -7,7 +7,7 @@ use lib.Dec.{lit<}
 use lib.Seq.{getD-set-same, getD-set-other}
 use lib.ListN.{length, getD, set, length-set}
 use Rattle.draft.specs.declared.Row.{Row}
-use Rattle.draft.specs.Table.{place, setRow, putRows, rowAt, rowsAt}
+use Rattle.draft.specs.Table.{place, setRow, putRows, rowAt, from, rowsAt}
 use Rattle.table.proofs.Rows.{place-in, place-one, length-putRows}
 
 -- the words of a row that was stored
@@ -73,14 +73,14 @@ row-other c T r q x h k n = rw (word 0 (lit< tt), word 1 (lit< tt), word 2 (lit<
     word j l = word-other c T r x (place c q j) (λ i m e. n (place-one c q r j i k h l m e .0))
 
 rows-other : (c : ℕ) (T : List ℕ) (r q n : ℕ) (x : Row) → r < q → q + n ≤ c → rowsAt c (setRow c T r x) q n ≡ rowsAt c T q n
-unfolding rowsAt
+unfolding from
 rows-other c T r q zero x h k = refl
 rows-other c T r q (suc n) x h k =
     rw (row-other c T r q x (omega arith) (omega arith) (λ e. omega arith), rows-other c T r (suc q) n x (omega arith) (omega arith))
 
 -- the rows that were stored
 pub rows-there : (c : ℕ) (T : List ℕ) (r : ℕ) (xs : List Row) → r + length xs ≤ c → c * 4 ≤ length T → rowsAt c (putRows c T r xs) r (length xs) ≡ xs
-unfolding putRows rowsAt
+unfolding putRows from
 rows-there c T r [] h m = refl
 rows-there c T r (x ∷ xs) h m =
     rw (stored-row c (putRows c T (suc r) xs) r x (omega arith) (omega (arith, length-putRows c T (suc r) xs)), rows-other c (putRows c T (suc r) xs) r (suc r) (length xs) x (omega arith) (omega arith), rows-there c T (suc r) xs (omega arith) m)

@@ -1,0 +1,194 @@
+-- Writable tables, by document 01's rules: where the rows of an item end that begins at row r, if they are such an item's rows.
+-- Every word of every row is judged. Limits are parameters. Assumes nothing.
+use Prim.Native.Nat.{ℕ, zero, suc, _+_, _*_}
+use mathlib.Core.Bool.{Bool, true, false, _&&_}
+use mathlib.Core.List.{List}
+use lib.ListN.{length}
+use lib.Dec.{ltb, leb, eqb}
+use Rattle.draft.specs.declared.Verdict.{Verdict}
+use Rattle.draft.specs.declared.Verdict.the-variants.{Fine, Bad}
+use Rattle.draft.specs.declared.Content.{Content as ContentOf}
+use Rattle.draft.specs.declared.Content.the-variants.{Double, DateTime, Binary, Text}
+use Rattle.draft.specs.declared.Item.{Item}
+use Rattle.draft.specs.declared.Item.the-variants.{
+  Call,
+  Response,
+  Fault,
+  Integer,
+  Boolean,
+  Content,
+  Array,
+  Struct,
+  Other,
+  Unknown,
+}
+use Rattle.draft.specs.declared.Extent.{Extent}
+use Rattle.draft.specs.declared.Extent.the-variants.{Until, Unfit}
+use Rattle.draft.specs.declared.Row.{Row}
+use Rattle.draft.specs.Rows.{kindOf, itemOf}
+use Rattle.draft.specs.Content.{verdict, nameRule}
+use Rattle.draft.specs.Table.{roomOf, rowAt}
+use Rattle.draft.specs.Read.{textOf}
+
+abbrev pub fit : Bool → Extent → Extent
+fit true o = o
+fit false o = Unfit
+
+-- what a rule says
+abbrev pub ruled : Verdict → Extent → Extent
+ruled Fine o = o
+ruled (Bad refusal) o = Unfit
+
+-- an extent, and what goes on from the row that it ends at
+abbrev pub then : Extent → (ℕ → Extent) → Extent
+then Unfit more = Unfit
+then (Until r) more = more r
+
+-- where an item that begins at a row ends
+abbrev pub Walk : Type 0
+Walk = ℕ → Extent
+
+-- two items, one after the other
+unfoldable pub pair : Walk → Walk → Walk
+pair f g r = then (f r) g
+
+-- n more items by f, the next at row r; f sees the row of the first too
+unfoldable pub items : (ℕ → Walk) → ℕ → ℕ → Walk
+items f zero first r = Until r
+items f (suc n) first r = then (f first r) (λ next. items f n first next)
+
+-- each alike, wherever the first stands
+unfoldable pub alike : Walk → ℕ → Walk
+alike f first = f
+
+-- 'end' is the row number just after the item's last descendant
+abbrev pub closed : Row → Extent → Extent
+closed x Unfit = Unfit
+closed x (Until r) = fit (eqb (x .end) r) (Until r)
+
+-- an item with nothing below it
+abbrev pub leaf : Row → Walk
+leaf x r = closed x (Until (r + 1))
+
+-- an item that holds others: a is 0, and b how many, where that is settled
+abbrev pub over : Row → Extent → Extent
+over x o = fit (eqb (x .a) 0) (closed x o)
+
+abbrev pub holding : ℕ → Row → Extent → Extent
+holding b x o = fit (eqb (x .b) b) (over x o)
+
+abbrev pub integerItem : Row → Walk
+integerItem x r = fit (eqb (x .b) 0) (leaf x r)
+
+abbrev pub booleanItem : Row → Walk
+booleanItem x r = fit (leb (x .a) 1) (fit (eqb (x .b) 0) (leaf x r))
+
+-- a Double's and a DateTime's length goes into one size byte
+abbrev pub sized : ContentOf → ℕ → Bool
+sized Double n = leb n 255
+sized DateTime n = leb n 255
+sized Binary n = true
+sized Text n = true
+
+-- what may nest here: nothing more, or what f walks
+pub data Nest : Type 0 where
+  floor : Nest
+  under : Walk → Nest
+
+-- content lies inside the text bytes s and keeps its rule
+unfoldable pub contentItem : List ℕ → ContentOf → Row → Walk
+contentItem s c x r = fit (sized c (x .b)) (ruled (verdict c s (x .a) (x .b)) (leaf x r))
+
+-- b items, each walked by f
+abbrev pub counted : (ℕ → Walk) → Row → Walk
+counted f x r = over x (items f (x .b) (r + 1) (r + 1))
+
+abbrev pub arrayItem : Nest → Row → Walk
+arrayItem floor x r = Unfit
+arrayItem (under f) x r = counted (alike f) x r
+
+-- the rows by their numbers, how many there are, and the text bytes
+module _ (row : ℕ → Row) (rows : ℕ) (s : List ℕ) where
+  -- what f walks, where only a row of kind k may stand
+  unfoldable pub only : ℕ → (Row → Walk) → Walk
+  only k f r = fit (ltb r rows) (fit (eqb (row r .kind) k) (f (row r) r))
+
+  unfoldable pub string : Walk
+  string r = only (kindOf Text) (contentItem s Text) r
+
+  -- an Other's name
+  unfoldable pub name : Walk
+  name r = then (string r) (λ next. ruled (nameRule (textOf s (row r))) (Until next))
+
+  abbrev pub otherItem : Row → Walk
+  otherItem x r = holding 2 x (pair name (only (kindOf Binary) (contentItem s Binary)) (r + 1))
+
+  -- b pairs of key and value
+  abbrev pub structItem : Nest → Row → Walk
+  structItem floor x r = Unfit
+  structItem (under f) x r = counted (alike (pair string f)) x r
+
+  abbrev pub item : Item → Nest → Row → Walk
+  item Integer nest x r = integerItem x r
+  item Boolean nest x r = booleanItem x r
+  item (Content c) nest x r = contentItem s c x r
+  item Array nest x r = arrayItem nest x r
+  item Struct nest x r = structItem nest x r
+  item Other nest x r = otherItem x r
+  item Call nest x r = Unfit
+  item Response nest x r = Unfit
+  item Fault nest x r = Unfit
+  item Unknown nest x r = Unfit
+
+  -- a Value in which Arrays and Structs nest to a depth of at most `deep`
+  unfoldable pub value : ℕ → Walk
+  value zero r = fit (ltb r rows) (item (itemOf (row r .kind)) floor (row r) r)
+  value (suc deep) r = fit (ltb r rows) (item (itemOf (row r .kind)) (under (value deep)) (row r) r)
+
+  unfoldable pub nested : ℕ → Nest
+  nested zero = floor
+  nested (suc deep) = under (value deep)
+
+  -- a Call holds its method and an Array, a Response a Value, a fault a Struct
+  abbrev pub callItem : ℕ → Row → Walk
+  callItem deep x r = holding 2 x (pair string (only 9 (arrayItem (nested deep))) (r + 1))
+
+  abbrev pub responseItem : ℕ → Row → Walk
+  responseItem deep x r = holding 1 x (value deep (r + 1))
+
+  abbrev pub faultItem : ℕ → Row → Walk
+  faultItem deep x r = holding 1 x (only 10 (structItem (nested deep)) (r + 1))
+
+  abbrev pub first : Item → ℕ → Row → Walk
+  first Call deep x r = callItem deep x r
+  first Response deep x r = responseItem deep x r
+  first Fault deep x r = faultItem deep x r
+  first Integer deep x r = Unfit
+  first Boolean deep x r = Unfit
+  first (Content c) deep x r = Unfit
+  first Array deep x r = Unfit
+  first Struct deep x r = Unfit
+  first Other deep x r = Unfit
+  first Unknown deep x r = Unfit
+
+  unfoldable pub callOrResponse : ℕ → Walk
+  callOrResponse deep r = fit (ltb r rows) (first (itemOf (row r .kind)) deep (row r) r)
+
+-- all the rows, and no other
+abbrev pub wholly : ℕ → Extent → Bool
+wholly rows (Until r) = eqb r rows
+wholly rows Unfit = false
+
+-- with text bytes, rows and nesting of at most so much: the number of rows is 1 at least, the words hold them, and row 0 is a Call or a
+-- Response that ends at that number
+unfoldable pub writableWithin : ℕ → ℕ → ℕ → List ℕ → ℕ → List ℕ → Bool
+writableWithin bytes most deep T rows s =
+    leb (length s) bytes
+    && (leb 1 rows
+    && (leb rows most
+    && (leb (rows * 4) (length T)
+    && wholly rows (callOrResponse (rowAt (roomOf most (length T)) T) rows s deep 0))))
+
+-- document 01's limits: 65,536 text bytes, 4,096 rows, nesting to 32
+unfoldable pub writable : List ℕ → ℕ → List ℕ → Bool
+writable T rows s = writableWithin 65536 4096 32 T rows s

@@ -1,0 +1,11 @@
+pub mod Sending
+pub mod Forming
+pub mod Standing
+pub mod Measuring
+pub mod Repeating
+pub mod Saving
+pub mod Planning
+pub mod Bounding
+pub mod Walking
+pub mod Fitting
+pub mod Concluding

@@ -1,0 +1,470 @@
+-- What a walk over rows accepts has a meaning that the grammar derives, whichever way its strings are sent: one law for each combinator of
+-- walking, then one for each production. Assumes nothing.
+use mathlib.Core.Path.{_≡_, refl, sym, ap, _∙_}
+use mathlib.Core.Bool.{Bool, true, false}
+use mathlib.Core.List.{List, [], _∷_, _++_, append-nil}
+use Prim.Native.Nat.{ℕ, zero, suc, _+_, _≤_, _<_, _%_}
+use Prim.Native.Char.{code}
+use native.Mathlib.Omega.{arith}
+use lib.Dec.{eqb, leb, ltb}
+use lib.ListN.{length, length-append}
+use borrow.Author.Tests.{eqb-true, leb-true}
+use Rattle.draft.specs.declared.Row.{Row}
+use Rattle.draft.specs.declared.Refusal.{Refusal}
+use Rattle.draft.specs.declared.Verdict.{Verdict}
+use Rattle.draft.specs.declared.Verdict.the-variants.{Fine, Bad}
+use Rattle.draft.specs.declared.Content.{Content as ContentOf}
+use Rattle.draft.specs.declared.Content.the-variants as content
+use Rattle.draft.specs.declared.Item.{Item}
+use Rattle.draft.specs.declared.Item.the-variants as item
+use Rattle.draft.specs.declared.Extent.{Extent}
+use Rattle.draft.specs.declared.Extent.the-variants.{Until, Unfit}
+use Rattle.draft.specs.Bytes.{part}
+use Rattle.draft.specs.Rows.{kindOf, itemOf}
+use Rattle.draft.specs.Content.{contentRule, allThere, verdict, nameRule}
+use Rattle.draft.specs.Read.{textOf, prefix}
+use Rattle.draft.specs.Writable.{fit, ruled, then, Walk, pair as walk-pair, items, alike, closed, leaf, over, holding as walk-holding, integerItem, booleanItem, sized, Nest, floor, under, contentItem, counted as walk-counted, arrayItem, only, string as walk-string, name, otherItem, structItem, item as walk-item, value, nested, callItem, responseItem, faultItem, first, callOrResponse}
+use Rattle.draft.specs.Written.{lsb, counted, stringBytes, letter, size}
+use Rattle.draft.specs.Grammar.{Payload, holding, number, contents, Cell, cell, content-cell, Sent, regular, recorded, recalled, Keeps, Message, Call, call, Response, value-response, fault-response, fault, Value, integer-value, boolean-value, double-value, datetime-value, array-value, struct-value, string-value, other-value, integer, boolean-true, boolean-false, double, datetime, binary-value, binary, Array, array, Values, no-values, more-values, Struct, struct, Pairs, no-pairs, more-pairs, Pair, other, String, regular-string, recorded-string, recalled-string, string-data}
+use Rattle.draft.specs.Meaning.{hasNumber, hasContent, says-holding, says-number, says-contents, Means, means}
+use Rattle.exact.proofs.Standing.{long}
+use Rattle.exact.proofs.Realising.{content-has}
+use Rattle.exact.proofs.Deriving.{Production, Joins, OneString, one-string, OneName, one-name, OneBinary, one-binary, OtherBody, other-body, CallBody, call-body, CallOrResponse, of-call, of-response, pair-join}
+use Rattle.written.proofs.Sending.{textIn, texts, none-sent, first-sent, split}
+use Rattle.written.proofs.Forming.{strings, form, KindOf, item-kind, strings-append, form-append}
+use Rattle.written.proofs.Standing.{Stands, stands-none, stands-more, stands-one, stands-append, lsb-is}
+
+-- what an accepted walk says of the tests on its way
+module _ {to : ℕ} where
+  unfit-until : {A : Type 0} → Unfit ≡ Until to → A
+  unfit-until e = let z : _≡_ {A = ℕ} 0 1 = cc in absurd (omega arith)
+
+  fit-by : (b : Bool) (o : Extent) → fit b o ≡ Until to → (b ≡ true) × (o ≡ Until to)
+  fit-by true o e = (refl, e)
+  fit-by false o e = unfit-until e
+
+  ruled-by : (v : Verdict) (o : Extent) → ruled v o ≡ Until to → (v ≡ Fine) × (o ≡ Until to)
+  ruled-by Fine o e = (refl, e)
+  ruled-by (Bad m) o e = unfit-until e
+
+  closed-by : (x : Row) (o : Extent) → closed x o ≡ Until to → (x .end ≡ to) × (o ≡ Until to)
+  closed-by x Unfit e = unfit-until e
+  closed-by x (Until r) e =
+      let f = fit-by (eqb (x .end) r) (Until r) e in
+      let i : r ≡ to = cc (f .1) in
+      (eqb-true (x .end) r (f .0) ∙ i, f .1)
+
+  over-by : (x : Row) (o : Extent) → over x o ≡ Until to → (x .a ≡ 0) × (x .end ≡ to) × (o ≡ Until to)
+  over-by x o e =
+      let f = fit-by (eqb (x .a) 0) (closed x o) e in
+      let g = closed-by x o (f .1) in
+      (eqb-true (x .a) 0 (f .0), g .0, g .1)
+
+  holding-by : (b : ℕ) (x : Row) (o : Extent) → walk-holding b x o ≡ Until to → (x .b ≡ b) × (over x o ≡ Until to)
+  holding-by b x o e = let f = fit-by (eqb (x .b) b) (over x o) e in (eqb-true (x .b) b (f .0), f .1)
+
+record Then (o : Extent) (more : ℕ → Extent) (to : ℕ) : Type 0 where
+  middle : ℕ
+  is : o ≡ Until middle
+  next : more middle ≡ Until to
+
+then-by : (o : Extent) (more : ℕ → Extent) {to : ℕ} → then o more ≡ Until to → Then o more to
+then-by Unfit more e = unfit-until e
+then-by (Until r) more e = record { middle = r; is = refl; next = e }
+
+there-by : (b : Bool) (v : Verdict) → allThere b v ≡ Fine → (b ≡ true) × (v ≡ Fine)
+there-by true v e = (refl, e)
+there-by false v e = let z : _≡_ {A = ℕ} 0 1 = cc in absurd (omega arith)
+
+until-same : {r to : ℕ} → Until r ≡ Until to → r ≡ to
+until-same e = cc
+
+-- whichever way the strings of the cells are sent, P derives their form
+pub record Writes (P : Production) (cs : List Cell) : Type 0 where
+  pub derives : (gs : List Sent) → texts gs ≡ strings cs → P (form cs gs) cs gs
+
+writes-join : {P Q T : Production} (us vs : List Cell) → Joins P Q T → Writes P us → Writes Q vs → Writes T (us ++ vs)
+writes-join {P} {Q} {T} us vs make p q =
+    record {
+      derives = λ gs e.
+          let h = split (strings us) (strings vs) gs (e ∙ strings-append us vs) in
+          rw (h .is, form-append us vs (h .front) (h .back) (h .first))
+          (make (form us (h .front)) (form vs (h .back)) us vs (h .front) (h .back) (p .derives (h .front) (h .first)) (q .derives (h .back) (h .second)));
+    }
+
+writes-as : {P Q : Production} {cs : List Cell} → ((xs : List ℕ) (fs : List Sent) → P xs cs fs → Q xs cs fs) → Writes P cs → Writes Q cs
+writes-as make p = record { derives = λ gs e. make _ _ (p .derives gs e) }
+
+-- items of one row
+sent-string : {t : List ℕ} (f : Sent) → textIn f ≡ t → length t < 4294967296 → Keeps content.Text t → String (stringBytes f) t f
+unfolding stringBytes counted lsb
+sent-string (regular u) e h k = rw e (regular-string (string-data (lsb-is _ h) refl k))
+sent-string (recorded p u) e h k = rw e (recorded-string (string-data (lsb-is _ h) refl k))
+sent-string (recalled p u) e h k = rw e recalled-string
+
+writes-string : {t : List ℕ} → length t < 4294967296 → Keeps content.Text t → Writes OneString (content-cell content.Text t ∷ [])
+unfolding form strings
+writes-string {t} h k =
+    record {
+      derives = λ gs e.
+          let f = first-sent gs e in
+          let n = none-sent (f .left) (f .rest) in
+          rw (f .is, n, append-nil) (one-string (sent-string (f .sent) (f .stands) h k));
+    }
+
+writes-name : {t : List ℕ} → length t < 4294967296 → Keeps content.Text t → nameRule t ≡ Fine → Writes OneName (content-cell content.Text t ∷ [])
+writes-name {t} h k n = writes-as (λ xs fs x. go xs fs x) (writes-string h k)
+  where
+    go : (xs : List ℕ) (fs : List Sent) → OneString xs (content-cell content.Text t ∷ []) fs → OneName xs (content-cell content.Text t ∷ []) fs
+    go xs fs (one-string x) = one-name x n
+
+writes-binary : {t : List ℕ} → length t < 4294967296 → Keeps content.Binary t → Writes OneBinary (content-cell content.Binary t ∷ [])
+unfolding form strings counted lsb itemOf
+writes-binary {t} h k = record { derives = λ gs e. rw (none-sent gs e, append-nil) (one-binary (binary (lsb-is _ h) refl k)) }
+
+writes-double : {d : ℕ} {t : List ℕ} → length t ≤ 255 → Keeps content.Double t → Writes (Value d) (content-cell content.Double t ∷ [])
+unfolding form strings itemOf
+writes-double {d} {t} h k = let z : length t % 256 ≡ length t = omega arith in record { derives = λ gs e. rw (none-sent gs e, append-nil) (double-value (double z k)) }
+
+writes-datetime : {d : ℕ} {t : List ℕ} → length t ≤ 255 → Keeps content.DateTime t → Writes (Value d) (content-cell content.DateTime t ∷ [])
+unfolding form strings itemOf
+writes-datetime {d} {t} h k = let z : length t % 256 ≡ length t = omega arith in record { derives = λ gs e. rw (none-sent gs e, append-nil) (datetime-value (datetime z k)) }
+
+writes-integer : {d n : ℕ} → n < 4294967296 → Writes (Value d) (cell 4 0 (number n) ∷ [])
+unfolding form strings itemOf lsb
+writes-integer h = record { derives = λ gs e. rw (none-sent gs e) (integer-value (integer (lsb-is _ h))) }
+
+writes-boolean : {d : ℕ} (n : ℕ) → n ≤ 1 → Writes (Value d) (cell 5 0 (number n) ∷ [])
+unfolding form strings itemOf
+writes-boolean zero h = record { derives = λ gs e. rw (none-sent gs e) (boolean-value boolean-false) }
+writes-boolean (suc zero) h = record { derives = λ gs e. rw (none-sent gs e) (boolean-value boolean-true) }
+writes-boolean (suc (suc n)) h = absurd (omega arith)
+
+-- items over others
+writes-values : {d : ℕ} → Writes (Values d zero) []
+unfolding form strings
+writes-values = record { derives = λ gs e. rw (none-sent gs e) no-values }
+
+writes-pairs : {d : ℕ} → Writes (Pairs d zero) []
+unfolding form strings
+writes-pairs = record { derives = λ gs e. rw (none-sent gs e) no-pairs }
+
+module _ {d n : ℕ} (h : n < 4294967296) {cs : List Cell} where
+  writes-array : Writes (Values d n) cs → Writes (Array (suc d)) (cell 9 (length cs) (holding n) ∷ cs)
+  unfolding form strings itemOf lsb
+  writes-array p = record { derives = λ gs e. array (lsb-is n h) (p .derives gs e) refl }
+
+  writes-struct : Writes (Pairs d n) cs → Writes (Struct (suc d)) (cell 10 (length cs) (holding n) ∷ cs)
+  unfolding form strings itemOf lsb
+  writes-struct p = record { derives = λ gs e. struct (lsb-is n h) (p .derives gs e) refl }
+
+writes-other : {d : ℕ} {cs : List Cell} → Writes OtherBody cs → Writes (Value d) (cell 12 (length cs) (holding 2) ∷ cs)
+unfolding form strings itemOf
+writes-other {d} {cs} p = record { derives = λ gs e. go (p .derives gs e) }
+  where
+    go : {xs : List ℕ} {cs : List Cell} {fs : List Sent} → OtherBody xs cs fs → Value d (code "O" ∷ xs) (cell 12 (length cs) (holding 2) ∷ cs) fs
+    go (other-body x k y e) = other-value (other x k y e)
+
+writes-call : {d : ℕ} {cs : List Cell} → Writes (CallBody d) cs → Writes (CallOrResponse d) (cell 1 (length cs) (holding 2) ∷ cs)
+unfolding form strings itemOf
+writes-call {d} {cs} p = record { derives = λ gs e. go (p .derives gs e) }
+  where
+    go : {xs : List ℕ} {cs : List Cell} {fs : List Sent} → CallBody d xs cs fs → CallOrResponse d (code "C" ∷ xs) (cell 1 (length cs) (holding 2) ∷ cs) fs
+    go (call-body x y e) = of-call (call x y e refl)
+
+writes-response : {d : ℕ} {cs : List Cell} → Writes (Value d) cs → Writes (CallOrResponse d) (cell 2 (length cs) (holding 1) ∷ cs)
+unfolding form strings itemOf
+writes-response p = record { derives = λ gs e. of-response (value-response (p .derives gs e) refl) }
+
+writes-fault : {d : ℕ} {cs : List Cell} → Writes (Struct d) cs → Writes (CallOrResponse d) (cell 3 (length cs) (holding 1) ∷ cs)
+unfolding form strings itemOf
+writes-fault p = record { derives = λ gs e. of-response (fault-response (fault (p .derives gs e)) refl) }
+
+-- a Value by its kind
+pub value-is :
+    (row : ℕ → Row) (rows : ℕ) (s : List ℕ) (d r : ℕ)
+    → value row rows s d r ≡ fit (ltb r rows) (walk-item row rows s (itemOf (row r .kind)) (nested row rows s d) (row r) r)
+unfolding value nested
+value-is row rows s zero r = refl
+value-is row rows s (suc d) r = refl
+
+-- the rows by their numbers, each with words that four bytes hold
+module _ (row : ℕ → Row) (rows : ℕ) (s : List ℕ) (words : (r : ℕ) → (row r .a < 4294967296) × (row r .b < 4294967296)) where
+  -- a walk that was accepted, over rows with a meaning that P derives
+  pub record Walked (P : Production) (r to : ℕ) : Type 0 where
+    pub cells : List Cell
+    pub ends : to ≡ r + length cells
+    pub stands : Stands row s r cells
+    pub writes : Writes P cells
+
+  -- whatever f accepts, P derives
+  record Sound (f : Walk) (P : Production) : Type 0 where
+    walked : (r to : ℕ) → f r ≡ Until to → Walked P r to
+
+  -- the same, where a row of kind k stands
+  record SoundAt (k : ℕ) (f : Row → Walk) (P : Production) : Type 0 where
+    walked : (r to : ℕ) → row r .kind ≡ k → f (row r) r ≡ Until to → Walked P r to
+
+  -- an item of one row
+  one : {P : Production} {r to : ℕ} {c : Cell} → leaf (row r) r ≡ Until to → (row r .end ≡ r + 1 → Means s r (row r) c) → Writes P (c ∷ []) → Walked P r to
+  one {r = r} {to} {c} e m w =
+      let f = closed-by (row r) (Until (r + 1)) e in
+      let i : r + 1 ≡ to = until-same (f .1) in
+      record { cells = c ∷ []; ends = sym i; stands = stands-one (m (f .0 ∙ sym i)); writes = w }
+
+  -- content, in the row's own words
+  content-at :
+      (c : ContentOf) {P : Production} (r to : ℕ)
+      →
+      (length (textOf s (row r)) < 4294967296 → sized c (length (textOf s (row r))) ≡ true → Keeps c (textOf s (row r)) → Writes P
+      (content-cell c (textOf s (row r)) ∷ []))
+      → row r .kind ≡ kindOf c → contentItem s c (row r) r ≡ Until to → Walked P r to
+  unfolding contentItem verdict
+  content-at c r to make k e =
+      let x = row r in
+      let f = fit-by (sized c (x .b)) _ e in
+      let g = ruled-by (verdict c s (x .a) (x .b)) _ (f .1) in
+      let h = there-by (leb (x .a + x .b) (length s)) (contentRule c (part s (x .a) (x .b))) (g .0) in
+      let i : x .a + x .b ≤ length s = leb-true _ _ (h .0) in
+      let l : x .b ≡ length (part s (x .a) (x .b)) = long s (x .a) (x .b) i in
+      one (g .1) (λ z. means k (omega (arith, z)) (says-contents (rw k (content-has c)) i refl))
+      (make (omega (arith, l, words r .1)) (sym (ap (sized c) l) ∙ f .0) (h .1))
+
+  content-sound :
+      (c : ContentOf) (P : Production)
+      → ((t : List ℕ) → length t < 4294967296 → sized c (length t) ≡ true → Keeps c t → Writes P (content-cell c t ∷ []))
+      → SoundAt (kindOf c) (contentItem s c) P
+  content-sound c P make = record { walked = λ r to k e. content-at c r to (make (textOf s (row r))) k e }
+
+  only-by : (k : ℕ) (f : Row → Walk) {r to : ℕ} → only row rows s k f r ≡ Until to → (row r .kind ≡ k) × (f (row r) r ≡ Until to)
+  unfolding only
+  only-by k f {r} e =
+      let h = fit-by (ltb r rows) _ e in
+      let i = fit-by (eqb (row r .kind) k) _ (h .1) in
+      (eqb-true _ _ (i .0), i .1)
+
+  only-sound : (k : ℕ) {f : Row → Walk} {P : Production} → SoundAt k f P → Sound (only row rows s k f) P
+  only-sound k {f} g = record { walked = λ r to e. let h = only-by k f e in g .walked r to (h .0) (h .1) }
+
+  string-sound : Sound (walk-string row rows s) OneString
+  unfolding walk-string
+  string-sound = only-sound 11 (content-sound content.Text OneString (λ t h z k. writes-string h k))
+
+  -- an Other's name
+  name-sound : Sound (name row rows s) OneName
+  unfolding name walk-string
+  name-sound =
+      record {
+        walked = λ r to e.
+            let f = then-by (walk-string row rows s r) _ e in
+            let g = ruled-by (nameRule (textOf s (row r))) _ (f .next) in
+            let h = only-by 11 (contentItem s content.Text) (f .is ∙ g .1) in
+            content-at content.Text r to (λ l z k. writes-name l k (g .0)) (h .0) (h .1);
+      }
+
+  -- one after the other
+  joined : {P Q T : Production} {r middle to : ℕ} → Joins P Q T → Walked P r middle → Walked Q middle to → Walked T r to
+  joined {r = r} {middle} {to} make g t =
+      let e = g .ends in
+      record {
+        cells = g .cells ++ t .cells;
+        ends = omega (arith, e, t .ends, length-append (g .cells) (t .cells));
+        stands = stands-append (g .stands) (rw e at (t .stands));
+        writes = writes-join (g .cells) (t .cells) make (g .writes) (t .writes);
+      }
+
+  pair-sound : {P Q : Production} (T : Production) {f g : Walk} → Joins P Q T → Sound f P → Sound g Q → Sound (walk-pair f g) T
+  unfolding walk-pair
+  pair-sound T {f} {g} make p q =
+      record { walked = λ r to e. let h = then-by (f r) g e in joined make (p .walked r (h .middle) (h .is)) (q .walked (h .middle) to (h .next)) }
+
+  -- an item's own row, over what it holds
+  over-walked :
+      {P Q : Production} (k b : ℕ) {r to : ℕ} {o : Extent} → hasNumber k ≡ false → hasContent k ≡ false → row r .kind ≡ k → row r .b ≡ b
+      → over (row r) o ≡ Until to → (o ≡ Until to → Walked P (r + 1) to)
+      → ((cs : List Cell) → Writes P cs → Writes Q (cell k (length cs) (holding b) ∷ cs)) → Walked Q r to
+  over-walked k b {r} {to} {o} h i j l e p make =
+      let f = over-by (row r) o e in
+      let g = p (f .2) in
+      let z : r + 1 ≡ suc r = omega arith in
+      record {
+        cells = cell k (length (g .cells)) (holding b) ∷ g .cells;
+        ends = omega (arith, g .ends);
+        stands = stands-more (means j (f .1 ∙ g .ends) (says-holding (rw j h) (rw j i) (f .0) l)) (rw z at (g .stands));
+        writes = make (g .cells) (g .writes);
+      }
+
+  -- the same, of a settled number of things
+  held-walked :
+      {P Q : Production} (k b : ℕ) {f : Walk} {r to : ℕ} → hasNumber k ≡ false → hasContent k ≡ false → row r .kind ≡ k → Sound f P
+      → ((cs : List Cell) → Writes P cs → Writes Q (cell k (length cs) (holding b) ∷ cs)) → walk-holding b (row r) (f (r + 1)) ≡ Until to → Walked Q r to
+  held-walked k b {f} {r} {to} h i j p make e =
+      let g = holding-by b (row r) (f (r + 1)) e in
+      over-walked k b h i j (g .0) (g .1) (p .walked (r + 1) to) make
+
+  -- n items, one after the other
+  record SoundOn (f : Walk) (n : ℕ) (Q : Production) : Type 0 where
+    walked : (first r to : ℕ) → items (alike f) n first r ≡ Until to → Walked Q r to
+
+  no-items : {f : Walk} (Q : Production) → Writes Q [] → SoundOn f zero Q
+  unfolding items
+  no-items Q w = record { walked = λ first r to e. record { cells = []; ends = omega (arith, until-same e); stands = stands-none; writes = w } }
+
+  more-items : {P Q : Production} (T : Production) {f : Walk} {n : ℕ} → Joins P Q T → Sound f P → SoundOn f n Q → SoundOn f (suc n) T
+  unfolding items alike
+  more-items T {f} {n} make p q =
+      record {
+        walked = λ first r to e.
+            let h = then-by (f r) _ e in
+            joined make (p .walked r (h .middle) (h .is)) (q .walked first (h .middle) to (h .next));
+      }
+
+  counted-sound :
+      (k : ℕ) {f : Walk} (P : ℕ → Production) (Q : Production) → hasNumber k ≡ false → hasContent k ≡ false → ((n : ℕ) → SoundOn f n (P n))
+      → ((n : ℕ) → n < 4294967296 → (cs : List Cell) → Writes (P n) cs → Writes Q (cell k (length cs) (holding n) ∷ cs))
+      → SoundAt k (walk-counted (alike f)) Q
+  counted-sound k {f} P Q h i run make =
+      record {
+        walked = λ r to j e.
+            over-walked {P = P (row r .b)} {Q = Q} k (row r .b) h i j refl e (λ z. run (row r .b) .walked (r + 1) (r + 1) to z) (make (row r .b) (words r .1));
+      }
+
+  -- the productions
+  other-join : Joins OneName OneBinary OtherBody
+  other-join xs ys us vs fs gs (one-name x k) (one-binary y) = other-body x k y refl
+
+  call-join : {d : ℕ} → Joins OneString (Array d) (CallBody d)
+  call-join xs ys us vs fs gs (one-string x) y = call-body x y refl
+
+  binary-sound : SoundAt 8 (contentItem s content.Binary) OneBinary
+  binary-sound = content-sound content.Binary OneBinary (λ t h z k. writes-binary h k)
+
+  other-sound : (d : ℕ) → SoundAt 12 (otherItem row rows s) (Value d)
+  unfolding hasNumber hasContent
+  other-sound d =
+      record {
+        walked = λ r to j e.
+            held-walked {P = OtherBody} {Q = Value d} 12 2 refl refl j (pair-sound OtherBody other-join name-sound (only-sound 8 binary-sound)) (λ cs w. writes-other w) e;
+      }
+
+  values-sound : (d : ℕ) → Sound (value row rows s d) (Value d) → (n : ℕ) → SoundOn (value row rows s d) n (Values d n)
+  values-sound d sound zero = no-items (Values d zero) writes-values
+  values-sound d sound (suc n) = more-items (Values d (suc n)) (λ xs ys us vs fs gs x y. more-values x y refl refl refl) sound (values-sound d sound n)
+
+  pairs-sound : (d : ℕ) → Sound (value row rows s d) (Value d) → (n : ℕ) → SoundOn (walk-pair (walk-string row rows s) (value row rows s d)) n (Pairs d n)
+  pairs-sound d sound zero = no-items (Pairs d zero) writes-pairs
+  pairs-sound d sound (suc n) =
+      more-items (Pairs d (suc n)) (λ xs ys us vs fs gs x y. more-pairs x y refl refl refl) (pair-sound (Pair d) pair-join string-sound sound)
+      (pairs-sound d sound n)
+
+  -- nothing nests at the floor
+  array-floor : SoundAt 9 (arrayItem floor) (Array zero)
+  array-floor = record { walked = λ r to j e. unfit-until e }
+
+  struct-floor : SoundAt 10 (structItem row rows s floor) (Struct zero)
+  struct-floor = record { walked = λ r to j e. unfit-until e }
+
+  array-under : (d : ℕ) → Sound (value row rows s d) (Value d) → SoundAt 9 (arrayItem (under (value row rows s d))) (Array (suc d))
+  unfolding hasNumber hasContent
+  array-under d sound = counted-sound 9 (Values d) (Array (suc d)) refl refl (values-sound d sound) (λ n h cs w. writes-array h w)
+
+  struct-under : (d : ℕ) → Sound (value row rows s d) (Value d) → SoundAt 10 (structItem row rows s (under (value row rows s d))) (Struct (suc d))
+  unfolding hasNumber hasContent
+  struct-under d sound = counted-sound 10 (Pairs d) (Struct (suc d)) refl refl (pairs-sound d sound) (λ n h cs w. writes-struct h w)
+
+  as-value : {P Q : Production} {r to : ℕ} → ((xs : List ℕ) (cs : List Cell) (fs : List Sent) → P xs cs fs → Q xs cs fs) → Walked P r to → Walked Q r to
+  as-value make g = record { cells = g .cells; ends = g .ends; stands = g .stands; writes = writes-as (λ xs fs x. make xs (g .cells) fs x) (g .writes) }
+
+  string-make : {d : ℕ} (xs : List ℕ) (cs : List Cell) (fs : List Sent) → OneString xs cs fs → Value d xs cs fs
+  string-make xs cs fs (one-string x) = string-value x
+
+  binary-make : {d : ℕ} (xs : List ℕ) (cs : List Cell) (fs : List Sent) → OneBinary xs cs fs → Value d xs cs fs
+  binary-make xs cs fs (one-binary x) = binary-value x
+
+  integer-sound : (d : ℕ) → SoundAt 4 integerItem (Value d)
+  unfolding hasNumber
+  integer-sound d =
+      record {
+        walked = λ r to j e.
+            let f = fit-by (eqb (row r .b) 0) _ e in
+            one (f .1) (λ z. means j (omega (arith, z)) (says-number (rw j) refl (eqb-true _ _ (f .0)))) (writes-integer (words r .0));
+      }
+
+  boolean-sound : (d : ℕ) → SoundAt 5 booleanItem (Value d)
+  unfolding hasNumber
+  boolean-sound d =
+      record {
+        walked = λ r to j e.
+            let f = fit-by (leb (row r .a) 1) _ e in
+            let g = fit-by (eqb (row r .b) 0) _ (f .1) in
+            one (g .1) (λ z. means j (omega (arith, z)) (says-number (rw j) refl (eqb-true _ _ (g .0)))) (writes-boolean (row r .a) (leb-true _ _ (f .0)));
+      }
+
+  item-sound :
+      (d : ℕ) (nest : Nest) → SoundAt 9 (arrayItem nest) (Array d) → SoundAt 10 (structItem row rows s nest) (Struct d)
+      → (r to : ℕ) (i : Item) → KindOf i (row r .kind) → walk-item row rows s i nest (row r) r ≡ Until to → Walked (Value d) r to
+  item-sound d nest p q r to item.Call j e = unfit-until e
+  item-sound d nest p q r to item.Response j e = unfit-until e
+  item-sound d nest p q r to item.Fault j e = unfit-until e
+  item-sound d nest p q r to item.Integer j e = integer-sound d .walked r to j e
+  item-sound d nest p q r to item.Boolean j e = boolean-sound d .walked r to j e
+  item-sound d nest p q r to (item.Content content.Double) j e =
+      content-sound content.Double (Value d) (λ t h z k. writes-double (leb-true _ _ z) k) .walked r to j e
+  item-sound d nest p q r to (item.Content content.DateTime) j e =
+      content-sound content.DateTime (Value d) (λ t h z k. writes-datetime (leb-true _ _ z) k) .walked r to j e
+  item-sound d nest p q r to (item.Content content.Binary) j e = as-value binary-make (binary-sound .walked r to j e)
+  item-sound d nest p q r to (item.Content content.Text) j e =
+      as-value string-make (content-sound content.Text OneString (λ t h z k. writes-string h k) .walked r to j e)
+  item-sound d nest p q r to item.Array j e = as-value (λ xs cs fs x. array-value x) (p .walked r to j e)
+  item-sound d nest p q r to item.Struct j e = as-value (λ xs cs fs x. struct-value x) (q .walked r to j e)
+  item-sound d nest p q r to item.Other j e = other-sound d .walked r to j e
+  item-sound d nest p q r to item.Unknown j e = unfit-until e
+
+  by-kind :
+      (d : ℕ) → SoundAt 9 (arrayItem (nested row rows s d)) (Array d) → SoundAt 10 (structItem row rows s (nested row rows s d)) (Struct d)
+      → Sound (value row rows s d) (Value d)
+  by-kind d p q =
+      record {
+        walked = λ r to e.
+            let f = fit-by (ltb r rows) _ (sym (value-is row rows s d r) ∙ e) in
+            item-sound d (nested row rows s d) p q r to (itemOf (row r .kind)) (item-kind (row r .kind)) (f .1);
+      }
+
+  value-sound : (d : ℕ) → Sound (value row rows s d) (Value d)
+  unfolding nested
+  value-sound zero = by-kind zero array-floor struct-floor
+  value-sound (suc d) = by-kind (suc d) (array-under d (value-sound d)) (struct-under d (value-sound d))
+
+  array-sound : (d : ℕ) → SoundAt 9 (arrayItem (nested row rows s d)) (Array d)
+  unfolding nested
+  array-sound zero = array-floor
+  array-sound (suc d) = array-under d (value-sound d)
+
+  struct-sound : (d : ℕ) → SoundAt 10 (structItem row rows s (nested row rows s d)) (Struct d)
+  unfolding nested
+  struct-sound zero = struct-floor
+  struct-sound (suc d) = struct-under d (value-sound d)
+
+  first-sound :
+      (d r to : ℕ) (i : Item) → KindOf i (row r .kind) → first row rows s i d (row r) r ≡ Until to → Walked (CallOrResponse d) r to
+  unfolding hasNumber hasContent
+  first-sound d r to item.Call j e =
+      held-walked {P = CallBody d} {Q = CallOrResponse d} 1 2 refl refl j (pair-sound (CallBody d) call-join string-sound (only-sound 9 (array-sound d))) (λ cs w. writes-call w) e
+  first-sound d r to item.Response j e =
+      held-walked {P = Value d} {Q = CallOrResponse d} 2 1 refl refl j (value-sound d) (λ cs w. writes-response w) e
+  first-sound d r to item.Fault j e =
+      held-walked {P = Struct d} {Q = CallOrResponse d} 3 1 refl refl j (only-sound 10 (struct-sound d)) (λ cs w. writes-fault w) e
+  first-sound d r to item.Integer j e = unfit-until e
+  first-sound d r to item.Boolean j e = unfit-until e
+  first-sound d r to (item.Content c) j e = unfit-until e
+  first-sound d r to item.Array j e = unfit-until e
+  first-sound d r to item.Struct j e = unfit-until e
+  first-sound d r to item.Other j e = unfit-until e
+  first-sound d r to item.Unknown j e = unfit-until e
+
+  -- what is walked is derived
+  pub walked : (d r to : ℕ) → callOrResponse row rows s d r ≡ Until to → Walked (CallOrResponse d) r to
+  unfolding callOrResponse
+  walked d r to e =
+      let f = fit-by (ltb r rows) _ e in
+      first-sound d r to (itemOf (row r .kind)) (item-kind (row r .kind)) (f .1)
