@@ -1,34 +1,31 @@
 -- Demands 2 and 3 for the written form: a table is writable exactly if the draft derives its meaning, and its written form is derived, read back
 -- with the same meaning, settled by it, and shortest. Writable tables and the written form are crate draft's Writable and Written; the long
 -- arguments are in crate written. Assumes nothing.
-use mathlib.Core.Path.{_≡_, refl, sym, ap, _∙_}
+use mathlib.Core.Path.{_≡_, refl, sym, _∙_}
 use mathlib.Core.Bool.{true}
 use mathlib.Core.Logic.{_↔_}
-use mathlib.Core.List.{List, [], _∷_, _++_}
-use Prim.Native.Nat.{ℕ, zero, suc, _+_, _*_, _≤_, _<_}
+use mathlib.Core.List.{List, _++_}
+use Prim.Native.Nat.{ℕ, _≤_}
 use native.Mathlib.Omega.{arith}
 use lib.Dec.{leb}
-use lib.ListN.{length, replicate, length-replicate}
+use lib.ListN.{length}
 use Rattle.draft.specs.declared.Row.{Row}
 use Rattle.draft.specs.Bytes.{Below}
-use Rattle.draft.specs.Table.{roomOf, rowAt, rowsAt, putRows, from}
+use Rattle.draft.specs.Table.{roomOf}
 use Rattle.draft.specs.Codebook.{Book}
-use Rattle.draft.specs.Read.{Reading, got, message, messageWithin}
-use Rattle.draft.specs.Grammar.{Cell, Derives, Begins}
-use Rattle.draft.specs.Meaning.{MeanSame, SameRow, no-rows, and-row, Realises}
+use Rattle.draft.specs.Read.{Reading, got, message}
+use Rattle.draft.specs.Meaning.{MeanSame}
 use Rattle.draft.specs.Strings.{Text, repeated, textsOf}
 use Rattle.draft.specs.Writable.{writableWithin, writable}
 use Rattle.draft.specs.Written.{written, rowsOf}
-use Rattle.table.proofs.Rows.{length-putRows}
-use Rattle.table.proofs.Stored.{rows-there}
 use Rattle.reader.specs.Answers.{reading, tableOf}
 use Rattle.exact.proofs.Realising.{counts, same-meaning}
-use Rattle.exact.proofs.Concluding.{within-got}
+use Rattle.written.specs.Occurring.{bit, times}
 use Rattle.written.specs.Derivable.{DerivesRows, Within}
-use Rattle.written.proofs.Standing.{below-take}
-use Rattle.written.proofs.Repeating.{bit, times, repeated-once}
+use Rattle.written.proofs.Repeating.{repeated-once}
 use Rattle.written.proofs.Concluding as conclude
-use Rattle.demands.specs.Reading.{sound, complete}
+use Rattle.written.proofs.Returning as return
+use Rattle.demands.specs.Reading.{complete}
 
 -- a table is words of 32 bits, and text bytes are bytes
 abbrev pub Words : List ℕ → Type 0
@@ -57,16 +54,16 @@ writable-derivable bytes most deep {T} {s} rows w o = (there, back)
         → writableWithin bytes most deep T rows s ≡ true
     back (h, (xs, b, g)) = conclude.derived-writable bytes most deep T rows s h g b
 
--- what reading gives back: rows as many, with so many bytes used, that mean the same
-pub record ReadBack (s : List ℕ) (rows : List Row) (t : List ℕ) (answer : Reading) (used : ℕ) : Type 0 where
+-- an answer accepts the bytes t with so many bytes used and so many rows, which mean the same as those of s
+pub record ReadsBack (answer : Reading) (t : List ℕ) (used rows : ℕ) (s : List ℕ) (others : List Row) : Type 0 where
   pub back : List Row
   pub book : Book
   pub is : answer ≡ got back used book
-  pub as-many : length back ≡ length rows
-  pub same : MeanSame s t rows back
+  pub as-many : length back ≡ rows
+  pub same : MeanSame s t others back
 
 -- for a writable table, by document 01's limits
-module _ (T : List ℕ) (rows : ℕ) (s : List ℕ) (w : Words T) (e : writable T rows s ≡ true) where
+module _ (T : List ℕ) (rows : ℕ) (s : List ℕ) (e : writable T rows s ≡ true) where
   -- its rows, and their written form
   abbrev pub itsRows : List Row
   itsRows = rowsOf 4096 T rows
@@ -75,24 +72,26 @@ module _ (T : List ℕ) (rows : ℕ) (s : List ℕ) (w : Words T) (e : writable 
   itsForm = written s itsRows
 
   -- DERIVED. The draft derives the written form with the table's meaning, nested to at most 32.
-  pub form-derived : DerivesRows 32 itsForm s itsRows
+  pub form-derived : Words T → DerivesRows 32 itsForm s itsRows
   unfolding writable
-  form-derived = conclude.writable-derived 65536 4096 32 T rows s w e
+  form-derived w = conclude.writable-derived 65536 4096 32 T rows s w e
 
   -- READING BACK. Whatever bytes follow it, up to 65,536 in all, the written form is read into any table with room for its rows, with as many
   -- rows, its length used, and the same meaning.
   pub reading-back :
-      (more : List ℕ) (words : ℕ) → length (itsForm ++ more) ≤ 65536 → length itsRows ≤ roomOf 4096 words
-      → ReadBack s itsRows (itsForm ++ more) (reading (itsForm ++ more) words) (length itsForm)
+      Words T → (more : List ℕ) (words : ℕ) → length (itsForm ++ more) ≤ 65536 → rows ≤ roomOf 4096 words
+      → ReadsBack (reading (itsForm ++ more) words) (itsForm ++ more) (length itsForm) rows s itsRows
   unfolding reading
-  reading-back more words h k =
-      let g = form-derived in
-      let a = complete 65536 (itsForm ++ more) (roomOf 4096 words) 32 (conclude.begins-with more (g .derived)) h (omega (arith, counts (g .meaning))) (omega arith) in
+  reading-back w more words h k =
+      let g = form-derived w in
+      let n : length (g .cells) ≡ rows = sym (counts (g .meaning)) ∙ conclude.rows-length 4096 T rows in
+      let a =
+      complete 65536 (itsForm ++ more) (roomOf 4096 words) 32 (conclude.begins-with more (g .derived)) h (omega (arith, n)) (omega arith) in
       record {
         back = a .rows;
         book = a .book;
         is = a .is;
-        as-many = counts (a .meaning) ∙ sym (counts (g .meaning));
+        as-many = counts (a .meaning) ∙ n;
         same = same-meaning (g .meaning) (a .meaning) .1 refl;
       }
 
@@ -101,7 +100,8 @@ module _ (T : List ℕ) (rows : ℕ) (s : List ℕ) (w : Words T) (e : writable 
   pub shortest :
       length (repeated (textsOf s itsRows)) ≤ 256 → (t : List ℕ) (room deep : ℕ) {others : List Row} {used : ℕ} {book : Book}
       → message t room deep ≡ got others used book → MeanSame s t itsRows others → (length itsForm ≤ used) × (used ≤ length t)
-  shortest few t room deep i z = conclude.no-shorter room deep (form-derived .meaning) few i z
+  unfolding writable
+  shortest few t room deep i z = conclude.no-shorter room deep (conclude.writable-means 65536 4096 32 T rows s e .1) few i z
 
 -- REPEATED texts are those that occur at least twice, each listed once.
 pub repeated-texts : (u : Text) (ts : List Text) → times u (repeated ts) ≡ bit (leb 2 (times u ts))
@@ -113,43 +113,21 @@ pub one-form :
     (T : List ℕ) (rows : ℕ) (s : List ℕ) (T′ : List ℕ) (rows′ : ℕ) (s′ : List ℕ) → Words T → Words T′ → writable T rows s ≡ true
     → writable T′ rows′ s′ ≡ true
     → MeanSame s s′ (rowsOf 4096 T rows) (rowsOf 4096 T′ rows′) ↔ (written s (rowsOf 4096 T rows) ≡ written s′ (rowsOf 4096 T′ rows′))
-one-form T rows s T′ rows′ s′ w w′ e e′ = conclude.same-form (form-derived T rows s w e) (form-derived T′ rows′ s′ w′ e′)
+one-form T rows s T′ rows′ s′ w w′ e e′ = conclude.same-form (form-derived T rows s e w) (form-derived T′ rows′ s′ e′ w′)
 
--- FROM THE READER. A table that the reader made holds the rows that it read; with its message as text bytes it is writable.
-module _ (s : List ℕ) (words : ℕ) {rows : List Row} {used : ℕ} {book : Book} (o : Octets s) (e : reading s words ≡ got rows used book) where
-  abbrev pub readTable : List ℕ
-  readTable = tableOf words (reading s words)
-
-  table-words : readTable ≡ putRows (roomOf 4096 words) (replicate words 0) 0 rows
-  table-words = ap (tableOf words) e
-
-  table-length : length readTable ≡ words
-  table-length = ap length table-words ∙ length-putRows (roomOf 4096 words) (replicate words 0) 0 rows ∙ length-replicate words 0
-
-  fits : length rows ≤ roomOf 4096 words
+-- FROM THE READER. A table that the reader made holds the rows that it read; with its message as text bytes it is writable; and if at most 256
+-- texts repeat, its written form is no longer than the bytes that the message used.
+module _ (s : List ℕ) (words : ℕ) {rows : List Row} {used : ℕ} {book : Book} (e : reading s words ≡ got rows used book) where
+  pub read-rows : rowsOf 4096 (tableOf words (got rows used book)) (length rows) ≡ rows
   unfolding reading
-  fits = sound 65536 s (roomOf 4096 words) 32 e .fits
+  read-rows = return.read-rows 65536 4096 32 s words e
 
-  pub read-rows : rowsOf 4096 readTable (length rows) ≡ rows
-  unfolding rowsOf
-  read-rows =
-      ap (λ (n : ℕ). from (rowAt (roomOf 4096 n) readTable) 0 (length rows)) table-length
-      ∙ ap (λ (l : List ℕ). from (rowAt (roomOf 4096 words) l) 0 (length rows)) table-words
-      ∙ rows-there (roomOf 4096 words) (replicate words 0) 0 rows (omega (arith, fits)) (omega (arith, length-replicate {A = ℕ} words 0))
-
-  pub read-writable : writable readTable (length rows) s ≡ true
+  pub read-writable : Octets s → writable (tableOf words (got rows used book)) (length rows) s ≡ true
   unfolding reading writable
-  read-writable =
-      let d = sound 65536 s (roomOf 4096 words) 32 e in
-      let n = conclude.some-cell (d .begins .derived) in
-      conclude.derived-writable 65536 4096 32 readTable (length rows) s
-      (record { text = d .bytes; some-row = omega (arith, n, counts (d .meaning)); few = omega (arith, fits); there = omega (arith, fits, table-length) })
-      (record { cells = d .cells; meaning = rw read-rows (d .meaning); derived = d .begins .derived }) (below-take used o)
+  read-writable o = return.read-writable 65536 4096 32 s words e o
 
-  -- And if at most 256 texts repeat, its written form is no longer than the message's used bytes.
-  pub read-short : length (repeated (textsOf s rows)) ≤ 256 → (length (written s rows) ≤ used) × (used ≤ length s)
+  pub read-short :
+      length (repeated (textsOf s (rowsOf 4096 (tableOf words (got rows used book)) (length rows)))) ≤ 256
+      → (length (written s (rowsOf 4096 (tableOf words (got rows used book)) (length rows))) ≤ used) × (used ≤ length s) × (length s ≤ 65536)
   unfolding reading
-  read-short few =
-      let d = sound 65536 s (roomOf 4096 words) 32 e in
-      conclude.no-shorter (roomOf 4096 words) 32 (d .meaning) few (within-got 65536 s (roomOf 4096 words) 32 e .1)
-      (same-meaning (d .meaning) (d .meaning) .1 refl)
+  read-short few = return.read-short 65536 4096 32 s words e few

@@ -98,7 +98,7 @@ over-by kind b r (got new at book₁) {rows} {to} {book} e =
     let j : book₁ ≡ book = cc in
     record { new = new; is = cc; all = cc }
 
-there-by : (b : Bool) (v : Verdict) → allThere b v ≡ Fine → (b ≡ true) × (v ≡ Fine)
+pub there-by : (b : Bool) (v : Verdict) → allThere b v ≡ Fine → (b ≡ true) × (v ≡ Fine)
 there-by true v e = (refl, e)
 there-by false v e = let z : _≡_ {A = ℕ} 0 1 = cc in absurd (omega arith)
 
@@ -194,27 +194,27 @@ pub data CallOrResponse (d : ℕ) : List ℕ → List Cell → List Sent → Typ
   of-call : {xs : List ℕ} {cs : List Cell} {fs : List Sent} → Call d xs cs fs → CallOrResponse d xs cs fs
   of-response : {xs : List ℕ} {cs : List Cell} {fs : List Sent} → Response d xs cs fs → CallOrResponse d xs cs fs
 
-other-join : Joins OneName OneBinary OtherBody
+pub other-join : Joins OneName OneBinary OtherBody
 other-join xs ys us vs fs gs (one-name x k) (one-binary y) = other-body x k y refl
 
-call-join : {d : ℕ} → Joins OneString (Array d) (CallBody d)
+pub call-join : {d : ℕ} → Joins OneString (Array d) (CallBody d)
 call-join xs ys us vs fs gs (one-string x) y = call-body x y refl
 
 pub pair-join : {d : ℕ} → Joins OneString (Value d) (Pair d)
 pair-join xs ys us vs fs gs (one-string x) y = pair x y refl
 
-other-make :
+pub other-make :
     {d : ℕ} {xs : List ℕ} {cs : List Cell} {fs : List Sent} → OtherBody xs cs fs → Value d (code "O" ∷ xs) (cell 12 (length cs) (holding 2) ∷ cs) fs
 other-make (other-body x k y e) = other-value (other x k y e)
 
-call-make :
+pub call-make :
     {d : ℕ} {xs : List ℕ} {cs : List Cell} {fs : List Sent} → CallBody d xs cs fs → Call d (code "C" ∷ xs) (cell 1 (length cs) (holding 2) ∷ cs) fs
 call-make (call-body x y e) = call x y e refl
 
-binary-make : {d : ℕ} {xs : List ℕ} {cs : List Cell} {fs : List Sent} → OneBinary xs cs fs → Value d xs cs fs
+pub binary-make : {d : ℕ} {xs : List ℕ} {cs : List Cell} {fs : List Sent} → OneBinary xs cs fs → Value d xs cs fs
 binary-make (one-binary x) = binary-value x
 
-string-make : {d : ℕ} {xs : List ℕ} {cs : List Cell} {fs : List Sent} → OneString xs cs fs → Value d xs cs fs
+pub string-make : {d : ℕ} {xs : List ℕ} {cs : List Cell} {fs : List Sent} → OneString xs cs fs → Value d xs cs fs
 string-make (one-string x) = string-value x
 
 -- a byte by its tag
@@ -750,7 +750,7 @@ agree-by (x ∷ s) (y ∷ p) e h = go (eqb x y) refl e (λ i. agree-by s p i (om
     go true i j k = let f = k j in record { rest = f .rest; is = ap₂ (λ (a : ℕ) (l : List ℕ). a ∷ l) (eqb-true x y i) (f .is) }
     go false i j k = clash j refl
 
-message-make : {d : ℕ} {xs : List ℕ} {cs : List Cell} {fs : List Sent} → CallOrResponse d xs cs fs → Message d (prefix ++ xs) cs fs
+pub message-make : {d : ℕ} {xs : List ℕ} {cs : List Cell} {fs : List Sent} → CallOrResponse d xs cs fs → Message d (prefix ++ xs) cs fs
 message-make (of-call x) = call-message x refl
 message-make (of-response x) = response-message x refl
 

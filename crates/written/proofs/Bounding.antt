@@ -1,9 +1,8 @@
 -- The written form is bytes: each is below 256 where the text bytes are. Assumes nothing.
-use Prim.Native.Nat.{ℕ, zero, suc, _+_, _/_, _%_, _≤_, _<_}
-use Prim.Native.Char.{code}
-use mathlib.Core.Path.{_≡_, refl, sym, ap, _∙_}
+use Prim.Native.Nat.{ℕ, _/_, _%_, _≤_, _<_}
+use mathlib.Core.Path.{_≡_, refl}
 use mathlib.Core.Bool.{Bool, true, false}
-use mathlib.Core.List.{List, [], _∷_, _++_}
+use mathlib.Core.List.{List, [], _∷_}
 use native.Mathlib.Omega.{arith}
 use lib.Dec.{eqb, ltb, lit<}
 use lib.Pow.{areBytes}
@@ -16,7 +15,7 @@ use Rattle.draft.specs.declared.Content.{Content as ContentOf}
 use Rattle.draft.specs.declared.Content.the-variants as content
 use Rattle.draft.specs.declared.Item.{Item}
 use Rattle.draft.specs.declared.Item.the-variants as item
-use Rattle.draft.specs.Bytes.{Below, none-below, and-below, part}
+use Rattle.draft.specs.Bytes.{Below, none-below, and-below}
 use Rattle.draft.specs.Rows.{itemOf}
 use Rattle.draft.specs.Read.{prefix}
 use Rattle.draft.specs.Grammar.{Payload, Cell, cell, Sent, regular, recorded, recalled}
@@ -24,7 +23,7 @@ use Rattle.draft.specs.Meaning.{says-holding, says-number, says-contents, means
 use Rattle.draft.specs.Strings.{Text, keep, repeated, kept, position, choose, sents, plan}
 use Rattle.draft.specs.Written.{lsb, counted, stringBytes, letter, contentBytes, next}
 use Rattle.written.proofs.Sending.{position-below}
-use Rattle.written.proofs.Standing.{below-append, below-take, below-drop}
+use Rattle.written.proofs.Limiting.{below-append, below-take, below-drop}
 use Rattle.written.proofs.Forming.{content as contentIn, numbered, strings, bytesFor, form, formed}
 
 -- cells whose content is bytes, texts that are, and strings as sent that are

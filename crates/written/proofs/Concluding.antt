@@ -1,11 +1,11 @@
 -- The theorems of a whole table, from walking, fitting and the least cost. Assumes nothing.
 use mathlib.Core.Path.{_≡_, refl, sym, ap, _∙_}
-use mathlib.Core.Bool.{Bool, true, false, _&&_}
+use mathlib.Core.Bool.{true}
 use mathlib.Core.Logic.{_↔_}
 use mathlib.Core.List.{List, [], _∷_, _++_}
-use Prim.Native.Nat.{ℕ, zero, suc, _+_, _*_, _≤_, _<_}
+use Prim.Native.Nat.{ℕ, zero, suc, _+_, _*_, _≤_}
 use native.Mathlib.Omega.{arith}
-use lib.Dec.{leb, eqb}
+use lib.Dec.{leb}
 use lib.ListN.{length, length-append}
 use lib.Seq.{take-append-seam}
 use borrow.Author.Tests.{leb-true, le-leb, eqb-true, eq-eqb}
@@ -14,9 +14,9 @@ use Rattle.draft.specs.declared.Row.{Row}
 use Rattle.draft.specs.declared.Extent.{Extent}
 use Rattle.draft.specs.declared.Extent.the-variants.{Until, Unfit}
 use Rattle.draft.specs.Bytes.{Below}
-use Rattle.draft.specs.Table.{roomOf, rowAt, rowsAt, from}
+use Rattle.draft.specs.Table.{roomOf, rowAt, from}
 use Rattle.draft.specs.Codebook.{Book}
-use Rattle.draft.specs.Read.{got, prefix, message}
+use Rattle.draft.specs.Read.{got, message}
 use Rattle.draft.specs.Grammar.{Cell, Sent, Message, call-message, response-message, call, value-response, fault-response, Derives, Begins}
 use Rattle.draft.specs.Meaning.{MeanSame, Realises}
 use Rattle.draft.specs.Strings.{repeated, textsOf, plan}
@@ -24,12 +24,13 @@ use Rattle.draft.specs.Writable.{callOrResponse, wholly, writableWithin}
 use Rattle.draft.specs.Written.{written, rowsOf}
 use Rattle.exact.proofs.Standing.{ends}
 use Rattle.exact.proofs.Realising.{counts, same-meaning}
-use Rattle.exact.proofs.Deriving.{CallOrResponse, of-call, of-response, sound}
-use Rattle.exact.proofs.Concluding.{begins, begins-once}
+use Rattle.exact.proofs.Deriving.{CallOrResponse, message-make, sound}
+use Rattle.exact.proofs.Concluding.{begins-once}
 use Rattle.written.specs.Derivable.{DerivesRows, Within}
 use Rattle.written.proofs.Sending.{plan-texts, plan-legal}
-use Rattle.written.proofs.Forming.{strings, form, formed, fixed, texts-same, written-formed, formed-length}
-use Rattle.written.proofs.Standing.{below-at, stands-realises, realises-stands}
+use Rattle.written.proofs.Forming.{strings, formed, fixed, texts-same, written-formed, formed-length}
+use Rattle.written.proofs.Limiting.{below-at}
+use Rattle.written.proofs.Standing.{stands-realises, realises-stands}
 use Rattle.written.proofs.Measuring.{measured, kept}
 use Rattle.written.proofs.Planning.{plan-least}
 use Rattle.written.proofs.Bounding.{cells-below, formed-below}
@@ -41,6 +42,10 @@ unfolding from
 from-length f r zero = refl
 from-length f r (suc n) = ap suc (from-length f (suc r) n)
 
+pub rows-length : (most : ℕ) (T : List ℕ) (rows : ℕ) → length (rowsOf most T rows) ≡ rows
+unfolding rowsOf
+rows-length most T rows = from-length (rowAt (roomOf most (length T)) T) 0 rows
+
 wholly-by : (rows : ℕ) (o : Extent) → wholly rows o ≡ true → o ≡ Until rows
 wholly-by rows (Until r) e = ap Until (eqb-true r rows e)
 wholly-by rows Unfit e = clash e refl
@@ -50,13 +55,9 @@ formed-derives : {d : ℕ} {cs : List Cell} → Writes (CallOrResponse d) cs →
 formed-derives {d} {cs} w =
     record {
       sents = plan (strings cs);
-      derivation = go (w .derives (plan (strings cs)) (plan-texts (strings cs)));
+      derivation = message-make (w .derives (plan (strings cs)) (plan-texts (strings cs)));
       legal = plan-legal (strings cs);
     }
-  where
-    go : {xs : List ℕ} {fs : List Sent} → CallOrResponse d xs cs fs → Message d (prefix ++ xs) cs fs
-    go (of-call x) = call-message x refl
-    go (of-response x) = response-message x refl
 
 -- the rows of a table by their numbers
 abbrev rowIn : ℕ → List ℕ → ℕ → Row
@@ -70,32 +71,51 @@ module _ (bytes most deep : ℕ) (T : List ℕ) (rows : ℕ) (s : List ℕ) wher
       let g = both (leb 1 rows) _ (f .1) in
       let h = both (leb rows most) _ (g .1) in
       let i = both (leb (rows * 4) (length T)) _ (h .1) in (
-        record { text = leb-true _ _ (f .0); some-row = leb-true _ _ (g .0); few = leb-true _ _ (h .0); there = leb-true _ _ (i .0) },
+        record {
+          text = omega (arith, leb-true (length s) bytes (f .0));
+          some-row = omega (arith, leb-true 1 rows (g .0));
+          few = omega (arith, leb-true rows most (h .0));
+          there = omega (arith, leb-true (rows * 4) (length T) (i .0));
+        },
         wholly-by rows _ (i .1),
       )
 
   pub within : writableWithin bytes most deep T rows s ≡ true → Within bytes most T rows s
   within e = tests e .0
 
-  -- a writable table's written form is derived, with the table's meaning
-  pub writable-derived : Below 4294967296 T → writableWithin bytes most deep T rows s ≡ true → DerivesRows deep (written s (rowsOf most T rows)) s (rowsOf most T rows)
+  -- a writable table has a meaning, and its written form is derived with that meaning if it holds words of 32 bits
+  meant :
+      writableWithin bytes most deep T rows s ≡ true
+      → (cells : List Cell) × Realises s 0 (rowsOf most T rows) cells × (Below 4294967296 T → Writes (CallOrResponse deep) cells)
   unfolding rowsOf rowAt
-  writable-derived b e =
-      let g = walked (rowIn most T) rows s (λ r. (below-at _ (omega arith) b, below-at _ (omega arith) b)) deep 0 rows (tests e .1) in
+  meant e =
+      let g = walked (rowIn most T) rows s deep 0 rows (tests e .1) in
       let i : length (g .cells) ≡ rows = omega (arith, g .ends) in
-      let m : Realises s 0 (from (rowIn most T) 0 rows) (g .cells) = rw i at (stands-realises (g .stands)) in
-      record { cells = g .cells; meaning = m; derived = rw (written-formed m) (formed-derives (g .writes)) }
+      (g .cells, rw i at (stands-realises (g .stands)), λ b. g .writes (λ r. (below-at _ (omega arith) b, below-at _ (omega arith) b)))
+
+  pub writable-means : writableWithin bytes most deep T rows s ≡ true → (cells : List Cell) × Realises s 0 (rowsOf most T rows) cells
+  writable-means e = (meant e .0, meant e .1)
+
+  pub writable-derived :
+      Below 4294967296 T → writableWithin bytes most deep T rows s ≡ true → DerivesRows deep (written s (rowsOf most T rows)) s (rowsOf most T rows)
+  writable-derived b e =
+      let g = meant e in
+      record { cells = g .0; meaning = g .1; derived = rw (written-formed (g .1)) (formed-derives (g .2 b)) }
 
   -- rows with a meaning that is derived in bytes are writable
   pub derived-writable : {xs : List ℕ} → Within bytes most T rows s → DerivesRows deep xs s (rowsOf most T rows) → Below 256 xs → writableWithin bytes most deep T rows s ≡ true
   unfolding writableWithin rowsOf
   derived-writable w g b =
       let d = g .derived in
-      let n : length (g .cells) ≡ rows = sym (counts (g .meaning)) ∙ from-length (rowIn most T) 0 rows in
+      let n : length (g .cells) ≡ rows = sym (counts (g .meaning)) ∙ rows-length most T rows in
       let h = message-fits (rowIn most T) rows s (d .derivation) b (kept (d .legal) (measured (d .derivation) .honest)) in
       let e : callOrResponse (rowIn most T) rows s deep 0 ≡ Until (0 + length (g .cells)) = h .walks 0 (realises-stands rows (g .meaning)) (omega (arith, n)) in
       let i : callOrResponse (rowIn most T) rows s deep 0 ≡ Until rows = e ∙ ap Until (omega (arith, n)) in
-      rw (le-leb _ _ (w .text), le-leb _ _ (w .some-row), le-leb _ _ (w .few), le-leb _ _ (w .there), i) (eq-eqb rows rows refl)
+      let a : leb (length s) bytes ≡ true = le-leb (length s) bytes (omega (arith, w .text)) in
+      let c : leb 1 rows ≡ true = le-leb 1 rows (omega (arith, w .some-row)) in
+      let f : leb rows most ≡ true = le-leb rows most (omega (arith, w .few)) in
+      let t : leb (rows * 4) (length T) ≡ true = le-leb (rows * 4) (length T) (omega (arith, w .there)) in
+      rw (a, c, f, t, i) (eq-eqb rows rows refl)
 
 -- the written form is bytes
 pub written-below : {s : List ℕ} {xs : List Row} {cs : List Cell} → Below 256 s → Realises s 0 xs cs → Below 256 (written s xs)

@@ -1,12 +1,12 @@
 -- Rows with a meaning that the grammar derives, in bytes, are walked to their end: one law for each combinator of walking, then one for each
 -- production. Assumes nothing.
-use mathlib.Core.Path.{_≡_, refl, sym, ap, _∙_}
+use mathlib.Core.Path.{_≡_, refl, ap, _∙_}
 use mathlib.Core.Bool.{true}
 use mathlib.Core.List.{List, [], _∷_, _++_}
 use Prim.Native.Nat.{ℕ, zero, suc, _+_, _≤_, _<_}
 use native.Mathlib.Omega.{arith}
 use native.Mathlib.Nat.{add-zero}
-use lib.Dec.{eqb, leb, ltb}
+use lib.Dec.{leb}
 use lib.ListN.{length, length-append}
 use borrow.Author.Tests.{eq-eqb, le-leb, lt-ltb}
 use Rattle.draft.specs.declared.Row.{Row}
@@ -15,17 +15,17 @@ use Rattle.draft.specs.declared.Content.{Content as ContentOf}
 use Rattle.draft.specs.declared.Content.the-variants as content
 use Rattle.draft.specs.declared.Item.{Item}
 use Rattle.draft.specs.declared.Item.the-variants as item
-use Rattle.draft.specs.declared.Extent.{Extent}
 use Rattle.draft.specs.declared.Extent.the-variants.{Until}
-use Rattle.draft.specs.Bytes.{Below, none-below, and-below, part}
-use Rattle.draft.specs.Rows.{kindOf, itemOf}
-use Rattle.draft.specs.Content.{contentRule, verdict, nameRule}
+use Rattle.draft.specs.Bytes.{Below, and-below}
+use Rattle.draft.specs.Rows.{itemOf}
+use Rattle.draft.specs.Content.{verdict, nameRule}
 use Rattle.draft.specs.Read.{textOf, prefix}
 use Rattle.draft.specs.Writable.{ruled, Walk, pair as walk-pair, items, alike, closed, over, holding as walk-holding, integerItem, booleanItem, sized, contentItem, counted, arrayItem, only, string as walk-string, name, otherItem, structItem, item as walk-item, value, nested, first, callOrResponse}
-use Rattle.draft.specs.Grammar.{Payload, Message, call-message, response-message, holding, number, contents, Cell, cell, content-cell, Sent, Keeps, Call, call, Response, value-response, fault-response, fault, Value, integer-value, boolean-value, double-value, datetime-value, array-value, struct-value, string-value, other-value, integer, boolean-true, boolean-false, double, datetime, binary-value, Binary, binary, Array, array, Values, no-values, more-values, Struct, struct, Pairs, no-pairs, more-pairs, Pair, pair, Other, other, String, regular-string, recorded-string, recalled-string, string-data}
+use Rattle.draft.specs.Grammar.{Payload, Message, call-message, response-message, holding, number, Cell, cell, content-cell, Sent, Keeps, Call, call, Response, value-response, fault-response, fault, Value, integer-value, boolean-value, double-value, datetime-value, array-value, struct-value, string-value, other-value, boolean-true, boolean-false, double, datetime, binary-value, Binary, binary, Array, array, Values, no-values, more-values, Struct, struct, Pairs, no-pairs, more-pairs, Pair, pair, Other, other, String, regular-string, recorded-string, recalled-string}
 use Rattle.draft.specs.Meaning.{says-holding, says-number, says-contents, Means, means}
 use Rattle.exact.proofs.Standing.{long}
-use Rattle.written.proofs.Standing.{Stands, stands-none, stands-more, stands-head, stands-tail, stands-front, stands-back, below-front, below-back}
+use Rattle.written.proofs.Limiting.{below-front, below-back}
+use Rattle.written.proofs.Standing.{Stands, stands-none, stands-more, stands-head, stands-tail, stands-front, stands-back}
 use Rattle.written.proofs.Sending.{textIn}
 use Rattle.written.proofs.Measuring.{Kept, kept-more, kept-front, kept-back}
 use Rattle.written.proofs.Walking.{value-is}

@@ -3,7 +3,7 @@
 use mathlib.Core.Path.{_≡_, refl, sym, ap, ap₂, _∙_}
 use mathlib.Core.Bool.{Bool, true, false}
 use mathlib.Core.List.{List, [], _∷_, _++_, append-assoc}
-use Prim.Native.Nat.{ℕ, zero, suc, _+_}
+use Prim.Native.Nat.{ℕ, _+_}
 use Prim.Native.Char.{code}
 use native.Mathlib.Omega.{arith}
 use lib.Dec.{eqb}
@@ -11,7 +11,6 @@ use lib.ListN.{length, length-append}
 use borrow.Author.Tests.{eqb-true}
 use Rattle.text.proofs.Comparing.{clash}
 use Rattle.draft.specs.declared.Row.{Row}
-use Rattle.draft.specs.declared.Content.{Content as ContentOf}
 use Rattle.draft.specs.declared.Content.the-variants.{Double, DateTime, Binary, Text}
 use Rattle.draft.specs.declared.Item.{Item}
 use Rattle.draft.specs.declared.Item.the-variants.{Call, Response, Fault, Integer, Boolean, Content, Array, Struct, Other, Unknown}
@@ -19,11 +18,11 @@ use Rattle.draft.specs.Bytes.{part}
 use Rattle.draft.specs.Rows.{kindOf, pickItem, itemOf}
 use Rattle.draft.specs.Read.{prefix}
 use Rattle.draft.specs.Grammar.{Payload, holding, number, contents, Cell, cell, Sent, regular, recorded, recalled}
-use Rattle.draft.specs.Meaning.{hasNumber, hasContent, Says, says-holding, says-number, says-contents, Means, means, Realises, no-more, and-then}
-use Rattle.draft.specs.Strings.{Text as TextBytes, keep, isString, textsOf, cost, costs, plan}
+use Rattle.draft.specs.Meaning.{hasNumber, hasContent, Says, says-holding, says-number, says-contents, means, Realises, no-more, and-then}
+use Rattle.draft.specs.Strings.{Text as TextBytes, keep, textsOf, cost, costs, plan}
 use Rattle.draft.specs.Written.{lsb, counted, stringBytes, letter, contentBytes, bytesOf, itemBytes, next, itemsOf, messageOf, written}
 use Rattle.exact.proofs.Realising.{content-has, number-no-content}
-use Rattle.written.proofs.Sending.{texts, first-sent, plan-texts}
+use Rattle.written.proofs.Sending.{texts, plan-texts}
 
 -- what a cell says
 abbrev pub held : Payload → ℕ
@@ -64,26 +63,26 @@ form [] fs = []
 form (cell k m p ∷ cs) fs = next (eqb k (kindOf Text)) (bytesFor (itemOf k) p) fs (λ left. form cs left)
 
 -- the kind of an item
-abbrev pub KindOf : Item → ℕ → Type 0
-KindOf Call k = k ≡ 1
-KindOf Response k = k ≡ 2
-KindOf Fault k = k ≡ 3
-KindOf Integer k = k ≡ 4
-KindOf Boolean k = k ≡ 5
-KindOf (Content c) k = k ≡ kindOf c
-KindOf Array k = k ≡ 9
-KindOf Struct k = k ≡ 10
-KindOf Other k = k ≡ 12
-KindOf Unknown k = Unit {0}
+abbrev pub HasKind : Item → ℕ → Type 0
+HasKind Call k = k ≡ 1
+HasKind Response k = k ≡ 2
+HasKind Fault k = k ≡ 3
+HasKind Integer k = k ≡ 4
+HasKind Boolean k = k ≡ 5
+HasKind (Content c) k = k ≡ kindOf c
+HasKind Array k = k ≡ 9
+HasKind Struct k = k ≡ 10
+HasKind Other k = k ≡ 12
+HasKind Unknown k = Unit {0}
 
-item-or : (k n : ℕ) (x y : Item) → (k ≡ n → KindOf x k) → KindOf y k → KindOf (pickItem (eqb k n) x y) k
+item-or : (k n : ℕ) (x y : Item) → (k ≡ n → HasKind x k) → HasKind y k → HasKind (pickItem (eqb k n) x y) k
 item-or k n x y h i = go (eqb k n) refl
   where
-    go : (b : Bool) → eqb k n ≡ b → KindOf (pickItem b x y) k
+    go : (b : Bool) → eqb k n ≡ b → HasKind (pickItem b x y) k
     go true e = h (eqb-true k n e)
     go false e = i
 
-pub item-kind : (k : ℕ) → KindOf (itemOf k) k
+pub item-kind : (k : ℕ) → HasKind (itemOf k) k
 unfolding itemOf
 item-kind k =
     item-or k 1 Call _ (λ e. e)
@@ -116,7 +115,7 @@ module _ {s : List ℕ} {x : Row} where
   says-held (says-number h a b) n m = clash h n
   says-held (says-contents h i j) n m = clash h m
 
-  bytes-same : {p : Payload} (i : Item) → KindOf i (x .kind) → Says s x p → bytesOf s i x ≡ bytesFor i p
+  bytes-same : {p : Payload} (i : Item) → HasKind i (x .kind) → Says s x p → bytesOf s i x ≡ bytesFor i p
   unfolding hasNumber hasContent
   bytes-same Call e y = refl
   bytes-same Response e y = refl
@@ -155,7 +154,7 @@ pub items-same : {s : List ℕ} {r : ℕ} {xs : List Row} {cs : List Cell} → R
 unfolding itemsOf form itemBytes
 items-same no-more fs = refl
 items-same {s} (and-then {r} {x} {c} {xs} {cs} (means {kind = k} {below = m} {p = p} h e y) t) fs =
-    let i : KindOf (itemOf k) (x .kind) = rw h (item-kind k) in
+    let i : HasKind (itemOf k) (x .kind) = rw h (item-kind k) in
     next-same (eqb (x .kind) 11) (eqb k 11) fs (λ left. itemsOf s xs left) (λ left. form cs left) (ap (λ (n : ℕ). eqb n 11) h)
     (ap (λ (n : ℕ). bytesOf s (itemOf n) x) h ∙ bytes-same (itemOf k) i y) (items-same t)
 

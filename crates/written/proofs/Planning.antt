@@ -1,8 +1,8 @@
 -- How the written form sends its strings: with at most 256 repeated texts at the least cost, and always in bytes. Assumes nothing.
-use Prim.Native.Nat.{ℕ, zero, suc, _+_, _/_, _%_, _≤_, _<_}
+use Prim.Native.Nat.{ℕ, _+_, _≤_}
 use mathlib.Core.Path.{_≡_, refl, sym, ap, _∙_}
 use mathlib.Core.Bool.{Bool, true, false, _||_}
-use mathlib.Core.List.{List, [], _∷_, _++_}
+use mathlib.Core.List.{List, [], _∷_}
 use native.Mathlib.Omega.{arith}
 use native.Mathlib.Nat.{zero-add}
 use lib.ListN.{length}
@@ -11,11 +11,12 @@ use lib.Dec.{ltb, leb}
 use borrow.Author.Tests.{ltb-true, ltb-false, lt-leb, le-leb}
 use Rattle.text.specs.Texts.{same, among}
 use Rattle.text.proofs.Comparing.{clash, same-is, same-self}
-use Rattle.draft.specs.Grammar.{Sent, regular, recorded, recalled, Legal}
-use Rattle.draft.specs.Strings.{Text, repeated, kept, position, choose, sentOf, sents, plan, cost, costs}
+use Rattle.draft.specs.Grammar.{Sent, regular, recorded, Legal}
+use Rattle.draft.specs.Strings.{Text, repeated, kept, choose, sentOf, sents, plan, cost, costs}
+use Rattle.written.specs.Occurring.{bit, times}
 use Rattle.written.proofs.Sending.{texts}
-use Rattle.written.proofs.Repeating.{same-swap, bit, times, among-times, repeated-once}
-use Rattle.written.proofs.Saving.{also, either, least, bound, has}
+use Rattle.written.proofs.Repeating.{among-times, repeated-once}
+use Rattle.written.proofs.Saving.{also, least, bound, has}
 
 two : (n : ℕ) → ltb 0 n ≡ leb 2 (1 + n)
 two n = go (ltb 0 n) refl

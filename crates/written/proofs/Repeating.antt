@@ -1,6 +1,5 @@
--- How often a text occurs among texts, and the law of the repeated texts: each text that occurs at least twice is listed once, and no other is
--- listed. Assumes nothing.
-use Prim.Native.Nat.{ℕ, zero, suc, _+_, _≤_, _<_}
+-- The law of the repeated texts: each text that occurs at least twice is listed once, and no other is listed. Assumes nothing.
+use Prim.Native.Nat.{ℕ, _+_}
 use mathlib.Core.Path.{_≡_, refl, sym, ap, _∙_}
 use mathlib.Core.Bool.{Bool, true, false, _&&_, _||_, not}
 use mathlib.Core.List.{List, [], _∷_}
@@ -10,6 +9,7 @@ use lib.Dec.{ltb, leb}
 use borrow.Author.Tests.{ltb-true, ltb-false, lt-ltb, lt-leb, le-leb}
 use Rattle.text.specs.Texts.{same, among}
 use Rattle.text.proofs.Comparing.{clash, same-is, same-self, same-ne}
+use Rattle.written.specs.Occurring.{bit, times}
 use Rattle.draft.specs.Strings.{Text, keep, repeats, repeated}
 
 pub same-swap : (u t : Text) → same u t ≡ same t u
@@ -18,15 +18,6 @@ same-swap u t = go (same t u) refl
     go : (b : Bool) → same t u ≡ b → same u t ≡ b
     go true e = rw (same-is t u e) (same-self u)
     go false e = same-ne u t (λ h. clash (rw h (same-self t)) e)
-
-abbrev pub bit : Bool → ℕ
-bit true = 1
-bit false = 0
-
--- how often t is among the texts
-unfoldable pub times : Text → List Text → ℕ
-times t [] = 0
-times t (u ∷ us) = bit (same t u) + times t us
 
 -- to be among texts is to occur in them
 pub among-times : (t : Text) (ts : List Text) → among ts t ≡ ltb 0 (times t ts)

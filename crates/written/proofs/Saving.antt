@@ -1,18 +1,19 @@
 -- The least that strings can cost, and that whatever is sent legally costs at least that. Assumes nothing.
-use Prim.Native.Nat.{ℕ, zero, suc, _+_, _≤_}
+use Prim.Native.Nat.{ℕ, _+_, _≤_}
 use mathlib.Core.Path.{_≡_, refl, sym, ap, _∙_}
 use mathlib.Core.Bool.{Bool, true, false, _||_}
-use mathlib.Core.Option.{Option, some}
+use mathlib.Core.Option.{some}
 use mathlib.Core.List.{List, [], _∷_}
 use native.Mathlib.Omega.{arith}
 use lib.Dec.{eqb}
 use lib.ListN.{length}
 use Rattle.text.specs.Texts.{same, among}
-use Rattle.text.proofs.Comparing.{clash, same-is, same-self}
-use Rattle.draft.specs.Grammar.{Sent, regular, recorded, recalled, Recording, text-at, first, look, Legal, legal-none, legal-regular, legal-recorded, legal-recalled}
+use Rattle.text.proofs.Comparing.{same-is, same-self}
+use Rattle.draft.specs.Grammar.{Sent, Recording, text-at, first, look, Legal, legal-none, legal-regular, legal-recorded, legal-recalled}
 use Rattle.draft.specs.Strings.{Text, cost, costs}
+use Rattle.written.specs.Occurring.{bit}
 use Rattle.written.proofs.Sending.{texts}
-use Rattle.written.proofs.Repeating.{bit, same-swap}
+use Rattle.written.proofs.Repeating.{same-swap}
 
 -- texts that can be recalled, as a test; and one more
 abbrev pub also : Text → (Text → Bool) → Text → Bool

@@ -1,15 +1,15 @@
 -- Strings as sent: the texts that they stand for, taken apart, and that the written form sends legally what it is to send. Assumes nothing.
 use mathlib.Core.Path.{_≡_, refl, sym, ap, ap₂, _∙_}
 use mathlib.Core.Bool.{Bool, true, false, _||_}
-use mathlib.Core.Option.{Option, some}
+use mathlib.Core.Option.{some}
 use mathlib.Core.List.{List, [], _∷_, _++_}
-use Prim.Native.Nat.{ℕ, zero, suc, _+_, _≤_, _<_}
+use Prim.Native.Nat.{ℕ, suc, _+_, _<_}
 use native.Mathlib.Omega.{arith}
 use lib.Dec.{eqb}
 use lib.ListN.{length}
 use borrow.Author.Tests.{eqb-true, eq-eqb}
 use Rattle.text.specs.Texts.{same, among}
-use Rattle.text.proofs.Comparing.{clash, same-is, same-self, same-ne}
+use Rattle.text.proofs.Comparing.{clash, same-is}
 use Rattle.draft.specs.Grammar.{Sent, regular, recorded, recalled, Recording, text-at, first, look, Legal, legal-none, legal-regular, legal-recorded, legal-recalled}
 use Rattle.draft.specs.Strings.{Text, onward, position, choose, sentOf, sents, kept, plan}
 

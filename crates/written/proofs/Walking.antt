@@ -4,13 +4,11 @@ use mathlib.Core.Path.{_≡_, refl, sym, ap, _∙_}
 use mathlib.Core.Bool.{Bool, true, false}
 use mathlib.Core.List.{List, [], _∷_, _++_, append-nil}
 use Prim.Native.Nat.{ℕ, zero, suc, _+_, _≤_, _<_, _%_}
-use Prim.Native.Char.{code}
 use native.Mathlib.Omega.{arith}
 use lib.Dec.{eqb, leb, ltb}
 use lib.ListN.{length, length-append}
 use borrow.Author.Tests.{eqb-true, leb-true}
 use Rattle.draft.specs.declared.Row.{Row}
-use Rattle.draft.specs.declared.Refusal.{Refusal}
 use Rattle.draft.specs.declared.Verdict.{Verdict}
 use Rattle.draft.specs.declared.Verdict.the-variants.{Fine, Bad}
 use Rattle.draft.specs.declared.Content.{Content as ContentOf}
@@ -21,18 +19,19 @@ use Rattle.draft.specs.declared.Extent.{Extent}
 use Rattle.draft.specs.declared.Extent.the-variants.{Until, Unfit}
 use Rattle.draft.specs.Bytes.{part}
 use Rattle.draft.specs.Rows.{kindOf, itemOf}
-use Rattle.draft.specs.Content.{contentRule, allThere, verdict, nameRule}
-use Rattle.draft.specs.Read.{textOf, prefix}
-use Rattle.draft.specs.Writable.{fit, ruled, then, Walk, pair as walk-pair, items, alike, closed, leaf, over, holding as walk-holding, integerItem, booleanItem, sized, Nest, floor, under, contentItem, counted as walk-counted, arrayItem, only, string as walk-string, name, otherItem, structItem, item as walk-item, value, nested, callItem, responseItem, faultItem, first, callOrResponse}
-use Rattle.draft.specs.Written.{lsb, counted, stringBytes, letter, size}
-use Rattle.draft.specs.Grammar.{Payload, holding, number, contents, Cell, cell, content-cell, Sent, regular, recorded, recalled, Keeps, Message, Call, call, Response, value-response, fault-response, fault, Value, integer-value, boolean-value, double-value, datetime-value, array-value, struct-value, string-value, other-value, integer, boolean-true, boolean-false, double, datetime, binary-value, binary, Array, array, Values, no-values, more-values, Struct, struct, Pairs, no-pairs, more-pairs, Pair, other, String, regular-string, recorded-string, recalled-string, string-data}
+use Rattle.draft.specs.Content.{contentRule, verdict, nameRule}
+use Rattle.draft.specs.Read.{textOf}
+use Rattle.draft.specs.Writable.{fit, ruled, then, Walk, pair as walk-pair, items, alike, closed, leaf, over, holding as walk-holding, integerItem, booleanItem, sized, Nest, floor, under, contentItem, counted as walk-counted, arrayItem, only, string as walk-string, name, otherItem, structItem, item as walk-item, value, nested, first, callOrResponse}
+use Rattle.draft.specs.Written.{lsb, counted, stringBytes}
+use Rattle.draft.specs.Grammar.{holding, number, Cell, cell, content-cell, Sent, regular, recorded, recalled, Keeps, Call, Response, value-response, fault-response, fault, Value, integer-value, boolean-value, double-value, datetime-value, array-value, struct-value, integer, boolean-true, boolean-false, double, datetime, binary, Array, array, Values, no-values, more-values, Struct, struct, Pairs, no-pairs, more-pairs, Pair, String, regular-string, recorded-string, recalled-string, string-data}
 use Rattle.draft.specs.Meaning.{hasNumber, hasContent, says-holding, says-number, says-contents, Means, means}
 use Rattle.exact.proofs.Standing.{long}
 use Rattle.exact.proofs.Realising.{content-has}
-use Rattle.exact.proofs.Deriving.{Production, Joins, OneString, one-string, OneName, one-name, OneBinary, one-binary, OtherBody, other-body, CallBody, call-body, CallOrResponse, of-call, of-response, pair-join}
+use Rattle.exact.proofs.Deriving.{Production, Joins, OneString, one-string, OneName, one-name, OneBinary, one-binary, OtherBody, CallBody, CallOrResponse, of-call, of-response, there-by, other-join, call-join, pair-join, other-make, call-make, binary-make, string-make}
 use Rattle.written.proofs.Sending.{textIn, texts, none-sent, first-sent, split}
-use Rattle.written.proofs.Forming.{strings, form, KindOf, item-kind, strings-append, form-append}
-use Rattle.written.proofs.Standing.{Stands, stands-none, stands-more, stands-one, stands-append, lsb-is}
+use Rattle.written.proofs.Forming.{strings, form, HasKind, item-kind, strings-append, form-append}
+use Rattle.written.proofs.Limiting.{lsb-is}
+use Rattle.written.proofs.Standing.{Stands, stands-none, stands-more, stands-one, stands-append}
 
 -- what an accepted walk says of the tests on its way
 module _ {to : ℕ} where
@@ -71,10 +70,6 @@ record Then (o : Extent) (more : ℕ → Extent) (to : ℕ) : Type 0 where
 then-by : (o : Extent) (more : ℕ → Extent) {to : ℕ} → then o more ≡ Until to → Then o more to
 then-by Unfit more e = unfit-until e
 then-by (Until r) more e = record { middle = r; is = refl; next = e }
-
-there-by : (b : Bool) (v : Verdict) → allThere b v ≡ Fine → (b ≡ true) × (v ≡ Fine)
-there-by true v e = (refl, e)
-there-by false v e = let z : _≡_ {A = ℕ} 0 1 = cc in absurd (omega arith)
 
 until-same : {r to : ℕ} → Until r ≡ Until to → r ≡ to
 until-same e = cc
@@ -160,17 +155,11 @@ module _ {d n : ℕ} (h : n < 4294967296) {cs : List Cell} where
 
 writes-other : {d : ℕ} {cs : List Cell} → Writes OtherBody cs → Writes (Value d) (cell 12 (length cs) (holding 2) ∷ cs)
 unfolding form strings itemOf
-writes-other {d} {cs} p = record { derives = λ gs e. go (p .derives gs e) }
-  where
-    go : {xs : List ℕ} {cs : List Cell} {fs : List Sent} → OtherBody xs cs fs → Value d (code "O" ∷ xs) (cell 12 (length cs) (holding 2) ∷ cs) fs
-    go (other-body x k y e) = other-value (other x k y e)
+writes-other p = record { derives = λ gs e. other-make (p .derives gs e) }
 
 writes-call : {d : ℕ} {cs : List Cell} → Writes (CallBody d) cs → Writes (CallOrResponse d) (cell 1 (length cs) (holding 2) ∷ cs)
 unfolding form strings itemOf
-writes-call {d} {cs} p = record { derives = λ gs e. go (p .derives gs e) }
-  where
-    go : {xs : List ℕ} {cs : List Cell} {fs : List Sent} → CallBody d xs cs fs → CallOrResponse d (code "C" ∷ xs) (cell 1 (length cs) (holding 2) ∷ cs) fs
-    go (call-body x y e) = of-call (call x y e refl)
+writes-call p = record { derives = λ gs e. of-call (call-make (p .derives gs e)) }
 
 writes-response : {d : ℕ} {cs : List Cell} → Writes (Value d) cs → Writes (CallOrResponse d) (cell 2 (length cs) (holding 1) ∷ cs)
 unfolding form strings itemOf
@@ -188,14 +177,18 @@ unfolding value nested
 value-is row rows s zero r = refl
 value-is row rows s (suc d) r = refl
 
--- the rows by their numbers, each with words that four bytes hold
-module _ (row : ℕ → Row) (rows : ℕ) (s : List ℕ) (words : (r : ℕ) → (row r .a < 4294967296) × (row r .b < 4294967296)) where
-  -- a walk that was accepted, over rows with a meaning that P derives
+-- the rows by their numbers, how many there are, and the text bytes
+module _ (row : ℕ → Row) (rows : ℕ) (s : List ℕ) where
+  -- a row's numbers are words of 32 bits, which four bytes hold
+  abbrev pub Words : Type 0
+  Words = (r : ℕ) → (row r .a < 4294967296) × (row r .b < 4294967296)
+
+  -- a walk that was accepted, over rows with a meaning; and P derives it if they are such words
   pub record Walked (P : Production) (r to : ℕ) : Type 0 where
     pub cells : List Cell
     pub ends : to ≡ r + length cells
     pub stands : Stands row s r cells
-    pub writes : Writes P cells
+    pub writes : Words → Writes P cells
 
   -- whatever f accepts, P derives
   record Sound (f : Walk) (P : Production) : Type 0 where
@@ -206,7 +199,7 @@ module _ (row : ℕ → Row) (rows : ℕ) (s : List ℕ) (words : (r : ℕ) → 
     walked : (r to : ℕ) → row r .kind ≡ k → f (row r) r ≡ Until to → Walked P r to
 
   -- an item of one row
-  one : {P : Production} {r to : ℕ} {c : Cell} → leaf (row r) r ≡ Until to → (row r .end ≡ r + 1 → Means s r (row r) c) → Writes P (c ∷ []) → Walked P r to
+  one : {P : Production} {r to : ℕ} {c : Cell} → leaf (row r) r ≡ Until to → (row r .end ≡ r + 1 → Means s r (row r) c) → (Words → Writes P (c ∷ [])) → Walked P r to
   one {r = r} {to} {c} e m w =
       let f = closed-by (row r) (Until (r + 1)) e in
       let i : r + 1 ≡ to = until-same (f .1) in
@@ -228,7 +221,7 @@ module _ (row : ℕ → Row) (rows : ℕ) (s : List ℕ) (words : (r : ℕ) → 
       let i : x .a + x .b ≤ length s = leb-true _ _ (h .0) in
       let l : x .b ≡ length (part s (x .a) (x .b)) = long s (x .a) (x .b) i in
       one (g .1) (λ z. means k (omega (arith, z)) (says-contents (rw k (content-has c)) i refl))
-      (make (omega (arith, l, words r .1)) (sym (ap (sized c) l) ∙ f .0) (h .1))
+      (λ w. make (omega (arith, l, w r .1)) (sym (ap (sized c) l) ∙ f .0) (h .1))
 
   content-sound :
       (c : ContentOf) (P : Production)
@@ -270,7 +263,7 @@ module _ (row : ℕ → Row) (rows : ℕ) (s : List ℕ) (words : (r : ℕ) → 
         cells = g .cells ++ t .cells;
         ends = omega (arith, e, t .ends, length-append (g .cells) (t .cells));
         stands = stands-append (g .stands) (rw e at (t .stands));
-        writes = writes-join (g .cells) (t .cells) make (g .writes) (t .writes);
+        writes = λ w. writes-join (g .cells) (t .cells) make (g .writes w) (t .writes w);
       }
 
   pair-sound : {P Q : Production} (T : Production) {f g : Walk} → Joins P Q T → Sound f P → Sound g Q → Sound (walk-pair f g) T
@@ -282,7 +275,7 @@ module _ (row : ℕ → Row) (rows : ℕ) (s : List ℕ) (words : (r : ℕ) → 
   over-walked :
       {P Q : Production} (k b : ℕ) {r to : ℕ} {o : Extent} → hasNumber k ≡ false → hasContent k ≡ false → row r .kind ≡ k → row r .b ≡ b
       → over (row r) o ≡ Until to → (o ≡ Until to → Walked P (r + 1) to)
-      → ((cs : List Cell) → Writes P cs → Writes Q (cell k (length cs) (holding b) ∷ cs)) → Walked Q r to
+      → (Words → (cs : List Cell) → Writes P cs → Writes Q (cell k (length cs) (holding b) ∷ cs)) → Walked Q r to
   over-walked k b {r} {to} {o} h i j l e p make =
       let f = over-by (row r) o e in
       let g = p (f .2) in
@@ -291,7 +284,7 @@ module _ (row : ℕ → Row) (rows : ℕ) (s : List ℕ) (words : (r : ℕ) → 
         cells = cell k (length (g .cells)) (holding b) ∷ g .cells;
         ends = omega (arith, g .ends);
         stands = stands-more (means j (f .1 ∙ g .ends) (says-holding (rw j h) (rw j i) (f .0) l)) (rw z at (g .stands));
-        writes = make (g .cells) (g .writes);
+        writes = λ w. make w (g .cells) (g .writes w);
       }
 
   -- the same, of a settled number of things
@@ -300,7 +293,7 @@ module _ (row : ℕ → Row) (rows : ℕ) (s : List ℕ) (words : (r : ℕ) → 
       → ((cs : List Cell) → Writes P cs → Writes Q (cell k (length cs) (holding b) ∷ cs)) → walk-holding b (row r) (f (r + 1)) ≡ Until to → Walked Q r to
   held-walked k b {f} {r} {to} h i j p make e =
       let g = holding-by b (row r) (f (r + 1)) e in
-      over-walked k b h i j (g .0) (g .1) (p .walked (r + 1) to) make
+      over-walked k b h i j (g .0) (g .1) (p .walked (r + 1) to) (λ w. make)
 
   -- n items, one after the other
   record SoundOn (f : Walk) (n : ℕ) (Q : Production) : Type 0 where
@@ -308,7 +301,7 @@ module _ (row : ℕ → Row) (rows : ℕ) (s : List ℕ) (words : (r : ℕ) → 
 
   no-items : {f : Walk} (Q : Production) → Writes Q [] → SoundOn f zero Q
   unfolding items
-  no-items Q w = record { walked = λ first r to e. record { cells = []; ends = omega (arith, until-same e); stands = stands-none; writes = w } }
+  no-items Q w = record { walked = λ first r to e. record { cells = []; ends = omega (arith, until-same e); stands = stands-none; writes = λ z. w } }
 
   more-items : {P Q : Production} (T : Production) {f : Walk} {n : ℕ} → Joins P Q T → Sound f P → SoundOn f n Q → SoundOn f (suc n) T
   unfolding items alike
@@ -326,16 +319,10 @@ module _ (row : ℕ → Row) (rows : ℕ) (s : List ℕ) (words : (r : ℕ) → 
   counted-sound k {f} P Q h i run make =
       record {
         walked = λ r to j e.
-            over-walked {P = P (row r .b)} {Q = Q} k (row r .b) h i j refl e (λ z. run (row r .b) .walked (r + 1) (r + 1) to z) (make (row r .b) (words r .1));
+            over-walked {P = P (row r .b)} {Q = Q} k (row r .b) h i j refl e (λ z. run (row r .b) .walked (r + 1) (r + 1) to z) (λ w. make (row r .b) (w r .1));
       }
 
   -- the productions
-  other-join : Joins OneName OneBinary OtherBody
-  other-join xs ys us vs fs gs (one-name x k) (one-binary y) = other-body x k y refl
-
-  call-join : {d : ℕ} → Joins OneString (Array d) (CallBody d)
-  call-join xs ys us vs fs gs (one-string x) y = call-body x y refl
-
   binary-sound : SoundAt 8 (contentItem s content.Binary) OneBinary
   binary-sound = content-sound content.Binary OneBinary (λ t h z k. writes-binary h k)
 
@@ -373,13 +360,7 @@ module _ (row : ℕ → Row) (rows : ℕ) (s : List ℕ) (words : (r : ℕ) → 
   struct-under d sound = counted-sound 10 (Pairs d) (Struct (suc d)) refl refl (pairs-sound d sound) (λ n h cs w. writes-struct h w)
 
   as-value : {P Q : Production} {r to : ℕ} → ((xs : List ℕ) (cs : List Cell) (fs : List Sent) → P xs cs fs → Q xs cs fs) → Walked P r to → Walked Q r to
-  as-value make g = record { cells = g .cells; ends = g .ends; stands = g .stands; writes = writes-as (λ xs fs x. make xs (g .cells) fs x) (g .writes) }
-
-  string-make : {d : ℕ} (xs : List ℕ) (cs : List Cell) (fs : List Sent) → OneString xs cs fs → Value d xs cs fs
-  string-make xs cs fs (one-string x) = string-value x
-
-  binary-make : {d : ℕ} (xs : List ℕ) (cs : List Cell) (fs : List Sent) → OneBinary xs cs fs → Value d xs cs fs
-  binary-make xs cs fs (one-binary x) = binary-value x
+  as-value make g = record { cells = g .cells; ends = g .ends; stands = g .stands; writes = λ w. writes-as (λ xs fs x. make xs (g .cells) fs x) (g .writes w) }
 
   integer-sound : (d : ℕ) → SoundAt 4 integerItem (Value d)
   unfolding hasNumber
@@ -387,7 +368,7 @@ module _ (row : ℕ → Row) (rows : ℕ) (s : List ℕ) (words : (r : ℕ) → 
       record {
         walked = λ r to j e.
             let f = fit-by (eqb (row r .b) 0) _ e in
-            one (f .1) (λ z. means j (omega (arith, z)) (says-number (rw j) refl (eqb-true _ _ (f .0)))) (writes-integer (words r .0));
+            one (f .1) (λ z. means j (omega (arith, z)) (says-number (rw j) refl (eqb-true _ _ (f .0)))) (λ w. writes-integer (w r .0));
       }
 
   boolean-sound : (d : ℕ) → SoundAt 5 booleanItem (Value d)
@@ -397,12 +378,12 @@ module _ (row : ℕ → Row) (rows : ℕ) (s : List ℕ) (words : (r : ℕ) → 
         walked = λ r to j e.
             let f = fit-by (leb (row r .a) 1) _ e in
             let g = fit-by (eqb (row r .b) 0) _ (f .1) in
-            one (g .1) (λ z. means j (omega (arith, z)) (says-number (rw j) refl (eqb-true _ _ (g .0)))) (writes-boolean (row r .a) (leb-true _ _ (f .0)));
+            one (g .1) (λ z. means j (omega (arith, z)) (says-number (rw j) refl (eqb-true _ _ (g .0)))) (λ w. writes-boolean (row r .a) (leb-true _ _ (f .0)));
       }
 
   item-sound :
       (d : ℕ) (nest : Nest) → SoundAt 9 (arrayItem nest) (Array d) → SoundAt 10 (structItem row rows s nest) (Struct d)
-      → (r to : ℕ) (i : Item) → KindOf i (row r .kind) → walk-item row rows s i nest (row r) r ≡ Until to → Walked (Value d) r to
+      → (r to : ℕ) (i : Item) → HasKind i (row r .kind) → walk-item row rows s i nest (row r) r ≡ Until to → Walked (Value d) r to
   item-sound d nest p q r to item.Call j e = unfit-until e
   item-sound d nest p q r to item.Response j e = unfit-until e
   item-sound d nest p q r to item.Fault j e = unfit-until e
@@ -412,9 +393,9 @@ module _ (row : ℕ → Row) (rows : ℕ) (s : List ℕ) (words : (r : ℕ) → 
       content-sound content.Double (Value d) (λ t h z k. writes-double (leb-true _ _ z) k) .walked r to j e
   item-sound d nest p q r to (item.Content content.DateTime) j e =
       content-sound content.DateTime (Value d) (λ t h z k. writes-datetime (leb-true _ _ z) k) .walked r to j e
-  item-sound d nest p q r to (item.Content content.Binary) j e = as-value binary-make (binary-sound .walked r to j e)
+  item-sound d nest p q r to (item.Content content.Binary) j e = as-value (λ xs cs fs x. binary-make x) (binary-sound .walked r to j e)
   item-sound d nest p q r to (item.Content content.Text) j e =
-      as-value string-make (content-sound content.Text OneString (λ t h z k. writes-string h k) .walked r to j e)
+      as-value (λ xs cs fs x. string-make x) (content-sound content.Text OneString (λ t h z k. writes-string h k) .walked r to j e)
   item-sound d nest p q r to item.Array j e = as-value (λ xs cs fs x. array-value x) (p .walked r to j e)
   item-sound d nest p q r to item.Struct j e = as-value (λ xs cs fs x. struct-value x) (q .walked r to j e)
   item-sound d nest p q r to item.Other j e = other-sound d .walked r to j e
@@ -446,7 +427,7 @@ module _ (row : ℕ → Row) (rows : ℕ) (s : List ℕ) (words : (r : ℕ) → 
   struct-sound (suc d) = struct-under d (value-sound d)
 
   first-sound :
-      (d r to : ℕ) (i : Item) → KindOf i (row r .kind) → first row rows s i d (row r) r ≡ Until to → Walked (CallOrResponse d) r to
+      (d r to : ℕ) (i : Item) → HasKind i (row r .kind) → first row rows s i d (row r) r ≡ Until to → Walked (CallOrResponse d) r to
   unfolding hasNumber hasContent
   first-sound d r to item.Call j e =
       held-walked {P = CallBody d} {Q = CallOrResponse d} 1 2 refl refl j (pair-sound (CallBody d) call-join string-sound (only-sound 9 (array-sound d))) (λ cs w. writes-call w) e

@@ -1,1 +1,2 @@
+pub mod Occurring
 pub mod Derivable

@@ -1,0 +1,137 @@
+-- What answers the returns and turns of the functions that put bytes to the front of a lent output. Assumes nothing.
+use Prim.Native.Nat.{ℕ, zero, suc, _+_, _-_, _/_, _%_, _≤_, _<_}
+use mathlib.Core.Path.{_≡_, refl, sym, ap, _∙_}
+use mathlib.Core.List.{List, [], _∷_, _++_, append-assoc, append-nil}
+use native.Mathlib.Omega.{arith}
+use native.Mathlib.Numerals.{add-one}
+use lib.ListN.{length, getD, set, take, drop, replicate, length-set, length-append, length-drop, drop-of-length-le}
+use lib.Seq.{take-all, take-suc, drop-cons, set-at, drop-drop, take-at, drop-at, length-take-le}
+use borrow.Author.Fill.{fill-more}
+use Rattle.draft.specs.Written.{lsb, counted}
+use Rattle.output.specs.Contract.{Front, Put}
+
+-- i bytes of an output o are cleared
+pub record Clearing (o : List ℕ) (i : ℕ) (out : List ℕ) : Type 0 where
+  pub is : out ≡ replicate i 0 ++ drop i o
+  pub within : i ≤ length o
+  pub long : length out ≡ length o
+
+pub clear-first : (o : List ℕ) → Clearing o 0 o
+clear-first o = record { is = refl; within = omega arith; long = refl }
+
+module _ {o out : List ℕ} {i : ℕ} (c : Clearing o i out) where
+  pub clear-again : i < length out → Clearing o (i + 1) (set out i 0)
+  clear-again h =
+      record {
+        is = ap (λ (l : List ℕ). set l i 0) (c .is) ∙ fill-more i 0 o (omega (arith, c .long));
+        within = omega (arith, c .long);
+        long = length-set out i 0 ∙ c .long;
+      }
+
+  pub clear-done : length out ≤ i → out ≡ replicate (length o) 0
+  clear-done h =
+      let q : i ≡ length o = omega (arith, c .long, c .within) in
+      c .is ∙ rw (drop-of-length-le o {i = i} (omega (arith, c .long)), append-nil) (ap (λ (n : ℕ). replicate n 0) q)
+
+-- i bytes of t stand in front of an output o
+pub record Copying (t o : List ℕ) (i : ℕ) (out : List ℕ) : Type 0 where
+  pub is : out ≡ take i t ++ drop i o
+  pub within : i ≤ length t
+  pub long : length out ≡ length o
+
+pub copy-first : (t o : List ℕ) → Copying t o 0 o
+copy-first t o = record { is = refl; within = omega arith; long = refl }
+
+module _ {t o out : List ℕ} {i : ℕ} (c : Copying t o i out) where
+  pub copy-again : length t ≤ length o → i < length t → Copying t o (i + 1) (set out i (getD t i 0))
+  copy-again m h =
+      record {
+        is = rw (add-one, c .is, drop-cons o i 0 (omega arith), set-at (take i t) (getD o i 0) (drop (suc i) o) (getD t i 0) i (length-take-le i t (omega arith)), take-suc t i 0 h, append-assoc);
+        within = omega arith;
+        long = length-set out i (getD t i 0) ∙ c .long;
+      }
+
+  pub copy-done : length t ≤ i → Front t o out
+  copy-done h =
+      let q : i ≡ length t = omega (arith, c .within) in
+      record { is = c .is ∙ rw (take-all i t h, q) }
+
+-- stores at the front
+pub front-four : (n : ℕ) (out : List ℕ) → 4 ≤ length out → Front (lsb n) out (set (set (set (set out 0 (n % 256)) 1 (n / 256 % 256)) 2 (n / 65536 % 256)) 3 (n / 16777216 % 256))
+unfolding lsb
+front-four n [] h = absurd (omega arith)
+front-four n (a ∷ []) h = absurd (omega arith)
+front-four n (a ∷ b ∷ []) h = absurd (omega arith)
+front-four n (a ∷ b ∷ c ∷ []) h = absurd (omega arith)
+front-four n (a ∷ b ∷ c ∷ d ∷ out) h = record { is = refl }
+
+front-one : (b : ℕ) (out : List ℕ) → 1 ≤ length out → Front (b ∷ []) out (set out 0 b)
+front-one b [] h = absurd (omega arith)
+front-one b (x ∷ out) h = record { is = refl }
+
+front-two : (b c : ℕ) (out : List ℕ) → 2 ≤ length out → Front (b ∷ c ∷ []) out (set (set out 0 b) 1 c)
+front-two b c [] h = absurd (omega arith)
+front-two b c (x ∷ []) h = absurd (omega arith)
+front-two b c (x ∷ y ∷ out) h = record { is = refl }
+
+-- an output that has xs in front is lent on from there, and comes back with zs in front of the part that was lent
+module _ {xs o o₁ : List ℕ} (f : Front xs o o₁) (a : ℕ) (e : length xs ≡ a) (l : a ≤ length o) where
+  pub front-long : length o₁ ≡ length o
+  front-long = ap length (f .is) ∙ length-append xs (drop (length xs) o) ∙ rw length-drop (omega arith)
+
+  pub front-drop : drop a o₁ ≡ drop a o
+  front-drop = ap (drop a) (f .is ∙ ap (λ (n : ℕ). xs ++ drop n o) e) ∙ drop-at xs (drop a o) a e
+
+  pub front-take : take a o₁ ≡ xs
+  front-take = ap (take a) (f .is) ∙ take-at xs (drop (length xs) o) a e
+
+  pub front-on : {zs ys : List ℕ} → Front zs (take (length o₁ - a) (drop a o₁)) ys → Front (xs ++ zs) o (take a o₁ ++ (ys ++ drop (length o₁ - a) (drop a o₁)))
+  front-on {zs} {ys} g =
+      let d : length (drop a o) ≡ length o₁ - a = length-drop a o ∙ omega (arith, front-long) in
+      let m : take (length o₁ - a) (drop a o₁) ≡ drop a o = ap (take (length o₁ - a)) front-drop ∙ take-all (length o₁ - a) (drop a o) (omega arith) in
+      let n : drop (length o₁ - a) (drop a o₁) ≡ [] = ap (drop (length o₁ - a)) front-drop ∙ drop-of-length-le (drop a o) {i = length o₁ - a} (omega arith) in
+      let y : ys ≡ zs ++ drop (a + length zs) o = g .is ∙ ap (λ (w : List ℕ). zs ++ drop (length zs) w) m ∙ ap (λ (w : List ℕ). zs ++ w) (drop-drop (length zs) a o) in
+      let k : length (xs ++ zs) ≡ a + length zs = length-append xs zs ∙ ap (λ (n : ℕ). n + length zs) e in
+      record { is = rw (front-take, n, append-nil, y, k, append-assoc) }
+
+pub lsb-four : (n : ℕ) → length (lsb n) ≡ 4
+unfolding lsb
+lsb-four n = refl
+
+pub counted-length : (t : List ℕ) → length (counted t) ≡ 4 + length t
+unfolding counted
+counted-length t = length-append (lsb (length t)) t ∙ rw lsb-four
+
+pub front-counted : (t : List ℕ) {o o₁ ys : List ℕ} → 4 + length t ≤ length o → Front (lsb (length t)) o o₁ → Front t (take (length o₁ - 4) (drop 4 o₁)) ys → Front (counted t) o (take 4 o₁ ++ (ys ++ drop (length o₁ - 4) (drop 4 o₁)))
+unfolding counted
+front-counted t l f g = front-on f 4 (lsb-four (length t)) (omega arith) g
+
+pub put-one : (b : ℕ) {o : List ℕ} → 1 ≤ length o → Put (b ∷ []) o (set o 0 b) 1
+put-one b {o} l = record { front = front-one b o l; long = refl }
+
+pub put-two : (b c : ℕ) {o : List ℕ} → 2 ≤ length o → Put (b ∷ c ∷ []) o (set (set o 0 b) 1 c) 2
+put-two b c {o} l = record { front = front-two b c o l; long = refl }
+
+-- a first byte, or two, and what is put behind
+module _ {o o₁ ys : List ℕ} {k : ℕ} where
+  module _ (b : ℕ) (p : Put (b ∷ []) o o₁ k) where
+    one-on : (zs : List ℕ) (n : ℕ) → n ≤ length o → n ≡ 1 + length zs → Front zs (take (length o₁ - 1) (drop 1 o₁)) ys → Put (b ∷ zs) o (take 1 o₁ ++ (ys ++ drop (length o₁ - 1) (drop 1 o₁))) n
+    one-on zs n l e g = record { front = front-on (p .front) 1 refl (omega arith) g; long = omega arith }
+
+    pub put-number : (n : ℕ) → 5 ≤ length o → Front (lsb n) (take (length o₁ - 1) (drop 1 o₁)) ys → Put (b ∷ lsb n) o (take 1 o₁ ++ (ys ++ drop (length o₁ - 1) (drop 1 o₁))) 5
+    put-number n l g = one-on (lsb n) 5 l (omega (arith, lsb-four n)) g
+
+    pub put-long : (t : List ℕ) → 5 + length t ≤ length o → Front (counted t) (take (length o₁ - 1) (drop 1 o₁)) ys → Put (b ∷ counted t) o (take 1 o₁ ++ (ys ++ drop (length o₁ - 1) (drop 1 o₁))) (5 + length t)
+    put-long t l g = one-on (counted t) (5 + length t) l (omega (arith, counted-length t)) g
+
+  module _ (b c : ℕ) (p : Put (b ∷ c ∷ []) o o₁ k) where
+    two-on : (zs : List ℕ) (n : ℕ) → n ≤ length o → n ≡ 2 + length zs → Front zs (take (length o₁ - 2) (drop 2 o₁)) ys → Put (b ∷ c ∷ zs) o (take 2 o₁ ++ (ys ++ drop (length o₁ - 2) (drop 2 o₁))) n
+    two-on zs n l e g = record { front = front-on (p .front) 2 refl (omega arith) g; long = omega arith }
+
+    pub put-short : (t : List ℕ) → 2 + length t ≤ length o → Front t (take (length o₁ - 2) (drop 2 o₁)) ys → Put (b ∷ c ∷ t) o (take 2 o₁ ++ (ys ++ drop (length o₁ - 2) (drop 2 o₁))) (2 + length t)
+    put-short t l g = two-on t (2 + length t) l refl g
+
+    pub put-recorded : (t : List ℕ) → 6 + length t ≤ length o → Front (counted t) (take (length o₁ - 2) (drop 2 o₁)) ys → Put (b ∷ c ∷ counted t) o (take 2 o₁ ++ (ys ++ drop (length o₁ - 2) (drop 2 o₁))) (6 + length t)
+    put-recorded t l g = two-on (counted t) (6 + length t) l (omega (arith, counted-length t)) g
+
+pub ruleset putting = (clear-first, clear-again, clear-done, copy-first, copy-again, copy-done, front-four, front-counted, put-one, put-two, put-number, put-long, put-short, put-recorded)

@@ -1,0 +1,39 @@
+use Rattle.shape.proofs.Walking.{walking}
+use borrow.Author.Needs.{needs}
+use Rattle.shape.proofs.walk_call_or_response.Statement.{statement}
+use Rattle.shape.proofs.walk_call_or_response.Tie as tie
+
+pub walk-call-or-response-spec : {M : Type 1} → statement M
+walk-call-or-response-spec = tie.close (tie.spec
+    (λ c. search walking)  -- returns
+    (λ c κs. search needs)  -- get-row-requires
+    (λ c κs. search needs)  -- item-of-requires
+    (λ c. search needs)  -- enum-told
+    (λ c. search needs)  -- add-walk-method-and-array
+    (λ c κs. search needs)  -- walk-method-and-array-requires
+    (λ c κs. search needs)  -- close-holding-requires
+    (λ c. search needs)  -- enum-told-2
+    (λ c. search needs)  -- add-walk-value
+    (λ c κs. search needs)  -- walk-value-requires
+    (λ c κs. search needs)  -- close-holding-requires-2
+    (λ c. search needs)  -- enum-told-3
+    (λ c. search needs)  -- add-walk-struct-only
+    (λ c κs. search needs)  -- walk-struct-only-requires
+    (λ c κs. search needs)  -- close-holding-requires-3
+    (λ c. search needs)  -- enum-told-4
+    (λ c. search needs)  -- enum-told-5
+    (λ c. search needs)  -- enum-told-6
+    (λ c. search needs)  -- enum-told-7
+    (λ c. search needs)  -- enum-told-8
+    (λ c. search needs)  -- enum-told-9
+    (λ c. search needs)  -- enum-told-10
+    (λ c. search walking)  -- returns-2
+    (λ c. search walking)  -- returns-3
+    (λ c. search walking)  -- returns-4
+    (λ c. search walking)  -- returns-5
+    (λ c. search walking)  -- returns-6
+    (λ c. search walking)  -- returns-7
+    (λ c. search walking)  -- returns-8
+    (λ c. search walking)  -- returns-9
+    (λ c. search walking)  -- returns-10
+    (λ c. search walking))  -- returns-11

@@ -1,0 +1,13 @@
+use Rattle.shape.proofs.Walking.{walking}
+use borrow.Author.Needs.{needs}
+use Rattle.shape.proofs.walk_method_and_array.Statement.{statement}
+use Rattle.shape.proofs.walk_method_and_array.Tie as tie
+
+pub walk-method-and-array-spec : {M : Type 1} → statement M
+walk-method-and-array-spec = tie.close (tie.spec
+    (λ c κs. search needs)  -- walk-string-requires
+    (λ c. search needs)  -- enum-told
+    (λ c. search needs)  -- enum-known-extent
+    (λ c κs. search needs)  -- walk-array-only-requires
+    (λ c. search walking)  -- returns
+    (λ c. search walking))  -- returns-2

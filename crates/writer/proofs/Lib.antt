@@ -1,0 +1,4 @@
+pub mod Collecting
+pub mod Sending
+pub mod Writing
+pub mod Answering

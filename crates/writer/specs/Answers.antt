@@ -1,0 +1,52 @@
+-- What writing a table gives: its answer, and the output after it. Both depend on the table, its stated rows, the text bytes and the output's
+-- length alone. Assumes nothing.
+use Prim.Native.Nat.{ℕ, _-_}
+use mathlib.Core.Path.{_≡_}
+use mathlib.Core.Bool.{Bool, true, false}
+use mathlib.Core.List.{List, _++_}
+use lib.ListN.{length, replicate}
+use lib.Dec.{leb}
+use Rattle.draft.specs.declared.Refusal.{Refusal}
+use Rattle.draft.specs.declared.Refusal.the-variants.{TooLong, NotWritable, FormTooLong, OutputTooShort}
+use Rattle.draft.specs.Refusals.{numberOf}
+use Rattle.draft.specs.Writable.{writable}
+use Rattle.draft.specs.Written.{written, rowsOf}
+use Rattle.writer.specs.declared.Answer.{Answer}
+use Rattle.writer.specs.declared.Answer.the-variants.{Written, Refused}
+
+-- where a test holds, and otherwise a refusal
+abbrev pub given : Bool → Refusal → Answer → Answer
+given true refusal o = o
+given false refusal o = Refused refusal
+
+-- the answer for this written form: 12, 13, or its length
+unfoldable pub answerTo : List ℕ → ℕ → Answer
+answerTo form room = given (leb (length form) 65536) FormTooLong (given (leb (length form) room) OutputTooShort (Written (length form)))
+
+-- the written form of a table of so many rows, 4,096 at most
+unfoldable pub formOf : List ℕ → ℕ → List ℕ → List ℕ
+formOf T rows s = written s (rowsOf 4096 T rows)
+
+-- the answer: 10, 11, then as the written form has it
+unfoldable pub answerOf : List ℕ → ℕ → List ℕ → ℕ → Answer
+answerOf T rows s room = given (leb (length s) 65536) TooLong (given (writable T rows s) NotWritable (answerTo (formOf T rows s) room))
+
+-- the output after an answer: the message and zeros behind it; on a refusal all zeros
+abbrev pub outputOf : Answer → List ℕ → ℕ → List ℕ
+outputOf (Written n) form room = form ++ replicate (room - n) 0
+outputOf (Refused refusal) form room = replicate room 0
+
+-- what a call of the writer did
+pub record Did (T : List ℕ) (rows : ℕ) (s out out′ : List ℕ) (answer : Answer) : Type 0 where
+  pub says : answer ≡ answerOf T rows s (length out)
+  pub leaves : out′ ≡ outputOf answer (formOf T rows s) (length out)
+
+-- the numbers that document 01 gives for an answer
+pub record Report : Type 0 where
+  pub number : ℕ
+  pub length : ℕ
+  pub place : ℕ
+
+abbrev pub reportOf : Answer → Report
+reportOf (Written n) = record { number = 0; length = n; place = 0 }
+reportOf (Refused refusal) = record { number = numberOf refusal; length = 0; place = 0 }
