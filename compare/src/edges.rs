@@ -1,0 +1,118 @@
+//! Tables at the edges of what is writable: names, sizes, texts and places of
+//! content, most of them just right and some just wrong.
+
+use second::generate::{BAD_TEXTS, Random, Table};
+use second::rules::{STANDARD_NAMES, kind};
+
+const GOOD_TEXTS: [&[u8]; 8] = [
+    b"i",
+    b"I4",
+    b"ints",
+    b"nil",
+    b"",
+    b"\xc3\xa9",
+    b"\xed\x9f\xbf",
+    b"\xf4\x8f\xbf\xbf",
+];
+
+/// An Array of a few items, with their content in the same bytes.
+pub fn at_the_edges(random: &mut Random) -> Table {
+    let mut rows = Rows::new();
+    let count = random.between(1, 4);
+    for _ in 0..count {
+        rows.item(random);
+    }
+    rows.finish(count)
+}
+
+struct Rows {
+    words: Vec<u32>,
+    text: Vec<u8>,
+}
+
+impl Rows {
+    /// With the rows of the Response and the Array, which are set last.
+    fn new() -> Self {
+        Rows {
+            words: vec![0; 8],
+            text: vec![b'x'; 270],
+        }
+    }
+
+    fn finish(mut self, count: usize) -> Table {
+        let rows = self.words.len() / 4;
+        let end = rows as u32;
+        let head = [kind::RESPONSE, 0, 1, end, kind::ARRAY, 0, count as u32, end];
+        self.words[..8].copy_from_slice(&head);
+        Table {
+            words: self.words,
+            rows,
+            text: self.text,
+        }
+    }
+
+    fn row(&mut self, kind: u32, a: usize, b: usize, children: usize) {
+        let end = self.words.len() / 4 + 1 + children;
+        self.words.extend([kind, a as u32, b as u32, end as u32]);
+    }
+
+    /// A String with this text, put behind the other bytes.
+    fn string(&mut self, text: &[u8]) {
+        self.row(kind::STRING, self.text.len(), text.len(), 0);
+        self.text.extend(text);
+    }
+
+    fn item(&mut self, random: &mut Random) {
+        let with_content = [kind::DOUBLE, kind::DATE_TIME, kind::BINARY, kind::STRING];
+        match random.below(8) {
+            0 => {
+                let name = match random.below(3) {
+                    0 => *random.pick(&STANDARD_NAMES),
+                    _ => *random.pick(&GOOD_TEXTS),
+                };
+                self.row(kind::OTHER, 0, 2, 2);
+                self.string(name);
+                self.row(kind::BINARY, 0, 3, 0);
+            }
+            1 => self.row(*random.pick(&with_content), 0, random.between(253, 257), 0),
+            2 => {
+                // ASCII, or not in one of its bytes.
+                let length = random.between(1, 40);
+                self.row(
+                    kind::DOUBLE + random.below(2) as u32,
+                    self.text.len(),
+                    length,
+                    0,
+                );
+                self.text.resize(self.text.len() + length, 127);
+                if random.one_in(2) {
+                    let place = self.text.len() - random.between(1, length);
+                    self.text[place] = *random.pick(&[128, 255, 0]);
+                }
+            }
+            3 | 4 => {
+                let text = match random.below(3) {
+                    0 => *random.pick(&BAD_TEXTS),
+                    _ => *random.pick(&GOOD_TEXTS),
+                };
+                self.string(text);
+            }
+            5 => {
+                // At the end of the bytes, or one too far.
+                let length = random.below(5);
+                let offset = self.text.len() - length + random.below(2);
+                self.row(*random.pick(&with_content), offset, length, 0);
+            }
+            6 => {
+                // Where a sum of two words may wrap.
+                let length = *random.pick(&[1, 2, 1 << 31, u32::MAX as usize]);
+                let offset = ((1 << 32) - length + random.below(3)) % (1 << 32);
+                self.row(*random.pick(&with_content), offset, length, 0);
+            }
+            _ => match random.below(2) {
+                0 => self.row(kind::BOOLEAN, random.below(3), random.below(8) / 7, 0),
+                _ => self.row(kind::INTEGER, random.byte().into(), random.below(8) / 7, 0),
+            },
+        }
+    }
+}

@@ -1,0 +1,73 @@
+//! Compares the proved library with the second implementation on generated
+//! messages and tables: `compare SEED CALLS`. Ends with 1 where they differ.
+
+mod change;
+#[cfg(feature = "writer")]
+mod edges;
+mod gather;
+mod lent;
+mod reading;
+#[cfg(feature = "writer")]
+mod shortest;
+mod tally;
+#[cfg(feature = "writer")]
+mod writing;
+
+use reading::{Compared, Reading};
+use second::generate::Random;
+use std::process::ExitCode;
+use tally::{Run, Tally};
+
+fn main() -> ExitCode {
+    let words: Vec<String> = std::env::args().skip(1).collect();
+    let numbers = match &words[..] {
+        [seed, calls] => seed.parse().ok().zip(calls.parse().ok()),
+        _ => None,
+    };
+    let Some((seed, calls)) = numbers else {
+        eprintln!("usage: compare SEED CALLS");
+        return ExitCode::from(2);
+    };
+    let mut run = Run {
+        random: Random::new(seed),
+        tally: Tally::new(calls),
+    };
+    let compared = compare(&mut run);
+    println!("compare {seed} {calls}: the library and the second implementation");
+    run.tally.print();
+    match compared {
+        Ok(()) => {
+            println!("no difference");
+            ExitCode::SUCCESS
+        }
+        Err(difference) => {
+            println!("{difference}");
+            ExitCode::FAILURE
+        }
+    }
+}
+
+#[cfg(not(feature = "writer"))]
+fn compare(run: &mut Run) -> Compared {
+    let mut reading = Reading::new();
+    reading.papers(run)?;
+    reading.edges(run)?;
+    while !run.tally.is_over() {
+        reading.round(run)?;
+    }
+    Ok(())
+}
+
+#[cfg(feature = "writer")]
+fn compare(run: &mut Run) -> Compared {
+    let mut reading = Reading::new();
+    let mut writing = writing::Writing::new();
+    shortest::tried(&mut run.random)?;
+    reading.papers(run)?;
+    reading.edges(run)?;
+    while !run.tally.is_over() {
+        reading.round(run)?;
+        writing.round(run)?;
+    }
+    Ok(())
+}

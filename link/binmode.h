@@ -1,0 +1,109 @@
+/*
+ * Reading and writing Binmode RPC messages: the functions that libinterface.a exports (x86-64, C's calling convention).
+ *
+ * No memory is allocated, nothing is kept from call to call, and of the C library only memset and its like are used,
+ * so calls may run at the same time as long as each has its own buffers.
+ *
+ * What the caller owes, since no function can test it:
+ *   - a pointer is not null, is aligned for its type, and its length says how many elements may be used there; for a
+ *     length of 0 any such pointer will do, since nothing is read or written through it;
+ *   - what a function writes (a table or output, and each number it reports) overlaps neither another such thing nor
+ *     anything that it reads;
+ *   - no buffer is longer than PTRDIFF_MAX bytes;
+ *   - during the call no one else writes what it reads, or touches what it writes.
+ * Anything else may be passed: every content, every length, every number of rows has its answer.
+ *
+ * A buffer need not be cleared before a call: what it held has no part in the answer, and all of it is settled afterwards.
+ */
+#ifndef BINMODE_H
+#define BINMODE_H
+
+#include <stddef.h>
+#include <stdint.h>
+
+#ifdef __cplusplus
+extern "C" {
+#endif
+
+/* The answers: 0, or the number of a refusal. 4 is not used. */
+#define BINMODE_ACCEPTED 0
+#define BINMODE_ENDED 1             /* read: the bytes end inside or before a needed item */
+#define BINMODE_WRONG_PREFIX 2      /* read: the first bytes differ from "binmode-rpc:" */
+#define BINMODE_UNEXPECTED_BYTE 3   /* read: a byte that begins nothing allowed there */
+#define BINMODE_BAD_TEXT 5          /* read: bad UTF-8, or a byte of 128 or more in a Double or DateTime */
+#define BINMODE_UNSET_POSITION 6    /* read: recall of a position never set in this message */
+#define BINMODE_STANDARD_NAME 7     /* read: an Other with a standard name */
+#define BINMODE_TOO_DEEP 8          /* read: an Array or Struct in more than 32, itself counted */
+#define BINMODE_NO_ROW 9            /* read: no row left in the table */
+#define BINMODE_TOO_LONG 10         /* both: message or text bytes over 65,536 */
+#define BINMODE_NOT_WRITABLE 11     /* write: the table is not writable */
+#define BINMODE_FORM_TOO_LONG 12    /* write: the written form is over 65,536 bytes */
+#define BINMODE_OUTPUT_TOO_SHORT 13 /* write: the output is shorter than the written form */
+
+/* The limits. */
+#define BINMODE_MOST_BYTES 65536 /* of a message, and of a writer's text bytes */
+#define BINMODE_MOST_ROWS 4096   /* of a table, however many words it has */
+#define BINMODE_ROW_WORDS 4      /* words of a row: kind, a, b, end */
+
+/*
+ * The kinds of rows. Rows stand in message order, parents before children; `end` is the row number just after the item's
+ * last descendant. An offset counts from the message's first byte.
+ *
+ *                                      a                       b        children
+ */
+#define BINMODE_CALL 1       /*          0                       2        method (a String), Array */
+#define BINMODE_RESPONSE 2   /*          0                       1        the Value */
+#define BINMODE_FAULT 3      /*          0                       1        the Struct */
+#define BINMODE_INTEGER 4    /*          its 32 bits             0        none */
+#define BINMODE_BOOLEAN 5    /*          1 or 0                  0        none */
+#define BINMODE_DOUBLE 6     /*          offset of its content   length   none */
+#define BINMODE_DATE_TIME 7  /*          offset of its content   length   none */
+#define BINMODE_BINARY 8     /*          offset of its content   length   none */
+#define BINMODE_ARRAY 9      /*          0                       count    the Values */
+#define BINMODE_STRUCT 10    /*          0                       pairs    key (a String), Value, key, Value .. */
+#define BINMODE_STRING 11    /*          offset of its text      length   none; a recalled string has the recorded text's */
+#define BINMODE_OTHER 12     /*          0                       2        type name (a String), Binary */
+
+/*
+ * Reads a message into a table.
+ *
+ *   message, message_len  the bytes of the message; bytes after its end are ignored, but count for BINMODE_TOO_LONG
+ *   table, table_words    the table; it has room for table_words / 4 rows, rounded down, and 4,096 at most. Row r has the
+ *                         words 4 * r (kind) to 4 * r + 3 (end)
+ *   rows                  is set to the number of rows; 0 on a refusal
+ *   used                  is set to the number of message bytes used, those after its end not counted; 0 on a refusal
+ *   place                 is set to 0 on acceptance; on a refusal to the offset of the first byte of the item that is
+ *                         refused, or to message_len if nothing stands there:
+ *                            BINMODE_TOO_LONG, BINMODE_WRONG_PREFIX, and BINMODE_ENDED for fewer than 12 bytes: 0;
+ *                            BINMODE_STANDARD_NAME: the offset of the Other's `O`;
+ *                            the others: the item's, which is 12 for the Call or Response, 13 for what follows `R` and 14
+ *                            for what follows `RF`.
+ *
+ * Gives BINMODE_ACCEPTED, and the table has the rows and then zeros; or a refusal's number (1 to 10), and the whole table
+ * is zeros. The first failure from left to right decides.
+ */
+uint8_t binmode_read(const uint8_t *message, size_t message_len, uint32_t *table, size_t table_words, uint64_t *rows,
+                     uint64_t *used, uint64_t *place);
+
+/*
+ * Writes the rows of a table as a message, in the one written form: texts that occur at least twice as strings get the
+ * positions 0, 1, 2 .. (256 at most) in order of first occurrence, and nothing follows the message.
+ *
+ *   table, table_words    the table; words after the stated rows are not looked at
+ *   rows                  the stated number of rows; a table with 0 rows, over 4,096, or more than its words hold is not
+ *                         writable
+ *   text, text_len        the bytes in which the contents lie; for a table made by binmode_read, the message
+ *   output, output_len    where the message is written
+ *   length                is set to the number of bytes of the message; 0 on a refusal
+ *
+ * Gives BINMODE_ACCEPTED, and the output has the message and then zeros; or a refusal's number (10 to 13, tested in this
+ * order), and the whole output is zeros. A refusal by the writer has no place.
+ */
+uint8_t binmode_write(const uint32_t *table, size_t table_words, size_t rows, const uint8_t *text, size_t text_len,
+                      uint8_t *output, size_t output_len, uint64_t *length);
+
+#ifdef __cplusplus
+}
+#endif
+
+#endif

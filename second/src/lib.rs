@@ -1,0 +1,16 @@
+//! An independent second reader and writer of Binmode RPC messages, written
+//! from documents 01 and 002 only.
+
+pub mod corpus;
+pub mod generate;
+pub mod hex;
+pub mod meaning;
+pub mod papers;
+pub mod reader;
+pub mod rules;
+pub mod shortest;
+pub mod writer;
+
+pub use meaning::same_meaning;
+pub use reader::{Read, read};
+pub use writer::{Write, write};

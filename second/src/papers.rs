@@ -1,0 +1,160 @@
+//! The messages of documents 01 and 002, as byte strings with names.
+
+/// The bytes of a line written as 002 writes them: octal as in C strings, and
+/// a blank with a trailing `\` where the next line is joined on.
+pub fn bytes_of(line: &str) -> Vec<u8> {
+    let joined = line.replace(" \\\n", "");
+    let mut rest = joined.as_bytes();
+    let mut bytes = Vec::new();
+    while let Some((&first, after)) = rest.split_first() {
+        rest = after;
+        if first != b'\\' {
+            bytes.push(first);
+            continue;
+        }
+        let is_octal = |digit: &&u8| (b'0'..=b'7').contains(*digit);
+        let digits = rest.iter().take(3).take_while(is_octal).count();
+        let value = rest[..digits]
+            .iter()
+            .fold(0, |value: u8, digit| value << 3 | (digit - b'0'));
+        bytes.push(value);
+        rest = &rest[digits..];
+    }
+    bytes
+}
+
+pub const ADD: &str = r"binmode-rpc:CU\003\0\0\0addA\002\0\0\0I\002\0\0\0I\002\0\0\0";
+
+pub const FOUR: &str = r"binmode-rpc:RI\004\0\0\0";
+
+pub const FAULT: &str = r"binmode-rpc:RFS\002\0\0\0 \
+U\011\0\0\0faultCodeI\001\0\0\0 \
+U\013\0\0\0faultStringU\021\0\0\0An error occurred";
+
+pub const FOO_BAR_BAZ: &str = r"binmode-rpc:RA\006\0\0\0 \
+>\000\003\0\0\0foo \
+>\001\003\0\0\0bar \
+<\000 \
+>\000\003\0\0\0baz \
+<\000 \
+<\001";
+
+pub const COPYRIGHT: &str = r"binmode-rpc:RU\042\0\0\0Copyright \302\251 1995 J. Random Hacker";
+
+pub const MIXED: &str = r"binmode-rpc:RA\010\0\0\0 \
+I\006\0\0\0 \
+tf \
+D\0042.75 \
+8\02119980717T14:08:55 \
+U\003\0\0\0foo \
+B\003\0\0\0abc \
+S\002\0\0\0U\003\0\0\0runt";
+
+/// As it would be with the count that its pairs have.
+pub const MIXED_WITH_ONE_PAIR: &str = r"binmode-rpc:RA\010\0\0\0 \
+I\006\0\0\0 \
+tf \
+D\0042.75 \
+8\02119980717T14:08:55 \
+U\003\0\0\0foo \
+B\003\0\0\0abc \
+S\001\0\0\0U\003\0\0\0runt";
+
+pub const OTHER_PREFIX: &str = r"binmode-rpc2:RI\004\0\0\0";
+
+pub const STANDARD_NAME: &str = r"binmode-rpc:ROU\006\0\0\0stringB\003\0\0\0xyz";
+
+pub const UNSET_RECALL: &str = r"binmode-rpc:R<\002";
+
+pub const LATIN_ONE: &str = r"binmode-rpc:RU\041\0\0\0Copyright \251 1995 J. Random Hacker";
+
+pub const OVERLONG: &str = r"binmode-rpc:RU\041\0\0\0Bad linefeed: \300\212 (too many bytes)";
+
+pub const EMPTY_RECORDED: &str = r"binmode-rpc:RA\002\0\0\0>\0\0\0\0\0<\0";
+
+pub const HUGE_COUNT: &str = r"binmode-rpc:RA\377\377\377\377";
+
+pub const HUGE_COUNT_WITH_ITEM: &str = r"binmode-rpc:RA\377\377\377\377t";
+
+/// All of them, in the papers' order, each with a table's number of words.
+pub const ALL: [(&str, usize); 16] = [
+    ("", 40),
+    (OTHER_PREFIX, 40),
+    (FOUR, 8),
+    (ADD, 20),
+    (FOO_BAR_BAZ, 40),
+    (EMPTY_RECORDED, 16),
+    (UNSET_RECALL, 40),
+    (STANDARD_NAME, 40),
+    (LATIN_ONE, 40),
+    (OVERLONG, 40),
+    (HUGE_COUNT, 8),
+    (HUGE_COUNT_WITH_ITEM, 8),
+    (FAULT, 24),
+    (COPYRIGHT, 8),
+    (MIXED, 16_384),
+    (MIXED_WITH_ONE_PAIR, 48),
+];
+
+/// What a message goes on with after the prefix, a table's number of words,
+/// the refusal and its place.
+#[rustfmt::skip]
+pub const EDGES: [(&[u8], usize, u8, usize); 51] = [
+    // With no row left, 1 for no byte and 3 come first, then 9.
+    (b"", 3, 1, 12),
+    (b"x", 3, 3, 12),
+    (b"R", 3, 9, 12),
+    (b"Cx", 0, 9, 12),
+    (b"R", 4, 1, 13),
+    (b"Rx", 4, 3, 13),
+    (b"RI", 4, 9, 13),
+    (b"RF", 7, 1, 14),
+    (b"RFA", 7, 3, 14),
+    (b"RFS", 7, 9, 14),
+    (b"RFS", 8, 1, 14),
+    // Fields cut.
+    (b"RI\0\0\0", 16_384, 1, 13),
+    (b"RD", 16_384, 1, 13),
+    (b"R8", 16_384, 1, 13),
+    (b"RB\0\0\0", 16_384, 1, 13),
+    (b"RA\0\0\0", 16_384, 1, 13),
+    (b"RS\0\0\0", 16_384, 1, 13),
+    (b"RU\0\0\0", 16_384, 1, 13),
+    (b"R>", 16_384, 1, 13),
+    (b"R>\0", 16_384, 1, 13),
+    (b"R>\0\0\0\0", 16_384, 1, 13),
+    (b"R<", 16_384, 1, 13),
+    // Content is there before it is judged.
+    (b"RU\x02\0\0\0\xff", 16_384, 1, 13),
+    (b"RU\x01\0\0\0\xff", 16_384, 5, 13),
+    (b"R>\0\x01\0\0\0\xff", 16_384, 5, 13),
+    (b"RD\x02\xff", 16_384, 1, 13),
+    (b"RD\x01\x80", 16_384, 5, 13),
+    (b"R8\x01\x80", 16_384, 5, 13),
+    (b"RB\xff\xff\xff\xff\0", 16_384, 1, 13),
+    // The parts of a Call and of a fault.
+    (b"C", 16_384, 1, 13),
+    (b"CI", 16_384, 3, 13),
+    (b"CU\0\0\0\0", 16_384, 1, 18),
+    (b"CU\0\0\0\0S", 16_384, 3, 18),
+    (b"CU\0\0\0\0A", 16_384, 1, 18),
+    (b"RR", 16_384, 3, 13),
+    (b"RFF", 16_384, 3, 14),
+    (b"RFS\x01\0\0\0I", 16_384, 3, 19),
+    (b"RFS\x01\0\0\0U\0\0\0\0", 16_384, 1, 24),
+    // Others.
+    (b"RO", 16_384, 1, 14),
+    (b"ROB", 16_384, 3, 14),
+    (b"ROU\x02\0\0\0i4", 8, 9, 14),
+    (b"ROU\x02\0\0\0i\xff", 16_384, 5, 14),
+    (b"RO<\0", 16_384, 6, 14),
+    (b"ROU\x02\0\0\0i4", 12, 7, 13),
+    (b"ROU\x02\0\0\0i8", 16_384, 1, 21),
+    (b"ROU\x02\0\0\0i8U", 16_384, 3, 21),
+    (b"ROU\x02\0\0\0i8B", 12, 9, 21),
+    (b"RA\x02\0\0\0>\x07\x03\0\0\0intO<\x07", 16_384, 7, 27),
+    // Positions.
+    (b"RA\x02\0\0\0>\0\0\0\0\0<\x01", 16_384, 6, 24),
+    (b"RA\x02\0\0\0U\x01\0\0\0a<\0", 16_384, 6, 24),
+    (b"R<\xff", 16_384, 6, 13),
+];

@@ -1,0 +1,320 @@
+//! The reader: message bytes into a lent table of rows.
+
+use crate::rules::*;
+
+/// The reader's answer.
+#[derive(Clone, Copy, Debug, PartialEq, Eq)]
+pub enum Read {
+    Accepted { rows: usize, used: usize },
+    Refused { number: u8, place: usize },
+}
+
+/// Reads a message into a table. Every word of the table is settled: rows
+/// first, zeros after them, and all zeros on a refusal.
+pub fn read(message: &[u8], table: &mut [u32]) -> Read {
+    match read_rows(message, table) {
+        Ok((rows, used)) => {
+            table[rows * ROW_WORDS..].fill(0);
+            Read::Accepted { rows, used }
+        }
+        Err(Refusal { number, place }) => {
+            table.fill(0);
+            let place = place as usize;
+            Read::Refused { number, place }
+        }
+    }
+}
+
+/// Kept small, since every part of the reader hands it on.
+struct Refusal {
+    number: u8,
+    place: u32,
+}
+
+type Answer<T> = Result<T, Refusal>;
+
+fn refuse<T>(number: u8, place: usize) -> Answer<T> {
+    let place = place as u32;
+    Err(Refusal { number, place })
+}
+
+/// Where a text stands in the message.
+#[derive(Clone, Copy)]
+struct Text {
+    offset: u32,
+    length: u32,
+}
+
+/// No text stands at 0, where the prefix is.
+const NEVER_SET: Text = Text {
+    offset: 0,
+    length: 0,
+};
+
+/// Gives the number of rows and of bytes used; leaves the other rows as they
+/// happen to be.
+fn read_rows(message: &[u8], table: &mut [u32]) -> Answer<(usize, usize)> {
+    if message.len() > BYTE_LIMIT {
+        return refuse(refusal::BYTES, 0);
+    }
+    let present = message.len().min(PREFIX.len());
+    if message[..present] != PREFIX[..present] {
+        return refuse(refusal::PREFIX, 0);
+    }
+    if present < PREFIX.len() {
+        return refuse(refusal::CUT, 0);
+    }
+    let (rows, _) = table.as_chunks_mut::<ROW_WORDS>();
+    let room = rows.len().min(ROW_LIMIT);
+    let mut reader = Reader {
+        message,
+        at: PREFIX.len(),
+        rows: &mut rows[..room],
+        filled: 0,
+        codebook: [NEVER_SET; POSITIONS],
+    };
+    reader.call_or_response()?;
+    Ok((reader.filled, reader.at))
+}
+
+struct Reader<'m, 't> {
+    message: &'m [u8],
+    /// The first byte not read yet.
+    at: usize,
+    rows: &'t mut [[u32; ROW_WORDS]],
+    filled: usize,
+    codebook: [Text; POSITIONS],
+}
+
+impl<'m> Reader<'m, '_> {
+    fn call_or_response(&mut self) -> Answer<()> {
+        let place = self.at;
+        match self.tag(place)? {
+            b'C' => {
+                let row = self.take_row(place)?;
+                self.at = place + 1;
+                self.string()?;
+                self.container(b'A', 0)?;
+                self.rows[row] = [kind::CALL, 0, 2, self.filled as u32];
+            }
+            b'R' => {
+                let row = self.take_row(place)?;
+                self.at = place + 1;
+                let kind = if self.tag(self.at)? == b'F' {
+                    self.at += 1;
+                    self.container(b'S', 0)?;
+                    kind::FAULT
+                } else {
+                    self.value(0)?;
+                    kind::RESPONSE
+                };
+                self.rows[row] = [kind, 0, 1, self.filled as u32];
+            }
+            _ => return refuse(refusal::TAG, place),
+        }
+        Ok(())
+    }
+
+    /// Reads a Value that stands in `nesting` Arrays and Structs.
+    fn value(&mut self, nesting: usize) -> Answer<()> {
+        let place = self.at;
+        match self.tag(place)? {
+            b'I' => {
+                let row = self.take_row(place)?;
+                let bits = self.four_bytes(place + 1, place)?;
+                self.leaf(row, [kind::INTEGER, bits, 0], place + 5);
+            }
+            b't' => {
+                let row = self.take_row(place)?;
+                self.leaf(row, [kind::BOOLEAN, 1, 0], place + 1);
+            }
+            b'f' => {
+                let row = self.take_row(place)?;
+                self.leaf(row, [kind::BOOLEAN, 0, 0], place + 1);
+            }
+            b'D' => self.ascii(kind::DOUBLE)?,
+            b'8' => self.ascii(kind::DATE_TIME)?,
+            b'B' => self.binary()?,
+            b'A' => self.array(nesting)?,
+            b'S' => self.structure(nesting)?,
+            b'O' => self.other()?,
+            b'U' | b'>' | b'<' => {
+                self.string()?;
+            }
+            _ => return refuse(refusal::TAG, place),
+        }
+        Ok(())
+    }
+
+    /// Reads an Array or a Struct where nothing else is allowed.
+    fn container(&mut self, tag: u8, nesting: usize) -> Answer<()> {
+        if self.tag(self.at)? != tag {
+            return refuse(refusal::TAG, self.at);
+        }
+        match tag {
+            b'A' => self.array(nesting),
+            _ => self.structure(nesting),
+        }
+    }
+
+    fn array(&mut self, nesting: usize) -> Answer<()> {
+        let (row, count) = self.begin_container(nesting)?;
+        for _ in 0..count {
+            self.value(nesting + 1)?;
+        }
+        self.rows[row] = [kind::ARRAY, 0, count, self.filled as u32];
+        Ok(())
+    }
+
+    fn structure(&mut self, nesting: usize) -> Answer<()> {
+        let (row, pairs) = self.begin_container(nesting)?;
+        for _ in 0..pairs {
+            self.string()?;
+            self.value(nesting + 1)?;
+        }
+        self.rows[row] = [kind::STRUCT, 0, pairs, self.filled as u32];
+        Ok(())
+    }
+
+    /// Gives the row and the count of an Array or Struct.
+    fn begin_container(&mut self, nesting: usize) -> Answer<(usize, u32)> {
+        let place = self.at;
+        if nesting >= NESTING_LIMIT {
+            return refuse(refusal::NESTING, place);
+        }
+        let row = self.take_row(place)?;
+        let count = self.four_bytes(place + 1, place)?;
+        self.at = place + 5;
+        Ok((row, count))
+    }
+
+    /// Reads a Double or DateTime; its tag has been seen.
+    fn ascii(&mut self, kind: u32) -> Answer<()> {
+        let place = self.at;
+        let row = self.take_row(place)?;
+        let Some(&size) = self.message.get(place + 1) else {
+            return refuse(refusal::CUT, place);
+        };
+        let content = self.content(place + 2, size.into(), place)?;
+        if !content.is_ascii() {
+            return refuse(refusal::TEXT, place);
+        }
+        let end = place + 2 + content.len();
+        self.leaf(row, [kind, (place + 2) as u32, size.into()], end);
+        Ok(())
+    }
+
+    /// Reads a Binary; its tag has been seen.
+    fn binary(&mut self) -> Answer<()> {
+        let place = self.at;
+        let row = self.take_row(place)?;
+        let length = self.four_bytes(place + 1, place)?;
+        let end = place + 5 + self.content(place + 5, length, place)?.len();
+        self.leaf(row, [kind::BINARY, (place + 5) as u32, length], end);
+        Ok(())
+    }
+
+    /// Reads an Other; its tag has been seen.
+    fn other(&mut self) -> Answer<()> {
+        let place = self.at;
+        let row = self.take_row(place)?;
+        self.at = place + 1;
+        let name = self.string()?;
+        let start = name.offset as usize;
+        if is_standard_name(&self.message[start..start + name.length as usize]) {
+            return refuse(refusal::NAME, place);
+        }
+        if self.tag(self.at)? != b'B' {
+            return refuse(refusal::TAG, self.at);
+        }
+        self.binary()?;
+        self.rows[row] = [kind::OTHER, 0, 2, self.filled as u32];
+        Ok(())
+    }
+
+    fn string(&mut self) -> Answer<Text> {
+        let place = self.at;
+        let tag = self.tag(place)?;
+        if !matches!(tag, b'U' | b'>' | b'<') {
+            return refuse(refusal::TAG, place);
+        }
+        let row = self.take_row(place)?;
+        let (text, end) = match tag {
+            b'U' => self.text(place + 1, place)?,
+            b'>' => {
+                let position = self.position(place)?;
+                let (text, end) = self.text(place + 2, place)?;
+                self.codebook[position] = text;
+                (text, end)
+            }
+            _ => {
+                let text = self.codebook[self.position(place)?];
+                if text.offset == NEVER_SET.offset {
+                    return refuse(refusal::RECALL, place);
+                }
+                (text, place + 2)
+            }
+        };
+        self.leaf(row, [kind::STRING, text.offset, text.length], end);
+        Ok(text)
+    }
+
+    /// The codebook position of the string at `place`.
+    fn position(&self, place: usize) -> Answer<usize> {
+        match self.message.get(place + 1) {
+            Some(&position) => Ok(position.into()),
+            None => refuse(refusal::CUT, place),
+        }
+    }
+
+    /// A text whose length field stands at `at`, and where it ends.
+    fn text(&self, at: usize, place: usize) -> Answer<(Text, usize)> {
+        let length = self.four_bytes(at, place)?;
+        let content = self.content(at + 4, length, place)?;
+        if std::str::from_utf8(content).is_err() {
+            return refuse(refusal::TEXT, place);
+        }
+        let offset = (at + 4) as u32;
+        Ok((Text { offset, length }, at + 4 + content.len()))
+    }
+
+    /// The byte that begins the item at `place`.
+    fn tag(&self, place: usize) -> Answer<u8> {
+        match self.message.get(place) {
+            Some(&tag) => Ok(tag),
+            None => refuse(refusal::CUT, place),
+        }
+    }
+
+    /// A four-byte field of the item at `place`.
+    fn four_bytes(&self, at: usize, place: usize) -> Answer<u32> {
+        match self.message.get(at..).and_then(<[u8]>::first_chunk) {
+            Some(&bytes) => Ok(u32::from_le_bytes(bytes)),
+            None => refuse(refusal::CUT, place),
+        }
+    }
+
+    /// The content of the item at `place`; `at` is inside the message or its
+    /// end.
+    fn content(&self, at: usize, length: u32, place: usize) -> Answer<&'m [u8]> {
+        match self.message[at..].get(..length as usize) {
+            Some(content) => Ok(content),
+            None => refuse(refusal::CUT, place),
+        }
+    }
+
+    /// The next row, for the item at `place`.
+    fn take_row(&mut self, place: usize) -> Answer<usize> {
+        if self.filled == self.rows.len() {
+            return refuse(refusal::ROWS, place);
+        }
+        self.filled += 1;
+        Ok(self.filled - 1)
+    }
+
+    /// Fills the row of an item without children, which ends before `end`.
+    fn leaf(&mut self, row: usize, [kind, a, b]: [u32; 3], end: usize) {
+        self.rows[row] = [kind, a, b, row as u32 + 1];
+        self.at = end;
+    }
+}
