@@ -8,7 +8,6 @@ ghost use mathlib.Core.List.{[], _∷_};
 ghost use Prim.Native.Nat.{_+_, _≤_};
 ghost use lib.ListN.{length, replicate};
 ghost use lib.Dec.{eqb};
-ghost use Rattle.draft.specs.Read.{prefix};
 ghost use Rattle.draft.specs.Written.{lsb, counted, letter as letterOf, size, contentBytes, itemBytes};
 ghost use Rattle.output.specs.Contract.{Front, Put};
 
@@ -52,6 +51,15 @@ fn put_counted(out: &mut [u8], t: &[u8])
 {
     put_four(out, t.len());
     copy(&mut out[4..], t);
+}
+
+// Bytes as they are.
+pub fn put_bytes(out: &mut [u8], t: &[u8]) -> usize
+    requires { ⌜ length (now t) ≤ length (now out) ⌝ }
+    ensures { λ n. ⌜ Put (now (t .entry)) (now (out .entry)) (now (out .exit)) n ⌝ }
+{
+    copy(out, t);
+    t.len()
 }
 
 fn put_one(out: &mut [u8], b: u8) -> usize
@@ -109,14 +117,6 @@ pub fn put_recorded(out: &mut [u8], p: u8, t: &[u8]) -> usize
     put_two(out, b'>', p);
     put_counted(&mut out[2..], t);
     6 + t.len()
-}
-
-// The 12 bytes that every message begins with.
-pub fn put_prefix(out: &mut [u8])
-    requires { ⌜ 12 ≤ length (now out) ⌝ }
-    ensures { λ _. ⌜ Front prefix (now (out .entry)) (now (out .exit)) ⌝ }
-{
-    copy(out, b"binmode-rpc:");
 }
 
 fn letter(a: u32) -> u8

@@ -123,16 +123,16 @@ fn put_items(
 {
     let mut at = 0;
     let mut j = 0;
-    let mut r = 0;
-    while r < rows {
-        let row = table::get_row(table, room, r);
+    let mut sent = 0;
+    while sent < rows {
+        let row = table::get_row(table, room, sent);
         if row.kind == 11 {
             at += put_string(&mut output[at..], text, strings, firsts, spots, j);
             j += 1;
-            r += 1;
+            sent += 1;
         } else {
             at += output::put_item(&mut output[at..], text, row);
-            r += 1;
+            sent += 1;
         }
     }
     at
@@ -152,7 +152,7 @@ fn put_message(
     requires { ⌜ Ready rows room (length (now table)) × Known (rowAt room (now table)) rows (now text) (now strings) (now firsts) (now spots) × (length (written (now text) (from (rowAt room (now table)) 0 rows)) ≤ length (now output)) ⌝ }
     ensures { λ n. ⌜ Put (written (now (text .entry)) (from (rowAt room (now (table .entry))) 0 rows)) (now (output .entry)) (now (output .exit)) n ⌝ }
 {
-    output::put_prefix(output);
+    output::put_bytes(output, b"binmode-rpc:");
     12
         + put_items(
             table,

@@ -6,10 +6,10 @@ use Rattle.writer.proofs.put_items.Statement.{statement}
 use Rattle.writer.proofs.put_items.Tie as tie
 
 abbrev Inv-loop : tie.InvT-loop
-Inv-loop table room rows text strings firsts spots output₀ at₀ j₀ r₀ output at j r = Writing (rowAt room table) rows text strings firsts spots output₀ r j at output
+Inv-loop table room rows text strings firsts spots output₀ at₀ j₀ sent₀ output at j sent = Writing (rowAt room table) rows text strings firsts spots output₀ sent j at output
 
 abbrev μ-loop : tie.MeasureT-loop
-μ-loop table room rows text strings firsts spots output₀ at₀ j₀ r₀ output at j r = rows - r
+μ-loop table room rows text strings firsts spots output₀ at₀ j₀ sent₀ output at j sent = rows - sent
 
 add-at : tie.Need-add-at Inv-loop μ-loop
 add-at c = write-fits (c .before .before .before .before .before .before .before .before .loop .inv) (c .before .before .before .before .before .before .get-row .ensures) (c .before .before .before .before .before .before .before .loop-test .taken) (c .before .before .before .before .if1 .taken) (c .before .before .put-string .ensures)
@@ -32,7 +32,7 @@ put-items-spec = tie.close (tie.spec
     (λ c κs. (search write-told, search write-words, search write-room))  -- put-string-requires
     add-at
     (λ c. search needs)  -- add-j
-    (λ c. search needs)  -- add-r
+    (λ c. search needs)  -- add-sent
     (λ c. search needs)  -- loop-less
     loop-again
     (λ c. search write-start)  -- sub-put-item
@@ -40,7 +40,7 @@ put-items-spec = tie.close (tie.spec
     (λ c. search needs)  -- part-put-item-end
     (λ c κs. search write-item-room)  -- put-item-requires
     (λ c. search write-item-fits)  -- add-at-2
-    (λ c. search needs)  -- add-r-2
+    (λ c. search needs)  -- add-sent-2
     (λ c. search needs)  -- loop-less-2
     loop-again-2
     (λ c. search needs)  -- same-length

@@ -5,7 +5,8 @@ use Rattle.writer.proofs.put_message.Tie as tie
 
 pub put-message-spec : {M : Type 1} → statement M
 put-message-spec = tie.close (tie.spec
-    (λ c κs. search message-start)  -- put-prefix-requires
+    (λ c. search needs)  -- slice-aggregate-put-bytes
+    (λ c κs. search message-start)  -- put-bytes-requires
     (λ c. search message-on)  -- sub-put-items
     (λ c. search message-on)  -- part-put-items-start
     (λ c. search needs)  -- part-put-items-end
