@@ -1,6 +1,7 @@
--- The item of a kind. Assumes nothing.
-use mathlib.Core.Path.{_≡_}
+-- The item of a kind, and the refusal of a number. Assumes nothing.
+use mathlib.Core.Path.{_≡_, refl}
 use Prim.Native.Nat.{ℕ}
+use native.Mathlib.Omega.{arith}
 use borrow.Author.Tests.{ne-eqb}
 use Rattle.draft.specs.declared.Content.the-variants.{Double, DateTime, Binary, Text}
 use Rattle.draft.specs.declared.Item.the-variants.{
@@ -15,6 +16,22 @@ use Rattle.draft.specs.declared.Item.the-variants.{
   Other,
   Unknown,
 }
+use Rattle.draft.specs.declared.Refusal.{Refusal}
+use Rattle.draft.specs.declared.Refusal.the-variants.{
+  Ended,
+  WrongPrefix,
+  UnexpectedByte,
+  BadText,
+  UnsetPosition,
+  StandardName,
+  TooDeep,
+  NoRow,
+  TooLong,
+  NotWritable,
+  FormTooLong,
+  OutputTooShort,
+}
+use Rattle.draft.specs.Refusals.{numberOf, refusalOf}
 use Rattle.draft.specs.Rows.{itemOf}
 
 module _ (k : ℕ) where
@@ -72,3 +89,85 @@ module _ (k : ℕ) where
       rw (ne-eqb _ _ a, ne-eqb _ _ b, ne-eqb _ _ c, ne-eqb _ _ d, ne-eqb _ _ e, ne-eqb _ _ f, ne-eqb _ _ g, ne-eqb _ _ h, ne-eqb _ _ i, ne-eqb _ _ j, ne-eqb _ _ l, ne-eqb _ _ m)
 
 pub ruleset naming = (kind-call, kind-response, kind-fault, kind-integer, kind-boolean, kind-double, kind-date, kind-binary, kind-array, kind-struct, kind-text, kind-other, kind-unknown)
+
+module _ (n : ℕ) where
+  pub refusal-ended : n ≡ 1 → Ended ≡ refusalOf n
+  unfolding refusalOf
+  refusal-ended e = rw e
+
+  pub refusal-prefix : n ≡ 2 → WrongPrefix ≡ refusalOf n
+  unfolding refusalOf
+  refusal-prefix e = rw e
+
+  pub refusal-byte : n ≡ 3 → UnexpectedByte ≡ refusalOf n
+  unfolding refusalOf
+  refusal-byte e = rw e
+
+  pub refusal-text : n ≡ 5 → BadText ≡ refusalOf n
+  unfolding refusalOf
+  refusal-text e = rw e
+
+  pub refusal-unset : n ≡ 6 → UnsetPosition ≡ refusalOf n
+  unfolding refusalOf
+  refusal-unset e = rw e
+
+  pub refusal-name : n ≡ 7 → StandardName ≡ refusalOf n
+  unfolding refusalOf
+  refusal-name e = rw e
+
+  pub refusal-deep : n ≡ 8 → TooDeep ≡ refusalOf n
+  unfolding refusalOf
+  refusal-deep e = rw e
+
+  pub refusal-row : n ≡ 9 → NoRow ≡ refusalOf n
+  unfolding refusalOf
+  refusal-row e = rw e
+
+  pub refusal-long : n ≡ 10 → TooLong ≡ refusalOf n
+  unfolding refusalOf
+  refusal-long e = rw e
+
+  pub refusal-unwritable : n ≡ 11 → NotWritable ≡ refusalOf n
+  unfolding refusalOf
+  refusal-unwritable e = rw e
+
+  pub refusal-form : n ≡ 12 → FormTooLong ≡ refusalOf n
+  unfolding refusalOf
+  refusal-form e = rw e
+
+  pub refusal-output : (n ≡ 1 → ⊥) → (n ≡ 2 → ⊥) → (n ≡ 3 → ⊥) → (n ≡ 5 → ⊥) → (n ≡ 6 → ⊥) → (n ≡ 7 → ⊥) → (n ≡ 8 → ⊥) → (n ≡ 9 → ⊥) → (n ≡ 10 → ⊥) → (n ≡ 11 → ⊥) → (n ≡ 12 → ⊥) → OutputTooShort ≡ refusalOf n
+  unfolding refusalOf
+  refusal-output a b c d e f g h i j k =
+      rw (ne-eqb _ _ a, ne-eqb _ _ b, ne-eqb _ _ c, ne-eqb _ _ d, ne-eqb _ _ e, ne-eqb _ _ f, ne-eqb _ _ g, ne-eqb _ _ h, ne-eqb _ _ i, ne-eqb _ _ j, ne-eqb _ _ k)
+
+-- no refusal has the number 0, and each its own
+pub number-some : (m : Refusal) → numberOf m ≡ 0 → ⊥
+number-some Ended e = omega (arith, e)
+number-some WrongPrefix e = omega (arith, e)
+number-some UnexpectedByte e = omega (arith, e)
+number-some BadText e = omega (arith, e)
+number-some UnsetPosition e = omega (arith, e)
+number-some StandardName e = omega (arith, e)
+number-some TooDeep e = omega (arith, e)
+number-some NoRow e = omega (arith, e)
+number-some TooLong e = omega (arith, e)
+number-some NotWritable e = omega (arith, e)
+number-some FormTooLong e = omega (arith, e)
+number-some OutputTooShort e = omega (arith, e)
+
+pub number-own : (m : Refusal) → refusalOf (numberOf m) ≡ m
+unfolding refusalOf
+number-own Ended = refl
+number-own WrongPrefix = refl
+number-own UnexpectedByte = refl
+number-own BadText = refl
+number-own UnsetPosition = refl
+number-own StandardName = refl
+number-own TooDeep = refl
+number-own NoRow = refl
+number-own TooLong = refl
+number-own NotWritable = refl
+number-own FormTooLong = refl
+number-own OutputTooShort = refl
+
+pub ruleset refusals = (refusal-ended, refusal-prefix, refusal-byte, refusal-text, refusal-unset, refusal-name, refusal-deep, refusal-row, refusal-long, refusal-unwritable, refusal-form, refusal-output)

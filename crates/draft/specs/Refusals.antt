@@ -1,5 +1,7 @@
 -- The refusals and document 01's numbers for them (4 is not used). Assumes nothing.
 use Prim.Native.Nat.{ℕ}
+use mathlib.Core.Bool.{Bool, true, false}
+use lib.Dec.{eqb}
 use Rattle.draft.specs.declared.Refusal.{Refusal}
 use Rattle.draft.specs.declared.Refusal.the-variants.{
   Ended,
@@ -41,3 +43,23 @@ numberOf NotWritable = 11
 numberOf FormTooLong = 12
 -- the output is shorter than the written form
 numberOf OutputTooShort = 13
+
+abbrev pickRefusal : Bool → Refusal → Refusal → Refusal
+pickRefusal true x y = x
+pickRefusal false x y = y
+
+-- the refusal that has a number
+unfoldable pub refusalOf : ℕ → Refusal
+refusalOf n =
+    pickRefusal (eqb n 1) Ended
+    (pickRefusal (eqb n 2) WrongPrefix
+    (pickRefusal (eqb n 3) UnexpectedByte
+    (pickRefusal (eqb n 5) BadText
+    (pickRefusal (eqb n 6) UnsetPosition
+    (pickRefusal (eqb n 7) StandardName
+    (pickRefusal (eqb n 8) TooDeep
+    (pickRefusal (eqb n 9) NoRow
+    (pickRefusal (eqb n 10) TooLong
+    (pickRefusal (eqb n 11) NotWritable
+    (pickRefusal (eqb n 12) FormTooLong
+    OutputTooShort))))))))))

@@ -1,6 +1,6 @@
 // The declared types that the definitions in specs/ cite.
 ghost use mathlib.Core.Path.{_≡_};
-ghost use Rattle.draft.specs.Refusals.{numberOf};
+ghost use Rattle.draft.specs.Refusals.{numberOf, refusalOf};
 ghost use Rattle.draft.specs.Rows.{kindOf, itemOf};
 
 // Why a message or a table is refused, in the order of document 01's numbers.
@@ -111,6 +111,26 @@ pub fn number(refusal: Refusal) -> u8
         Refusal::NotWritable => 11,
         Refusal::FormTooLong => 12,
         Refusal::OutputTooShort => 13,
+    }
+}
+
+// The refusal that has a number.
+pub fn refusal_of(number: usize) -> Refusal
+    ensures { λ r. ⌜ r ≡ refusalOf number ⌝ }
+{
+    match number {
+        1 => Refusal::Ended,
+        2 => Refusal::WrongPrefix,
+        3 => Refusal::UnexpectedByte,
+        5 => Refusal::BadText,
+        6 => Refusal::UnsetPosition,
+        7 => Refusal::StandardName,
+        8 => Refusal::TooDeep,
+        9 => Refusal::NoRow,
+        10 => Refusal::TooLong,
+        11 => Refusal::NotWritable,
+        12 => Refusal::FormTooLong,
+        _ => Refusal::OutputTooShort,
     }
 }
 

@@ -6,9 +6,9 @@ use Prim.Native.Nat.{ℕ, _+_, _*_, _≤_, _<_}
 use native.Mathlib.Omega.{arith}
 use mir.Syntax.{w32, w64}
 use mir.Val.{Fits}
-use lib.Dec.{leb, ltb}
+use lib.Dec.{leb, ltb, eqb}
 use lib.ListN.{length, getD}
-use borrow.Author.Tests.{lt-ltb, le-ltb, leb-true}
+use borrow.Author.Tests.{lt-ltb, le-ltb, leb-true, ne-eqb}
 use Rattle.draft.specs.declared.Refusal.{Refusal}
 use Rattle.draft.specs.declared.Refusal.the-variants.{Ended, UnexpectedByte, UnsetPosition, NoRow}
 use Rattle.draft.specs.declared.Verdict.{Verdict}
@@ -29,14 +29,13 @@ use Rattle.draft.specs.Content.{verdict, allThere, contentRule, nameRule}
 use Rattle.draft.specs.Bytes.{part}
 use Rattle.draft.specs.Codebook.{Book, recorded}
 use Rattle.draft.specs.Table.{setRow, putRows, rowAt}
-use Rattle.draft.specs.Read.{Reading, got, refused, Reader, pick, opened, pair, then, judged, leaf, contents, integerItem, booleanItem, shortItem, longItem, recordedItem, recalledItem, recalled, stringItem, ifString, string, textOf, firstText, name, otherItem, plainItem, tagOf}
+use Rattle.draft.specs.Read.{Reading, got, refused, Reader, pick, opened, pair, then, judged, leaf, contents, integerItem, booleanItem, shortItem, longItem, recordedItem, recalledItem, recalled, ifString, string, textOf, firstText, name, otherItem, pickTag, tagOf}
 use Rattle.codebook.specs.Words.{bookOf}
 use Rattle.table.proofs.Stored.{first-row}
-use Rattle.item.specs.declared.Place.{Place}
 use Rattle.item.specs.declared.Step.{Step}
-use Rattle.item.specs.declared.Step.the-variants.{Next, Refused}
-use Rattle.item.specs.Contract.{answer, Left, Leaves, Did, Stored, Closed, closed, Ends, ends}
-use Rattle.item.proofs.Readings.{Got, did-next, did-refused, done, did-no, held, opened-full, opened-cut, opened-on, leaf-got, judged-bad, judged-fine, only-short, only-no, only-on, pair-first, pair-both, over-closed, did-ends, at-in, row-in, only-held, pair-held}
+use Rattle.item.specs.Contract.{refusedAt, readTo, answer, Left, Leaves, Did, Stored, Closed, Ends}
+use Rattle.item.proofs.Tags.{tag-regular, tag-recorded, tag-recalled}
+use Rattle.item.proofs.Readings.{Got, did-next, did-not, done, did-no, held, opened-full, opened-cut, opened-on, leaf-got, judged-bad, judged-fine, only-short, only-no, only-on, pair-first, pair-both, over-closed, did-ends, at-in, row-in, only-held, pair-held}
 
 -- content that its rule takes lies in the message
 fine-there : (b : Bool) (w : Verdict) → allThere b w ≡ Fine → b ≡ true
@@ -59,11 +58,11 @@ module _ (c : Content) (s : List ℕ) (o n : ℕ) {v : Verdict} (e : v ≡ verdi
 
 -- an item's content
 module _ (s : List ℕ) (c : Content) (o n at : ℕ) {room r : ℕ} {T T′ : List ℕ} {v : Verdict} (e : v ≡ verdict c s o n) where
-  pub contents-bad : {bytes from : ℕ} {m : Refusal} → v ≡ Bad m → Stored (contents s room c o n at r) bytes room from r T T′ (Refused m at)
+  pub contents-bad : {bytes from : ℕ} {m : Refusal} {step : Step} → v ≡ Bad m → step ≡ refusedAt m at → Stored (contents s room c o n at r) bytes room from r T T′ step
   unfolding contents
-  contents-bad i = record { did = λ W. judged-bad at _ e i }
+  contents-bad {m = m} i f = record { did = λ W. judged-bad at _ e m i f }
 
-  pub contents-fine : {k : ℕ} {step : Step} → v ≡ Fine → k ≡ kindOf c → step ≡ Next (record { at = o + n; row = r + 1 }) → T′ ≡ setRow room T r (row k o n (r + 1)) → at < o → r < room → Stored (contents s room c o n at r) (length s) room (at + 1) r T T′ step
+  pub contents-fine : {k : ℕ} {step : Step} → v ≡ Fine → k ≡ kindOf c → step ≡ readTo (o + n) (r + 1) → T′ ≡ setRow room T r (row k o n (r + 1)) → at < o → r < room → Stored (contents s room c o n at r) (length s) room (at + 1) r T T′ step
   unfolding contents
   contents-fine i k f w l h =
       record { did = λ W. judged-fine at _ e i (leaf-got f (w ∙ rw k) (omega arith) (fine-within c s o n e i) h refl) }
@@ -78,53 +77,49 @@ module _ (s : List ℕ) (c : Content) (o at : ℕ) {m n : ℕ} (e : m ≡ n) {by
   contents-recorded book p W f = rw (← e, ← f) (d .did W)
 
 -- an Integer's bits, as they were read
-pub integer-got : {m n to : ℕ} {bytes room from r : ℕ} {T T′ W : List ℕ} {step : Step} → m ≡ n → step ≡ Next (record { at = to; row = r + 1 }) → T′ ≡ setRow room T r (row 4 m 0 (r + 1)) → from ≤ to → to ≤ bytes → r < room → Did (leaf 4 n 0 r to (bookOf W)) bytes room from r T T′ W step
+pub integer-got : {m n to : ℕ} {bytes room from r : ℕ} {T T′ W : List ℕ} {step : Step} → m ≡ n → step ≡ readTo to (r + 1) → T′ ≡ setRow room T r (row 4 m 0 (r + 1)) → from ≤ to → to ≤ bytes → r < room → Did (leaf 4 n 0 r to (bookOf W)) bytes room from r T T′ W step
 integer-got e i w f l h = rw (← e) (leaf-got i w f l h refl)
 
 -- what stands at a position, as it was recalled
 module _ (s : List ℕ) (at : ℕ) (W : List ℕ) {e x : Entry} (i : e ≡ x) {bytes room from r : ℕ} {T T′ : List ℕ} where
-  pub recalled-unset : e ≡ Unset → Did (recalled s room x at r (bookOf W)) bytes room from r T T′ W (Refused UnsetPosition at)
-  recalled-unset u = rw (← i, u) (did-no refl)
+  pub recalled-unset : {step : Step} → e ≡ Unset → step ≡ refusedAt UnsetPosition at → Did (recalled s room x at r (bookOf W)) bytes room from r T T′ W step
+  recalled-unset u f = did-no UnsetPosition f (rw (← i, u))
 
-  pub recalled-got : {o n : ℕ} {step : Step} → e ≡ Text o n → step ≡ Next (record { at = at + 2; row = r + 1 }) → T′ ≡ setRow room T r (row 11 o n (r + 1)) → from ≤ at + 2 → at + 2 ≤ bytes → r < room → Did (recalled s room x at r (bookOf W)) bytes room from r T T′ W step
+  pub recalled-got : {o n : ℕ} {step : Step} → e ≡ Text o n → step ≡ readTo (at + 2) (r + 1) → T′ ≡ setRow room T r (row 11 o n (r + 1)) → from ≤ at + 2 → at + 2 ≤ bytes → r < room → Did (recalled s room x at r (bookOf W)) bytes room from r T T′ W step
   recalled-got u f w l k h = rw (← i, u) (leaf-got f w l k h refl)
 
--- a String, by its form
-module _ (s : List ℕ) (at : ℕ) {form : Form} {bytes room from r : ℕ} {T T′ : List ℕ} {step : Step} where
-  pub form-regular : (W : List ℕ) → form ≡ Regular → Stored (longItem s room content.Text at r) bytes room from r T T′ step → Did (stringItem s room form at r (bookOf W)) bytes room from r T T′ W step
-  form-regular W i d = rw i (d .did W)
-
-  pub form-recorded : (book : Book) {W′ : List ℕ} → form ≡ Recorded → Did (recordedItem s room at r book) bytes room from r T T′ W′ step → Did (stringItem s room form at r book) bytes room from r T T′ W′ step
-  form-recorded book i d = rw i d
-
-  pub form-recalled : (book : Book) {W′ : List ℕ} → form ≡ Recalled → Did (recalledItem s room at r book) bytes room from r T T′ W′ step → Did (stringItem s room form at r book) bytes room from r T T′ W′ step
-  form-recalled book i d = rw i d
+-- a byte that begins no String
+no-string : (s : List ℕ) (room at r : ℕ) (book : Book) (b : ℕ) → (b ≡ 85 → ⊥) → (b ≡ 62 → ⊥) → (b ≡ 60 → ⊥) → ifString s room (tagOf b) at r book ≡ refused UnexpectedByte at
+unfolding tagOf
+no-string s room at r book b l m n =
+    chosen (eqb b 73) (Plain Integer) _ refl (chosen (eqb b 116) (Plain True) _ refl (chosen (eqb b 102) (Plain False) _ refl (chosen (eqb b 68) (Plain Double) _ refl (chosen (eqb b 56) (Plain DateTime) _ refl (chosen (eqb b 66) (Plain Binary) _ refl (chosen (eqb b 65) Array _ refl (chosen (eqb b 83) Struct _ refl (chosen (eqb b 79) (Plain Other) _ refl (rw (ne-eqb b 85 l, ne-eqb b 62 m, ne-eqb b 60 n))))))))))
+  where
+    chosen : (x : Bool) (t u : Tag) → ifString s room t at r book ≡ refused UnexpectedByte at → ifString s room u at r book ≡ refused UnexpectedByte at → ifString s room (pickTag x t u) at r book ≡ refused UnexpectedByte at
+    chosen true t u e f = e
+    chosen false t u e f = f
 
 -- a String, where nothing else is allowed
-string-is : (s : List ℕ) (room at r : ℕ) (book : Book) {t u : Tag} → at < length s → t ≡ tagOf (getD s at 0) → t ≡ u → string s room at r book ≡ ifString s room u at r book
-unfolding string
-string-is s room at r book h e i = rw (lt-ltb _ _ h, ← e, i)
-
-module _ (s : List ℕ) (at : ℕ) (book : Book) {bytes room from r : ℕ} {T T′ W′ : List ℕ} where
-  pub string-short : length s ≤ at → Did (string s room at r book) bytes room from r T T′ W′ (Refused Ended at)
+module _ (s : List ℕ) (at : ℕ) {bytes room from r : ℕ} {T T′ : List ℕ} {step : Step} where
+  pub string-short : (book : Book) {W′ : List ℕ} → length s ≤ at → step ≡ refusedAt Ended at → Did (string s room at r book) bytes room from r T T′ W′ step
   unfolding string
-  string-short h = did-no (simp (le-ltb _ _ h))
+  string-short book h f = did-no Ended f (simp (le-ltb _ _ h))
 
-  module _ {t : Tag} (h : at < length s) (e : t ≡ tagOf (getD s at 0)) where
-    pub string-form : {form : Form} {step : Step} → t ≡ String form → Did (stringItem s room form at r book) bytes room from r T T′ W′ step → Did (string s room at r book) bytes room from r T T′ W′ step
-    string-form i d = done (string-is s room at r book h e i) d
+  module _ (h : at < length s) where
+    pub string-regular : (W : List ℕ) → getD s at 0 ≡ 85 → Stored (longItem s room content.Text at r) bytes room from r T T′ step → Did (string s room at r (bookOf W)) bytes room from r T T′ W step
+    unfolding string
+    string-regular W e d = done (rw (lt-ltb _ _ h, ← tag-regular _ e)) (d .did W)
 
-    pub string-plain : {x : PlainItem} → t ≡ Plain x → Did (string s room at r book) bytes room from r T T′ W′ (Refused UnexpectedByte at)
-    string-plain i = did-no (string-is s room at r book h e i)
+    pub string-recorded : (book : Book) {W′ : List ℕ} → getD s at 0 ≡ 62 → Did (recordedItem s room at r book) bytes room from r T T′ W′ step → Did (string s room at r book) bytes room from r T T′ W′ step
+    unfolding string
+    string-recorded book e d = done (rw (lt-ltb _ _ h, ← tag-recorded _ e)) d
 
-    pub string-array : t ≡ Array → Did (string s room at r book) bytes room from r T T′ W′ (Refused UnexpectedByte at)
-    string-array i = did-no (string-is s room at r book h e i)
+    pub string-recalled : (book : Book) {W′ : List ℕ} → getD s at 0 ≡ 60 → Did (recalledItem s room at r book) bytes room from r T T′ W′ step → Did (string s room at r book) bytes room from r T T′ W′ step
+    unfolding string
+    string-recalled book e d = done (rw (lt-ltb _ _ h, ← tag-recalled _ e)) d
 
-    pub string-struct : t ≡ Struct → Did (string s room at r book) bytes room from r T T′ W′ (Refused UnexpectedByte at)
-    string-struct i = did-no (string-is s room at r book h e i)
-
-    pub string-unknown : t ≡ Unknown → Did (string s room at r book) bytes room from r T T′ W′ (Refused UnexpectedByte at)
-    string-unknown i = did-no (string-is s room at r book h e i)
+    pub string-no : (book : Book) {W′ : List ℕ} → (getD s at 0 ≡ 85 → ⊥) → (getD s at 0 ≡ 62 → ⊥) → (getD s at 0 ≡ 60 → ⊥) → step ≡ refusedAt UnexpectedByte at → Did (string s room at r book) bytes room from r T T′ W′ step
+    unfolding string
+    string-no book l m n f = did-no UnexpectedByte f (rw (lt-ltb _ _ h) (no-string s room at r book (getD s at 0) l m n))
 
 -- an accepted String has one row
 abbrev One : Reading → Type 0
@@ -169,13 +164,16 @@ pub row-text-is : (s : List ℕ) {x y : Row} {t : List ℕ} → t ≡ part s (x 
 row-text-is s e f = e ∙ rw f
 
 -- what an accepted reading did, by itself
-got-did : {o : Reading} {bytes room from r : ℕ} {T T₁ W₁ : List ℕ} {p : Place} (g : Got o bytes room from r T T₁ W₁ p) → Did (got (g .rows) (p .at) (bookOf W₁)) bytes room from r T T₁ W₁ (Next p)
-got-did g = record { says = rw (g .next); leaves = record { wrote = g .wrote; ahead = g .ahead; within = g .within; fits = rw (sym (g .next)) (g .fits); holds = refl } }
+got-did : {o : Reading} {bytes room from r : ℕ} {T T₁ W₁ : List ℕ} {step : Step} → step .number ≡ 0 → (g : Got o bytes room from r T T₁ W₁ step) → Did (got (g .rows) (step .at) (bookOf W₁)) bytes room from r T T₁ W₁ step
+got-did e g = record { says = rw (e, g .next); leaves = record { wrote = g .wrote; ahead = g .ahead; within = g .within; fits = rw (sym (g .next)) (g .fits); holds = refl } }
 
 -- a String's refusal is the name's
-pub name-refused : (s : List ℕ) (q at : ℕ) (book : Book) {bytes room from from′ r : ℕ} {T T₁ T′ W₁ W′ : List ℕ} {step : Step} {m : Refusal} {place : ℕ} → Did (string s room at r book) bytes room from r T T₁ W₁ step → step ≡ Refused m place → Did (name s room q at r book) bytes room from′ r T T′ W′ (Refused m place)
+pub name-refused : (s : List ℕ) (q at : ℕ) (book : Book) {bytes room from from′ r : ℕ} {T T₁ T′ W₁ W′ : List ℕ} {step : Step} → Did (string s room at r book) bytes room from r T T₁ W₁ step → (step .number ≡ 0 → ⊥) → Did (name s room q at r book) bytes room from′ r T T′ W′ step
 unfolding name
-name-refused s q at book d e = did-no (rw (did-refused d e))
+name-refused s q at book {room = room} {r = r} d n =
+    let z = did-not d n in
+    let e : string s room at r book ≡ refused (z .why) (z .place) = z .reading in
+    did-no (z .why) (z .says) (ap (λ (o : Reading). then o (λ rows at′ book′. judged (nameRule (firstText s room rows)) q (got rows at′ book′))) e)
 
 first-there : (s : List ℕ) (room r : ℕ) (T T₁ : List ℕ) (rows : List Row) (x : Row) → T₁ ≡ putRows room T r rows → rows ≡ x ∷ [] → r < room → room * 4 ≤ length T → textOf s (rowAt room T₁ r) ≡ firstText s room rows
 first-there s room r T T₁ rows x i e h l = rw (i, e, first-row room T r x [] h l)
@@ -185,7 +183,7 @@ unfolding name
 name-by s room q at r book e f = rw (e, f)
 
 -- a String that was read, whose row is in the table
-module _ (s : List ℕ) (at : ℕ) (book : Book) {bytes room from r : ℕ} {T T₁ W₁ : List ℕ} {step : Step} {p : Place} (d : Did (string s room at r book) bytes room from r T T₁ W₁ step) (e : step ≡ Next p) where
+module _ (s : List ℕ) (at : ℕ) (book : Book) {bytes room from r : ℕ} {T T₁ W₁ : List ℕ} {step : Step} (d : Did (string s room at r book) bytes room from r T T₁ W₁ step) (e : step .number ≡ 0) where
   the-row : (x : Row) × (did-next d e .rows ≡ x ∷ [])
   the-row = rw (did-next d e .reading) at (string-one s room at r book)
 
@@ -200,51 +198,24 @@ module _ (s : List ℕ) (at : ℕ) (book : Book) {bytes room from r : ℕ} {T T�
 
   -- the name of the Other at q, as its rule says
   module _ (q : ℕ) {t : List ℕ} {v : Verdict} (l : room * 4 ≤ length T) (f : t ≡ textOf s (rowAt room T₁ r)) (g : v ≡ nameRule t) where
-    name-is : name s room q at r book ≡ judged v q (got (did-next d e .rows) (p .at) (bookOf W₁))
+    name-is : name s room q at r book ≡ judged v q (got (did-next d e .rows) (step .at) (bookOf W₁))
     name-is = name-by s room q at r book (did-next d e .reading) (named l f g)
 
-    pub name-bad : {m : Refusal} {T′ W′ : List ℕ} → v ≡ Bad m → Did (name s room q at r book) bytes room from r T T′ W′ (Refused m q)
-    name-bad i = did-no (name-is ∙ rw i)
+    pub name-bad : {m : Refusal} {T′ W′ : List ℕ} {answer : Step} → v ≡ Bad m → answer ≡ refusedAt m q → Did (name s room q at r book) bytes room from r T T′ W′ answer
+    name-bad {m} i f = did-no m f (name-is ∙ rw i)
 
-    pub name-fine : v ≡ Fine → Did (name s room q at r book) bytes room from r T T₁ W₁ (Next p)
-    name-fine i = done (name-is ∙ rw i) (got-did (did-next d e))
-
--- the items that are no Strings, by their names
-module _ (s : List ℕ) (at : ℕ) {x : PlainItem} {bytes room from r : ℕ} {T T′ : List ℕ} {step : Step} where
-  module _ (W : List ℕ) where
-    pub plain-integer : x ≡ Integer → Stored (integerItem s room at r) bytes room from r T T′ step → Did (plainItem s room x at r (bookOf W)) bytes room from r T T′ W step
-    plain-integer i d = rw i (d .did W)
-
-    pub plain-true : x ≡ True → Stored (booleanItem s room 1 at r) bytes room from r T T′ step → Did (plainItem s room x at r (bookOf W)) bytes room from r T T′ W step
-    plain-true i d = rw i (d .did W)
-
-    pub plain-false : x ≡ False → Stored (booleanItem s room 0 at r) bytes room from r T T′ step → Did (plainItem s room x at r (bookOf W)) bytes room from r T T′ W step
-    plain-false i d = rw i (d .did W)
-
-    pub plain-double : x ≡ Double → Stored (shortItem s room content.Double at r) bytes room from r T T′ step → Did (plainItem s room x at r (bookOf W)) bytes room from r T T′ W step
-    plain-double i d = rw i (d .did W)
-
-    pub plain-date : x ≡ DateTime → Stored (shortItem s room content.DateTime at r) bytes room from r T T′ step → Did (plainItem s room x at r (bookOf W)) bytes room from r T T′ W step
-    plain-date i d = rw i (d .did W)
-
-    pub plain-binary : x ≡ Binary → Stored (longItem s room content.Binary at r) bytes room from r T T′ step → Did (plainItem s room x at r (bookOf W)) bytes room from r T T′ W step
-    plain-binary i d = rw i (d .did W)
-
-  pub plain-other : (book : Book) {W′ : List ℕ} → x ≡ Other → Did (otherItem s room at r book) bytes room from r T T′ W′ step → Did (plainItem s room x at r book) bytes room from r T T′ W′ step
-  plain-other book i d = rw i d
+    pub name-fine : {answer : Step} → v ≡ Fine → answer ≡ step → Did (name s room q at r book) bytes room from r T T₁ W₁ answer
+    name-fine i f = rw f (done (name-is ∙ rw i) (got-did e (did-next d e)))
 
 -- an item's own row
-pub close-refused : {step : Step} {k b r room : ℕ} {T T′ : List ℕ} {m : Refusal} {q : ℕ} → step ≡ Refused m q → Closed step k b r room T T′ (Refused m q)
-close-refused e = record { same = sym e; wrote = rw e tt }
+pub close-refused : {step : Step} {k b r room : ℕ} {T T′ : List ℕ} → (step .number ≡ 0 → ⊥) → Closed step k b r room T T′ step
+close-refused n = record { same = refl; wrote = λ e. absurd (n e) }
 
-pub close-next : {step : Step} {k b r room : ℕ} {T T′ : List ℕ} {p : Place} → step ≡ Next p → T′ ≡ setRow room T r (row k 0 b (p .row)) → Closed step k b r room T T′ (Next p)
-close-next e w = record { same = sym e; wrote = rw e w }
+pub close-next : {step : Step} {k b r room : ℕ} {T T′ : List ℕ} → T′ ≡ setRow room T r (row k 0 b (step .row)) → Closed step k b r room T T′ step
+close-next w = record { same = refl; wrote = λ e. w }
 
-pub end-word : {step : Step} {room : ℕ} {p : Place} → Ends step room → room ≤ 4096 → step ≡ Next p → Fits w32 (p .row)
-end-word {step} {room} {p} h k e = go (rw e at (h .within))
-  where
-    go : p .row ≤ room → Fits w32 (p .row)
-    go l = omega arith
+pub end-word : {step : Step} {room : ℕ} → Ends step room → room ≤ 4096 → step .number ≡ 0 → Fits w32 (step .row)
+end-word {step} {room} h k e = let l : step .row ≤ room = h .within e in omega arith
 
 -- small steps on
 pub ahead-one : (n : ℕ) → n + 1 ≤ n + 1
@@ -264,8 +235,6 @@ one-in h = omega arith
 
 pub ruleset leaves = (held, opened-full, opened-cut, opened-on, leaf-got, integer-got, contents-bad, contents-fine, contents-read, contents-recorded, recalled-unset, recalled-got, end-fits, offset-fits, length-fits, ahead-one, ahead-two, ahead-five, one-in)
 
-pub ruleset strings = (form-regular, form-recorded, form-recalled, string-short, string-form, string-plain, string-array, string-struct, string-unknown, only-short, only-no, only-on, only-held)
+pub ruleset strings = (string-short, string-regular, string-recorded, string-recalled, string-no, only-short, only-no, only-on, only-held)
 
-pub ruleset others = (did-no, did-refused, string-row, name-refused, name-bad, name-fine, pair-first, pair-both, pair-held, at-in, row-in, did-ends, row-text-is, opened-full, opened-on, over-closed, one-in, ahead-next, close-refused, close-next, end-word)
-
-pub ruleset plains = (plain-integer, plain-true, plain-false, plain-double, plain-date, plain-binary, plain-other)
+pub ruleset others = (string-row, name-refused, name-bad, name-fine, pair-first, pair-both, pair-held, at-in, row-in, did-ends, row-text-is, opened-full, opened-on, over-closed, one-in, ahead-next, close-refused, close-next, end-word)

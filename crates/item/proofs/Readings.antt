@@ -13,36 +13,47 @@ use Rattle.draft.specs.declared.Refusal.the-variants.{Ended, UnexpectedByte, No
 use Rattle.draft.specs.declared.Verdict.{Verdict}
 use Rattle.draft.specs.declared.Verdict.the-variants.{Fine, Bad}
 use Rattle.draft.specs.declared.Row.{Row}
+use Rattle.draft.specs.Refusals.{numberOf}
 use Rattle.draft.specs.Rows.{row}
 use Rattle.draft.specs.Codebook.{Book}
 use Rattle.draft.specs.Table.{setRow, putRows}
-use Rattle.draft.specs.Read.{Reading, got, refused, Reader, behind, pair, over, leaf, judged, present, opened, only}
+use Rattle.draft.specs.Read.{Reading, got, refused, Reader, then, behind, pair, over, leaf, judged, present, opened, only}
+use Rattle.draft.proofs.Naming.{number-some}
 use Rattle.codebook.specs.Words.{bookOf}
 use Rattle.table.proofs.Rows.{put-append}
-use Rattle.item.specs.declared.Place.{Place}
 use Rattle.item.specs.declared.Step.{Step}
-use Rattle.item.specs.declared.Step.the-variants.{Next, Refused}
-use Rattle.item.specs.Contract.{answer, Left, Leaves, Did, Stored, Closed, closed, Ends, ends}
+use Rattle.item.specs.Contract.{refusedAt, readTo, answer, Left, Leaves, Did, Stored, Closed, Ends}
 
--- an accepted reading, known by the place that it gave
-pub record Got (o : Reading) (bytes room from r : ℕ) (T T′ W′ : List ℕ) (p : Place) : Type 0 where
+-- a refusal, by its number
+pub refused-is : (m : Refusal) (p : ℕ) {n : ℕ} → n ≡ numberOf m → _≡_ {A = Step} (record { number = n; at = p; row = 0 }) (refusedAt m p)
+refused-is m p e = rw e
+
+-- an accepted reading, known by the step that it gave
+pub record Got (o : Reading) (bytes room from r : ℕ) (T T′ W′ : List ℕ) (step : Step) : Type 0 where
   pub rows : List Row
-  pub reading : o ≡ got rows (p .at) (bookOf W′)
-  pub next : p .row ≡ r + length rows
+  pub reading : o ≡ got rows (step .at) (bookOf W′)
+  pub next : step .row ≡ r + length rows
   pub wrote : T′ ≡ putRows room T r rows
-  pub ahead : from ≤ p .at
-  pub within : p .at ≤ bytes
-  pub fits : p .row ≤ room
+  pub ahead : from ≤ step .at
+  pub within : step .at ≤ bytes
+  pub fits : step .row ≤ room
+
+-- a refused one
+pub record Not (o : Reading) (step : Step) : Type 0 where
+  pub why : Refusal
+  pub place : ℕ
+  pub reading : o ≡ refused why place
+  pub says : step ≡ refusedAt why place
 
 module _ {o : Reading} {bytes room from r : ℕ} {T T′ W′ : List ℕ} {step : Step} where
-  pub did-next : {p : Place} → Did o bytes room from r T T′ W′ step → step ≡ Next p → Got o bytes room from r T T′ W′ p
-  did-next {p} d e = go o (d .says) (d .leaves)
+  pub did-next : Did o bytes room from r T T′ W′ step → step .number ≡ 0 → Got o bytes room from r T T′ W′ step
+  did-next d e = go o (d .says) (d .leaves)
     where
-      go : (o : Reading) → step ≡ answer r o → Leaves o bytes room from r T T′ W′ → Got o bytes room from r T T′ W′ p
-      go (refused n q) s l = let z : _≡_ {A = ℕ} 0 1 = cc in absurd (omega arith)
+      go : (o : Reading) → step ≡ answer r o → Leaves o bytes room from r T T′ W′ → Got o bytes room from r T T′ W′ step
+      go (refused n q) s l = absurd (number-some n (sym (ap (λ (x : Step). x .number) s) ∙ e))
       go (got rows at book) s l =
-          let a : at ≡ p .at = cc in
-          let b : r + length rows ≡ p .row = cc in
+          let a : at ≡ step .at = sym (ap (λ (x : Step). x .at) s) in
+          let b : r + length rows ≡ step .row = sym (ap (λ (x : Step). x .row) s) in
           record {
             rows = rows;
             reading = rw (a, ← l .holds);
@@ -54,33 +65,29 @@ module _ {o : Reading} {bytes room from r : ℕ} {T T′ W′ : List ℕ} {step 
           }
 
   -- where it went on is in the message and in the room
-  pub at-in : {p : Place} → Did o bytes room from r T T′ W′ step → step ≡ Next p → p .at ≤ bytes
+  pub at-in : Did o bytes room from r T T′ W′ step → step .number ≡ 0 → step .at ≤ bytes
   at-in d e = did-next d e .within
 
-  pub row-in : {p : Place} → Did o bytes room from r T T′ W′ step → step ≡ Next p → p .row ≤ room
+  pub row-in : Did o bytes room from r T T′ W′ step → step .number ≡ 0 → step .row ≤ room
   row-in d e = did-next d e .fits
 
   pub did-ends : Did o bytes room from r T T′ W′ step → Ends step room
-  did-ends d = record { within = go o (d .says) (d .leaves) }
-    where
-      go : (o : Reading) → step ≡ answer r o → Leaves o bytes room from r T T′ W′ → ends step room
-      go (refused n q) s l = rw s tt
-      go (got rows at book) s l = rw s (l .fits)
+  did-ends d = record { within = λ e. did-next d e .fits }
 
-  pub did-refused : {m : Refusal} {q : ℕ} → Did o bytes room from r T T′ W′ step → step ≡ Refused m q → o ≡ refused m q
-  did-refused {m} {q} d e = go o (d .says)
+  pub did-not : Did o bytes room from r T T′ W′ step → (step .number ≡ 0 → ⊥) → Not o step
+  did-not d n = go o (d .says)
     where
-      go : (o : Reading) → step ≡ answer r o → o ≡ refused m q
-      go (refused n p) s = cc
-      go (got rows at book) s = let z : _≡_ {A = ℕ} 0 1 = cc in absurd (omega arith)
+      go : (o : Reading) → step ≡ answer r o → Not o step
+      go (refused m p) s = record { why = m; place = p; reading = refl; says = s }
+      go (got rows at book) s = absurd (n (ap (λ (x : Step). x .number) s))
 
-module _ {o : Reading} {bytes room from r : ℕ} {T T′ W′ : List ℕ} where
+module _ {o : Reading} {bytes room from r : ℕ} {T T′ W′ : List ℕ} {step : Step} where
   -- a reading that is known by an equation
-  pub done : {o′ : Reading} {step : Step} → o ≡ o′ → Did o′ bytes room from r T T′ W′ step → Did o bytes room from r T T′ W′ step
+  pub done : {o′ : Reading} → o ≡ o′ → Did o′ bytes room from r T T′ W′ step → Did o bytes room from r T T′ W′ step
   done e d = rw e d
 
-  pub did-no : {m : Refusal} {q : ℕ} → o ≡ refused m q → Did o bytes room from r T T′ W′ (Refused m q)
-  did-no e = rw e (record { says = refl; leaves = tt })
+  pub did-no : (m : Refusal) {q : ℕ} → step ≡ refusedAt m q → o ≡ refused m q → Did o bytes room from r T T′ W′ step
+  did-no m s e = rw e (record { says = s; leaves = tt })
 
 -- a call that leaves the codebook alone
 pub held : {o : Book → Reading} {bytes room from r : ℕ} {T T′ : List ℕ} (W : List ℕ) {step : Step} → Stored o bytes room from r T T′ step → Did (o (bookOf W)) bytes room from r T T′ W step
@@ -88,38 +95,38 @@ held W d = d .did W
 
 -- what each item begins with
 module _ (s : List ℕ) (size at : ℕ) (o : Reading) {bytes room from r : ℕ} {T T′ W′ : List ℕ} where
-  pub opened-full : room ≤ r → Did (opened s room size at r o) bytes room from r T T′ W′ (Refused NoRow at)
-  opened-full h = did-no (simp (le-ltb _ _ h))
+  pub opened-full : {step : Step} → room ≤ r → step ≡ refusedAt NoRow at → Did (opened s room size at r o) bytes room from r T T′ W′ step
+  opened-full h e = did-no NoRow e (simp (le-ltb _ _ h))
 
-  pub opened-cut : r < room → length s < at + size → Did (opened s room size at r o) bytes room from r T T′ W′ (Refused Ended at)
-  opened-cut h k = did-no (simp (lt-ltb _ _ h, lt-leb _ _ k))
+  pub opened-cut : {step : Step} → r < room → length s < at + size → step ≡ refusedAt Ended at → Did (opened s room size at r o) bytes room from r T T′ W′ step
+  opened-cut h k e = did-no Ended e (simp (lt-ltb _ _ h, lt-leb _ _ k))
 
   pub opened-on : {step : Step} → r < room → at + size ≤ length s → Did o bytes room from r T T′ W′ step → Did (opened s room size at r o) bytes room from r T T′ W′ step
   opened-on h k d = done (simp (lt-ltb _ _ h, le-leb _ _ k)) d
 
 -- an item of one row
 module _ {k a b to : ℕ} {book : Book} {bytes room from r : ℕ} {T T′ W′ : List ℕ} where
-  pub leaf-got : {step : Step} → step ≡ Next (record { at = to; row = r + 1 }) → T′ ≡ setRow room T r (row k a b (r + 1)) → from ≤ to → to ≤ bytes → r < room → bookOf W′ ≡ book → Did (leaf k a b r to book) bytes room from r T T′ W′ step
+  pub leaf-got : {step : Step} → step ≡ readTo to (r + 1) → T′ ≡ setRow room T r (row k a b (r + 1)) → from ≤ to → to ≤ bytes → r < room → bookOf W′ ≡ book → Did (leaf k a b r to book) bytes room from r T T′ W′ step
   unfolding putRows
   leaf-got e w f l h b = record { says = e; leaves = record { wrote = w; ahead = f; within = l; fits = omega arith; holds = b } }
 
 -- what a rule says
 module _ {v w : Verdict} (at : ℕ) (o : Reading) {bytes room from r : ℕ} {T T′ W′ : List ℕ} (e : v ≡ w) where
-  pub judged-bad : {m : Refusal} → v ≡ Bad m → Did (judged w at o) bytes room from r T T′ W′ (Refused m at)
-  judged-bad i = rw (← e, i) (did-no refl)
+  pub judged-bad : (m : Refusal) {step : Step} → v ≡ Bad m → step ≡ refusedAt m at → Did (judged w at o) bytes room from r T T′ W′ step
+  judged-bad m i f = did-no m f (rw (← e, i))
 
   pub judged-fine : {step : Step} → v ≡ Fine → Did o bytes room from r T T′ W′ step → Did (judged w at o) bytes room from r T T′ W′ step
   judged-fine i d = rw (← e, i) d
 
 -- what f reads, where only the byte b may begin it
 module _ (s : List ℕ) (b : ℕ) (f : Reader) (at : ℕ) (book : Book) {bytes room from r : ℕ} {T T′ W′ : List ℕ} where
-  pub only-short : length s ≤ at → Did (only s room b f at r book) bytes room from r T T′ W′ (Refused Ended at)
+  pub only-short : {step : Step} → length s ≤ at → step ≡ refusedAt Ended at → Did (only s room b f at r book) bytes room from r T T′ W′ step
   unfolding only
-  only-short h = did-no (simp (le-ltb _ _ h))
+  only-short h e = did-no Ended e (simp (le-ltb _ _ h))
 
-  pub only-no : at < length s → (getD s at 0 ≡ b → ⊥) → Did (only s room b f at r book) bytes room from r T T′ W′ (Refused UnexpectedByte at)
+  pub only-no : {step : Step} → at < length s → (getD s at 0 ≡ b → ⊥) → step ≡ refusedAt UnexpectedByte at → Did (only s room b f at r book) bytes room from r T T′ W′ step
   unfolding only
-  only-no h n = did-no (simp (lt-ltb _ _ h, ne-eqb _ _ n))
+  only-no h n e = did-no UnexpectedByte e (simp (lt-ltb _ _ h, ne-eqb _ _ n))
 
   pub only-on : {step : Step} → at < length s → getD s at 0 ≡ b → Did (f at r book) bytes room from r T T′ W′ step → Did (only s room b f at r book) bytes room from r T T′ W′ step
   unfolding only
@@ -131,16 +138,19 @@ only-held s b f at W h n d = only-on s b f at (bookOf W) h n (d .did W)
 
 -- two readings, one after the other
 module _ (f g : Reader) (at : ℕ) (book : Book) {bytes room from r : ℕ} {T T₁ W₁ : List ℕ} {step₁ : Step} (d₁ : Did (f at r book) bytes room from r T T₁ W₁ step₁) where
-  pub pair-first : {from′ q : ℕ} {m : Refusal} {T′ W′ : List ℕ} → step₁ ≡ Refused m q → Did (pair f g at r book) bytes room from′ r T T′ W′ (Refused m q)
+  pub pair-first : {from′ : ℕ} {T′ W′ : List ℕ} → (step₁ .number ≡ 0 → ⊥) → Did (pair f g at r book) bytes room from′ r T T′ W′ step₁
   unfolding pair
-  pair-first e = did-no (rw (did-refused d₁ e))
+  pair-first n = go (f at r book) (did-not d₁ n)
+    where
+      go : {from′ : ℕ} {T′ W′ : List ℕ} (o : Reading) → Not o step₁ → Did (then o (λ rows at′ book′. behind rows (g at′ (r + length rows) book′))) bytes room from′ r T T′ W′ step₁
+      go o z = did-no (z .why) (z .says) (rw (z .reading))
 
   -- the second's answer is the pair's
-  pair-of : {p : Place} {T₂ W₂ : List ℕ} {step₂ : Step} (o : Got (f at r book) bytes room from r T T₁ W₁ p) → Did (g (p .at) (r + length (o .rows)) (bookOf W₁)) bytes room (p .at + 1) (r + length (o .rows)) T₁ T₂ W₂ step₂ → Did (pair f g at r book) bytes room from r T T₂ W₂ step₂
+  pair-of : {T₂ W₂ : List ℕ} {step₂ : Step} (o : Got (f at r book) bytes room from r T T₁ W₁ step₁) → Did (g (step₁ .at) (r + length (o .rows)) (bookOf W₁)) bytes room (step₁ .at + 1) (r + length (o .rows)) T₁ T₂ W₂ step₂ → Did (pair f g at r book) bytes room from r T T₂ W₂ step₂
   unfolding pair
-  pair-of {p} {T₂} {W₂} {step₂} o d = rw (o .reading) (go (g (p .at) (r + length (o .rows)) (bookOf W₁)) (d .says) (d .leaves))
+  pair-of {T₂} {W₂} {step₂} o d = rw (o .reading) (go (g (step₁ .at) (r + length (o .rows)) (bookOf W₁)) (d .says) (d .leaves))
     where
-      go : (x : Reading) → step₂ ≡ answer (r + length (o .rows)) x → Leaves x bytes room (p .at + 1) (r + length (o .rows)) T₁ T₂ W₂ → Did (behind (o .rows) x) bytes room from r T T₂ W₂ step₂
+      go : (x : Reading) → step₂ ≡ answer (r + length (o .rows)) x → Leaves x bytes room (step₁ .at + 1) (r + length (o .rows)) T₁ T₂ W₂ → Did (behind (o .rows) x) bytes room from r T T₂ W₂ step₂
       go (refused m q) s l = record { says = s; leaves = tt }
       go (got rows to book₂) s l =
           let n : length (o .rows ++ rows) ≡ length (o .rows) + length rows = length-append (o .rows) rows in
@@ -156,27 +166,24 @@ module _ (f g : Reader) (at : ℕ) (book : Book) {bytes room from r : ℕ} {T T�
             };
           }
 
-  pub pair-both : {p : Place} {T₂ W₂ : List ℕ} {step₂ : Step} → step₁ ≡ Next p → Did (g (p .at) (p .row) (bookOf W₁)) bytes room (p .at + 1) (p .row) T₁ T₂ W₂ step₂ → Did (pair f g at r book) bytes room from r T T₂ W₂ step₂
+  pub pair-both : {T₂ W₂ : List ℕ} {step₂ : Step} → step₁ .number ≡ 0 → Did (g (step₁ .at) (step₁ .row) (bookOf W₁)) bytes room (step₁ .at + 1) (step₁ .row) T₁ T₂ W₂ step₂ → Did (pair f g at r book) bytes room from r T T₂ W₂ step₂
   pair-both e d = let o = did-next d₁ e in pair-of o (rw (o .next) at d)
 
-  pub pair-held : {p : Place} {T₂ : List ℕ} {step₂ : Step} → step₁ ≡ Next p → Stored (g (p .at) (p .row)) bytes room (p .at + 1) (p .row) T₁ T₂ step₂ → Did (pair f g at r book) bytes room from r T T₂ W₁ step₂
+  pub pair-held : {T₂ : List ℕ} {step₂ : Step} → step₁ .number ≡ 0 → Stored (g (step₁ .at) (step₁ .row)) bytes room (step₁ .at + 1) (step₁ .row) T₁ T₂ step₂ → Did (pair f g at r book) bytes room from r T T₂ W₁ step₂
   pair-held e d = pair-both e (d .did W₁)
 
 -- an item over a reading of what it holds
 pub over-closed : (k b r : ℕ) {o : Reading} {bytes room from from′ : ℕ} {T T₁ T₂ W′ : List ℕ} {step result : Step} → Did o bytes room from′ (r + 1) T T₁ W′ step → Closed step k b r room T₁ T₂ result → from ≤ from′ → Did (over k b r o) bytes room from r T T₂ W′ result
 unfolding putRows
-over-closed k b r {o} {bytes} {room} {from} {from′} {T} {T₁} {T₂} {W′} {step} {result} d c h = rw (c .same) (go o step (d .says) (d .leaves) (c .wrote))
+over-closed k b r {o} {bytes} {room} {from} {from′} {T} {T₁} {T₂} {W′} {step} {result} d c h = rw (c .same) (go o (d .says) (d .leaves))
   where
-    go : (o : Reading) (step : Step) → step ≡ answer (r + 1) o → Leaves o bytes room from′ (r + 1) T T₁ W′ → closed step k b r room T₁ T₂ → Did (over k b r o) bytes room from r T T₂ W′ step
-    go (refused m q) step s l w = record { says = s; leaves = tt }
-    go (got rows at book) step s l w = rw s (stored (rw s at w))
-      where
-        stored : T₂ ≡ setRow room T₁ r (row k 0 b (r + 1 + length rows)) → Did (over k b r (got rows at book)) bytes room from r T T₂ W′ (answer (r + 1) (got rows at book))
-        stored w =
-            record {
-              says = rw more;
-              leaves = record { wrote = w ∙ rw (l .wrote, add-one r); ahead = omega (arith, l .ahead); within = l .within; fits = omega (arith, l .fits); holds = l .holds };
-            }
-          where
-            more : r + length (row k 0 b (r + 1 + length rows) ∷ rows) ≡ r + 1 + length rows
-            more = omega arith
+    go : (o : Reading) → step ≡ answer (r + 1) o → Leaves o bytes room from′ (r + 1) T T₁ W′ → Did (over k b r o) bytes room from r T T₂ W′ step
+    go (refused m q) s l = record { says = s; leaves = tt }
+    go (got rows at book) s l =
+        let more : r + length (row k 0 b (r + 1 + length rows) ∷ rows) ≡ r + 1 + length rows = omega arith in
+        let end : step .row ≡ r + 1 + length rows = ap (λ (x : Step). x .row) s in
+        let wrote : T₂ ≡ setRow room T₁ r (row k 0 b (r + 1 + length rows)) = c .wrote (ap (λ (x : Step). x .number) s) ∙ rw end in
+        record {
+          says = s ∙ rw more;
+          leaves = record { wrote = wrote ∙ rw (l .wrote, add-one r); ahead = omega (arith, l .ahead); within = l .within; fits = omega (arith, l .fits); holds = l .holds };
+        }

@@ -3,33 +3,40 @@ use mathlib.Core.Path.{_≡_}
 use mathlib.Core.List.{List}
 use Prim.Native.Nat.{ℕ, _+_, _*_, _≤_}
 use lib.ListN.{length}
+use Rattle.draft.specs.declared.Refusal.{Refusal}
 use Rattle.draft.specs.declared.Row.{Row}
+use Rattle.draft.specs.Refusals.{numberOf}
 use Rattle.draft.specs.Codebook.{Book}
 use Rattle.draft.specs.Table.{setRow, putRows}
 use Rattle.draft.specs.Rows.{row}
 use Rattle.draft.specs.Read.{Reading, got, refused}
 use Rattle.codebook.specs.Words.{bookOf}
-use Rattle.item.specs.declared.Place.{Place}
 use Rattle.item.specs.declared.Step.{Step}
-use Rattle.item.specs.declared.Step.the-variants.{Next, Refused}
 
 -- what each reading function asks: the place is within the message and the table, the message is short enough, and the table has its room
-pub record Fitting (p : Place) (room bytes words : ℕ) : Type 0 where
-  pub within : p .at ≤ bytes
-  pub fits : p .row ≤ room
+pub record Fitting (at row room bytes words : ℕ) : Type 0 where
+  pub within : at ≤ bytes
+  pub fits : row ≤ room
   pub rows : room ≤ 4096
   pub table : room * 4 ≤ words
   pub message : bytes ≤ 65536
 
 -- and the codebook its words
-pub record Ready (p : Place) (room bytes words marks : ℕ) : Type 0 where
-  pub fitting : Fitting p room bytes words
+pub record Ready (at row room bytes words marks : ℕ) : Type 0 where
+  pub fitting : Fitting at row room bytes words
   pub book : marks ≡ 512
+
+-- a refusal, and that all was read up to a place and a row
+abbrev pub refusedAt : Refusal → ℕ → Step
+refusedAt m p = record { number = numberOf m; at = p; row = 0 }
+
+abbrev pub readTo : ℕ → ℕ → Step
+readTo to r = record { number = 0; at = to; row = r }
 
 -- the answer to a reading that began at row r
 abbrev pub answer : ℕ → Reading → Step
-answer r (refused m p) = Refused m p
-answer r (got rows at book) = Next (record { at = at; row = r + length rows })
+answer r (refused m p) = refusedAt m p
+answer r (got rows at book) = readTo at (r + length rows)
 
 -- what an accepted reading leaves: its rows in the table, the codebook in its words, and places within their bounds, `from` the least end
 pub record Left (rows : List Row) (at : ℕ) (book : Book) (bytes room from r : ℕ) (T T′ W′ : List ℕ) : Type 0 where
@@ -54,18 +61,10 @@ pub record Stored (o : Book → Reading) (bytes room from r : ℕ) (T T′ : Lis
   pub did : (W : List ℕ) → Did (o (bookOf W)) bytes room from r T T′ W step
 
 -- an item's row, stored behind the rows of what it holds if those were read
-abbrev pub closed : Step → ℕ → ℕ → ℕ → ℕ → List ℕ → List ℕ → Type 0
-closed (Refused m p) kind b r room T T′ = Unit {0}
-closed (Next p) kind b r room T T′ = T′ ≡ setRow room T r (row kind 0 b (p .row))
-
 pub record Closed (step : Step) (kind b r room : ℕ) (T T′ : List ℕ) (result : Step) : Type 0 where
   pub same : result ≡ step
-  pub wrote : closed step kind b r room T T′
+  pub wrote : step .number ≡ 0 → T′ ≡ setRow room T r (row kind 0 b (step .row))
 
 -- a step ends within the room
-abbrev pub ends : Step → ℕ → Type 0
-ends (Refused m p) room = Unit {0}
-ends (Next p) room = p .row ≤ room
-
 pub record Ends (step : Step) (room : ℕ) : Type 0 where
-  pub within : ends step room
+  pub within : step .number ≡ 0 → step .row ≤ room

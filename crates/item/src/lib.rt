@@ -2,30 +2,35 @@
 // `room` is the number of rows that the table has room for, `book` the codebook's 512 words.
 use draft::Content;
 use draft::Entry;
-use draft::Form;
-use draft::Plain;
 use draft::Refusal;
 use draft::Row;
-use draft::Tag;
 use draft::Verdict;
 ghost use mathlib.Core.Path.{_≡_};
 ghost use Prim.Native.Nat.{_+_, _*_, _≤_, _<_};
 ghost use lib.ListN.{length};
 ghost use Rattle.draft.specs.Bytes.{unsignedAt};
 ghost use Rattle.draft.specs.Table.{setRow, rowAt};
-ghost use Rattle.draft.specs.Read.{textOf, pair, tagOf, contents, integerItem, booleanItem, shortItem, longItem, recordedItem, recalledItem, stringItem, string, only, name, otherItem, plainItem};
+ghost use Rattle.draft.specs.Read.{textOf, pair, contents, integerItem, booleanItem, shortItem, longItem, recordedItem, recalledItem, string, only, name, otherItem};
 ghost use Rattle.codebook.specs.Words.{bookOf};
-ghost use Rattle.item.specs.Contract.{Fitting, Ready, Did, Stored, Closed, Ends};
+ghost use Rattle.item.specs.Contract.{Fitting, Ready, refusedAt, readTo, Did, Stored, Closed, Ends};
 
-// Where reading stands: the next byte and the next row.
-pub struct Place {
+// What reading an item answers: 0 if it was read, with the next byte and the next row; or the number of a refusal, with its place.
+// All three are words, so that an answer is copied as it was stored.
+pub struct Step {
+    pub number: usize,
     pub at: usize,
     pub row: usize,
 }
 
-pub enum Step {
-    Next(Place),
-    Refused(Refusal, usize),
+// A refusal at a place.
+pub fn refuse(refusal: Refusal, at: usize) -> Step
+    ensures { λ r. ⌜ r ≡ refusedAt refusal at ⌝ }
+{
+    Step {
+        number: draft::number(refusal) as usize,
+        at,
+        row: 0,
+    }
 }
 
 // A byte as a number: its caller has no fit of the element to show.
@@ -47,33 +52,19 @@ pub fn unsigned(s: &[u8], i: usize) -> usize
     a + 256 * (b + 256 * (c + 256 * d))
 }
 
-// What a byte begins where a Value is looked for.
-pub fn tag_of(b: u8) -> Tag
-    ensures { λ r. ⌜ r ≡ tagOf b ⌝ }
-{
-    match b {
-        b'I' => Tag::Plain(Plain::Integer),
-        b't' => Tag::Plain(Plain::True),
-        b'f' => Tag::Plain(Plain::False),
-        b'D' => Tag::Plain(Plain::Double),
-        b'8' => Tag::Plain(Plain::DateTime),
-        b'B' => Tag::Plain(Plain::Binary),
-        b'A' => Tag::Array,
-        b'S' => Tag::Struct,
-        b'O' => Tag::Plain(Plain::Other),
-        b'U' => Tag::String(Form::Regular),
-        b'>' => Tag::String(Form::Recorded),
-        b'<' => Tag::String(Form::Recalled),
-        _ => Tag::Unknown,
-    }
-}
-
 // An item of one row.
-fn put_leaf(p: Place, to: usize, kind: u32, a: u32, b: u32, room: usize, table: &mut [u32]) -> Step
-    requires { ⌜ (p .row < room) × (room ≤ 4096) × (room * 4 ≤ length (now table)) ⌝ }
-    ensures { λ r. ⌜ (r ≡ Step.Next (record { at = to; row = p .row + 1 })) × (now (table .exit) ≡ setRow room (now (table .entry)) (p .row) (record { kind = kind; a = a; b = b; end = p .row + 1 })) ⌝ }
+fn put_leaf(
+    row: usize,
+    to: usize,
+    kind: u32,
+    a: u32,
+    b: u32,
+    room: usize,
+    table: &mut [u32],
+) -> Step
+    requires { ⌜ (row < room) × (room ≤ 4096) × (room * 4 ≤ length (now table)) ⌝ }
+    ensures { λ r. ⌜ (r ≡ readTo to (row + 1)) × (now (table .exit) ≡ setRow room (now (table .entry)) row (record { kind = kind; a = a; b = b; end = row + 1 })) ⌝ }
 {
-    let row = p.row;
     let end = row + 1;
     table::put_row(
         table,
@@ -86,28 +77,32 @@ fn put_leaf(p: Place, to: usize, kind: u32, a: u32, b: u32, room: usize, table: 
             end: end as u32,
         },
     );
-    Step::Next(Place { at: to, row: end })
+    Step {
+        number: 0,
+        at: to,
+        row: end,
+    }
 }
 
 // The item at p whose content is the n bytes at o, unless its rule refuses them.
 fn put_contents(
     s: &[u8],
-    p: Place,
+    at: usize,
+    row: usize,
     content: Content,
     o: usize,
     n: usize,
     room: usize,
     table: &mut [u32],
 ) -> Step
-    requires { ⌜ (p .at < o) × (p .row < room) × (room ≤ 4096) × (room * 4 ≤ length (now table)) × (length (now s) ≤ 65536) ⌝ }
-    ensures { λ r. ⌜ Stored (contents (now (s .entry)) room content o n (p .at) (p .row)) (length (now (s .entry))) room (p .at + 1) (p .row) (now (table .entry)) (now (table .exit)) r ⌝ }
+    requires { ⌜ (at < o) × (row < room) × (room ≤ 4096) × (room * 4 ≤ length (now table)) × (length (now s) ≤ 65536) ⌝ }
+    ensures { λ r. ⌜ Stored (contents (now (s .entry)) room content o n at row) (length (now (s .entry))) room (at + 1) row (now (table .entry)) (now (table .exit)) r ⌝ }
 {
-    let at = p.at;
     let verdict = content::inspect(content, s, o, n);
     match verdict {
-        Verdict::Bad(refusal) => Step::Refused(refusal, at),
+        Verdict::Bad(refusal) => refuse(refusal, at),
         Verdict::Fine => put_leaf(
-            p,
+            row,
             o + n,
             draft::kind(content),
             o as u32,
@@ -118,158 +113,158 @@ fn put_contents(
     }
 }
 
-fn read_integer(s: &[u8], p: Place, room: usize, table: &mut [u32]) -> Step
-    requires { ⌜ (p .at < length (now s)) × Fitting p room (length (now s)) (length (now table)) ⌝ }
-    ensures { λ r. ⌜ Stored (integerItem (now (s .entry)) room (p .at) (p .row)) (length (now (s .entry))) room (p .at + 1) (p .row) (now (table .entry)) (now (table .exit)) r ⌝ }
+pub fn read_integer(s: &[u8], at: usize, row: usize, room: usize, table: &mut [u32]) -> Step
+    requires { ⌜ (at < length (now s)) × Fitting at row room (length (now s)) (length (now table)) ⌝ }
+    ensures { λ r. ⌜ Stored (integerItem (now (s .entry)) room at row) (length (now (s .entry))) room (at + 1) row (now (table .entry)) (now (table .exit)) r ⌝ }
 {
-    let at = p.at;
-    let row = p.row;
     if room <= row {
-        return Step::Refused(Refusal::NoRow, at);
+        return refuse(Refusal::NoRow, at);
     }
     if s.len() < at + 5 {
-        return Step::Refused(Refusal::Ended, at);
+        return refuse(Refusal::Ended, at);
     }
     let bits = unsigned(s, at + 1);
-    put_leaf(p, at + 5, 4, bits as u32, 0, room, table)
+    put_leaf(row, at + 5, 4, bits as u32, 0, room, table)
 }
 
-fn read_boolean(s: &[u8], p: Place, a: u32, room: usize, table: &mut [u32]) -> Step
-    requires { ⌜ (p .at < length (now s)) × Fitting p room (length (now s)) (length (now table)) ⌝ }
-    ensures { λ r. ⌜ Stored (booleanItem (now (s .entry)) room a (p .at) (p .row)) (length (now (s .entry))) room (p .at + 1) (p .row) (now (table .entry)) (now (table .exit)) r ⌝ }
+pub fn read_boolean(s: &[u8], at: usize, row: usize, a: u32, room: usize, table: &mut [u32]) -> Step
+    requires { ⌜ (at < length (now s)) × Fitting at row room (length (now s)) (length (now table)) ⌝ }
+    ensures { λ r. ⌜ Stored (booleanItem (now (s .entry)) room a at row) (length (now (s .entry))) room (at + 1) row (now (table .entry)) (now (table .exit)) r ⌝ }
 {
-    let at = p.at;
-    let row = p.row;
     if room <= row {
-        return Step::Refused(Refusal::NoRow, at);
+        return refuse(Refusal::NoRow, at);
     }
-    put_leaf(p, at + 1, 5, a, 0, room, table)
+    put_leaf(row, at + 1, 5, a, 0, room, table)
 }
 
 // A Double or a DateTime: a size byte, and its content.
-fn read_short(s: &[u8], p: Place, content: Content, room: usize, table: &mut [u32]) -> Step
-    requires { ⌜ (p .at < length (now s)) × Fitting p room (length (now s)) (length (now table)) ⌝ }
-    ensures { λ r. ⌜ Stored (shortItem (now (s .entry)) room content (p .at) (p .row)) (length (now (s .entry))) room (p .at + 1) (p .row) (now (table .entry)) (now (table .exit)) r ⌝ }
+pub fn read_short(
+    s: &[u8],
+    at: usize,
+    row: usize,
+    content: Content,
+    room: usize,
+    table: &mut [u32],
+) -> Step
+    requires { ⌜ (at < length (now s)) × Fitting at row room (length (now s)) (length (now table)) ⌝ }
+    ensures { λ r. ⌜ Stored (shortItem (now (s .entry)) room content at row) (length (now (s .entry))) room (at + 1) row (now (table .entry)) (now (table .exit)) r ⌝ }
 {
-    let at = p.at;
-    let row = p.row;
     if room <= row {
-        return Step::Refused(Refusal::NoRow, at);
+        return refuse(Refusal::NoRow, at);
     }
     if s.len() < at + 2 {
-        return Step::Refused(Refusal::Ended, at);
+        return refuse(Refusal::Ended, at);
     }
     let n = wide(s[at + 1]);
-    put_contents(s, p, content, at + 2, n, room, table)
+    put_contents(s, at, row, content, at + 2, n, room, table)
 }
 
 // A Binary or a regular String: a length, and its content.
-fn read_long(s: &[u8], p: Place, content: Content, room: usize, table: &mut [u32]) -> Step
-    requires { ⌜ (p .at < length (now s)) × Fitting p room (length (now s)) (length (now table)) ⌝ }
-    ensures { λ r. ⌜ Stored (longItem (now (s .entry)) room content (p .at) (p .row)) (length (now (s .entry))) room (p .at + 1) (p .row) (now (table .entry)) (now (table .exit)) r ⌝ }
+pub fn read_long(
+    s: &[u8],
+    at: usize,
+    row: usize,
+    content: Content,
+    room: usize,
+    table: &mut [u32],
+) -> Step
+    requires { ⌜ (at < length (now s)) × Fitting at row room (length (now s)) (length (now table)) ⌝ }
+    ensures { λ r. ⌜ Stored (longItem (now (s .entry)) room content at row) (length (now (s .entry))) room (at + 1) row (now (table .entry)) (now (table .exit)) r ⌝ }
 {
-    let at = p.at;
-    let row = p.row;
     if room <= row {
-        return Step::Refused(Refusal::NoRow, at);
+        return refuse(Refusal::NoRow, at);
     }
     if s.len() < at + 5 {
-        return Step::Refused(Refusal::Ended, at);
+        return refuse(Refusal::Ended, at);
     }
     let n = unsigned(s, at + 1);
-    put_contents(s, p, content, at + 5, n, room, table)
+    put_contents(s, at, row, content, at + 5, n, room, table)
 }
 
 // A String that is recorded. A refused text may be recorded too: nothing is read after a refusal.
-fn read_recorded(s: &[u8], p: Place, room: usize, table: &mut [u32], book: &mut [u32]) -> Step
-    requires { ⌜ (p .at < length (now s)) × Ready p room (length (now s)) (length (now table)) (length (now book)) ⌝ }
-    ensures { λ r. ⌜ Did (recordedItem (now (s .entry)) room (p .at) (p .row) (bookOf (now (book .entry)))) (length (now (s .entry))) room (p .at + 1) (p .row) (now (table .entry)) (now (table .exit)) (now (book .exit)) r ⌝ }
-{
-    let at = p.at;
-    let row = p.row;
-    if room <= row {
-        return Step::Refused(Refusal::NoRow, at);
-    }
-    if s.len() < at + 6 {
-        return Step::Refused(Refusal::Ended, at);
-    }
-    let n = unsigned(s, at + 2);
-    let o = at + 6;
-    codebook::record(book, s[at + 1], o as u32, n as u32);
-    put_contents(s, p, Content::Text, o, n, room, table)
-}
-
-// A String that is recalled.
-fn read_recalled(s: &[u8], p: Place, room: usize, table: &mut [u32], book: &mut [u32]) -> Step
-    requires { ⌜ (p .at < length (now s)) × Ready p room (length (now s)) (length (now table)) (length (now book)) ⌝ }
-    ensures { λ r. ⌜ Did (recalledItem (now (s .entry)) room (p .at) (p .row) (bookOf (now (book .entry)))) (length (now (s .entry))) room (p .at + 1) (p .row) (now (table .entry)) (now (table .exit)) (now (book .exit)) r ⌝ }
-{
-    let at = p.at;
-    let row = p.row;
-    if room <= row {
-        return Step::Refused(Refusal::NoRow, at);
-    }
-    if s.len() < at + 2 {
-        return Step::Refused(Refusal::Ended, at);
-    }
-    let entry = codebook::recall(book, s[at + 1]);
-    match entry {
-        Entry::Unset => Step::Refused(Refusal::UnsetPosition, at),
-        Entry::Text { offset, length } => put_leaf(p, at + 2, 11, offset, length, room, table),
-    }
-}
-
-// A String of a form.
-pub fn read_form(
+pub fn read_recorded(
     s: &[u8],
-    p: Place,
-    form: Form,
+    at: usize,
+    row: usize,
     room: usize,
     table: &mut [u32],
     book: &mut [u32],
 ) -> Step
-    requires { ⌜ (p .at < length (now s)) × Ready p room (length (now s)) (length (now table)) (length (now book)) ⌝ }
-    ensures { λ r. ⌜ Did (stringItem (now (s .entry)) room form (p .at) (p .row) (bookOf (now (book .entry)))) (length (now (s .entry))) room (p .at + 1) (p .row) (now (table .entry)) (now (table .exit)) (now (book .exit)) r ⌝ }
+    requires { ⌜ (at < length (now s)) × Ready at row room (length (now s)) (length (now table)) (length (now book)) ⌝ }
+    ensures { λ r. ⌜ Did (recordedItem (now (s .entry)) room at row (bookOf (now (book .entry)))) (length (now (s .entry))) room (at + 1) row (now (table .entry)) (now (table .exit)) (now (book .exit)) r ⌝ }
 {
-    match form {
-        Form::Regular => read_long(s, p, Content::Text, room, table),
-        Form::Recorded => read_recorded(s, p, room, table, book),
-        Form::Recalled => read_recalled(s, p, room, table, book),
+    if room <= row {
+        return refuse(Refusal::NoRow, at);
+    }
+    if s.len() < at + 6 {
+        return refuse(Refusal::Ended, at);
+    }
+    let n = unsigned(s, at + 2);
+    let o = at + 6;
+    codebook::record(book, s[at + 1], o as u32, n as u32);
+    put_contents(s, at, row, Content::Text, o, n, room, table)
+}
+
+// A String that is recalled.
+pub fn read_recalled(
+    s: &[u8],
+    at: usize,
+    row: usize,
+    room: usize,
+    table: &mut [u32],
+    book: &mut [u32],
+) -> Step
+    requires { ⌜ (at < length (now s)) × Ready at row room (length (now s)) (length (now table)) (length (now book)) ⌝ }
+    ensures { λ r. ⌜ Did (recalledItem (now (s .entry)) room at row (bookOf (now (book .entry)))) (length (now (s .entry))) room (at + 1) row (now (table .entry)) (now (table .exit)) (now (book .exit)) r ⌝ }
+{
+    if room <= row {
+        return refuse(Refusal::NoRow, at);
+    }
+    if s.len() < at + 2 {
+        return refuse(Refusal::Ended, at);
+    }
+    let entry = codebook::recall(book, s[at + 1]);
+    match entry {
+        Entry::Unset => refuse(Refusal::UnsetPosition, at),
+        Entry::Text { offset, length } => put_leaf(row, at + 2, 11, offset, length, room, table),
     }
 }
 
 // A String, where nothing else is allowed.
-pub fn read_string(s: &[u8], p: Place, room: usize, table: &mut [u32], book: &mut [u32]) -> Step
-    requires { ⌜ Ready p room (length (now s)) (length (now table)) (length (now book)) ⌝ }
-    ensures { λ r. ⌜ Did (string (now (s .entry)) room (p .at) (p .row) (bookOf (now (book .entry)))) (length (now (s .entry))) room (p .at + 1) (p .row) (now (table .entry)) (now (table .exit)) (now (book .exit)) r ⌝ }
+pub fn read_string(
+    s: &[u8],
+    at: usize,
+    row: usize,
+    room: usize,
+    table: &mut [u32],
+    book: &mut [u32],
+) -> Step
+    requires { ⌜ Ready at row room (length (now s)) (length (now table)) (length (now book)) ⌝ }
+    ensures { λ r. ⌜ Did (string (now (s .entry)) room at row (bookOf (now (book .entry)))) (length (now (s .entry))) room (at + 1) row (now (table .entry)) (now (table .exit)) (now (book .exit)) r ⌝ }
 {
-    let at = p.at;
     if s.len() <= at {
-        return Step::Refused(Refusal::Ended, at);
+        return refuse(Refusal::Ended, at);
     }
-    let tag = tag_of(s[at]);
-    match tag {
-        Tag::String(form) => read_form(s, p, form, room, table, book),
-        Tag::Plain(_) => Step::Refused(Refusal::UnexpectedByte, at),
-        Tag::Array => Step::Refused(Refusal::UnexpectedByte, at),
-        Tag::Struct => Step::Refused(Refusal::UnexpectedByte, at),
-        Tag::Unknown => Step::Refused(Refusal::UnexpectedByte, at),
+    match s[at] {
+        b'U' => read_long(s, at, row, Content::Text, room, table),
+        b'>' => read_recorded(s, at, row, room, table, book),
+        b'<' => read_recalled(s, at, row, room, table, book),
+        _ => refuse(Refusal::UnexpectedByte, at),
     }
 }
 
 // A Binary, where nothing else is allowed.
-fn read_binary(s: &[u8], p: Place, room: usize, table: &mut [u32]) -> Step
-    requires { ⌜ Fitting p room (length (now s)) (length (now table)) ⌝ }
-    ensures { λ r. ⌜ Stored (only (now (s .entry)) room 66 (longItem (now (s .entry)) room Content.Binary) (p .at) (p .row)) (length (now (s .entry))) room (p .at + 1) (p .row) (now (table .entry)) (now (table .exit)) r ⌝ }
+fn read_binary(s: &[u8], at: usize, row: usize, room: usize, table: &mut [u32]) -> Step
+    requires { ⌜ Fitting at row room (length (now s)) (length (now table)) ⌝ }
+    ensures { λ r. ⌜ Stored (only (now (s .entry)) room 66 (longItem (now (s .entry)) room Content.Binary) at row) (length (now (s .entry))) room (at + 1) row (now (table .entry)) (now (table .exit)) r ⌝ }
 {
-    let at = p.at;
     if s.len() <= at {
-        return Step::Refused(Refusal::Ended, at);
+        return refuse(Refusal::Ended, at);
     }
     if s[at] == b'B' {
-        read_long(s, p, Content::Binary, room, table)
+        read_long(s, at, row, Content::Binary, room, table)
     } else {
-        Step::Refused(Refusal::UnexpectedByte, at)
+        refuse(Refusal::UnexpectedByte, at)
     }
 }
 
@@ -283,41 +278,47 @@ fn row_text<'a>(s: &'a [u8], table: &[u32], room: usize, r: usize) -> &'a [u8]
 }
 
 // The name of the Other at o.
-fn read_name(s: &[u8], p: Place, o: usize, room: usize, table: &mut [u32], book: &mut [u32]) -> Step
-    requires { ⌜ Ready p room (length (now s)) (length (now table)) (length (now book)) ⌝ }
-    ensures { λ r. ⌜ Did (name (now (s .entry)) room o (p .at) (p .row) (bookOf (now (book .entry)))) (length (now (s .entry))) room (p .at + 1) (p .row) (now (table .entry)) (now (table .exit)) (now (book .exit)) r ⌝ }
+fn read_name(
+    s: &[u8],
+    at: usize,
+    row: usize,
+    o: usize,
+    room: usize,
+    table: &mut [u32],
+    book: &mut [u32],
+) -> Step
+    requires { ⌜ Ready at row room (length (now s)) (length (now table)) (length (now book)) ⌝ }
+    ensures { λ r. ⌜ Did (name (now (s .entry)) room o at row (bookOf (now (book .entry)))) (length (now (s .entry))) room (at + 1) row (now (table .entry)) (now (table .exit)) (now (book .exit)) r ⌝ }
 {
-    let row = p.row;
-    let step = read_string(s, p, room, table, book);
-    match step {
-        Step::Refused(refusal, place) => Step::Refused(refusal, place),
-        Step::Next(next) => {
-            let verdict = content::judge_name(row_text(s, table, room, row));
-            match verdict {
-                Verdict::Bad(refusal) => Step::Refused(refusal, o),
-                Verdict::Fine => Step::Next(next),
-            }
-        }
+    let step = read_string(s, at, row, room, table, book);
+    if step.number != 0 {
+        return step;
+    }
+    let verdict = content::judge_name(row_text(s, table, room, row));
+    match verdict {
+        Verdict::Bad(refusal) => refuse(refusal, o),
+        Verdict::Fine => step,
     }
 }
 
 // The name of the Other at o, and its Binary.
 fn read_name_and_binary(
     s: &[u8],
-    p: Place,
+    at: usize,
+    row: usize,
     o: usize,
     room: usize,
     table: &mut [u32],
     book: &mut [u32],
 ) -> Step
-    requires { ⌜ Ready p room (length (now s)) (length (now table)) (length (now book)) ⌝ }
-    ensures { λ r. ⌜ Did (pair (name (now (s .entry)) room o) (only (now (s .entry)) room 66 (longItem (now (s .entry)) room Content.Binary)) (p .at) (p .row) (bookOf (now (book .entry)))) (length (now (s .entry))) room (p .at + 1) (p .row) (now (table .entry)) (now (table .exit)) (now (book .exit)) r ⌝ }
+    requires { ⌜ Ready at row room (length (now s)) (length (now table)) (length (now book)) ⌝ }
+    ensures { λ r. ⌜ Did (pair (name (now (s .entry)) room o) (only (now (s .entry)) room 66 (longItem (now (s .entry)) room Content.Binary)) at row (bookOf (now (book .entry)))) (length (now (s .entry))) room (at + 1) row (now (table .entry)) (now (table .exit)) (now (book .exit)) r ⌝ }
 {
-    let step = read_name(s, p, o, room, table, book);
-    match step {
-        Step::Refused(refusal, place) => Step::Refused(refusal, place),
-        Step::Next(next) => read_binary(s, next, room, table),
+    let step = read_name(s, at, row, o, room, table, book);
+    if step.number != 0 {
+        return step;
     }
+    read_binary(s, step.at, step.row, room, table)
 }
 
 // The row of an item behind the rows of what it holds, if those were read.
@@ -325,62 +326,38 @@ pub fn close(step: Step, kind: u32, b: u32, row: usize, room: usize, table: &mut
     requires { ⌜ Ends step room × (row < room) × (room ≤ 4096) × (room * 4 ≤ length (now table)) ⌝ }
     ensures { λ r. ⌜ Closed step kind b row room (now (table .entry)) (now (table .exit)) r ⌝ }
 {
-    match step {
-        Step::Refused(refusal, place) => Step::Refused(refusal, place),
-        Step::Next(next) => {
-            let end = next.row;
-            table::put_row(
-                table,
-                room,
-                row,
-                Row {
-                    kind,
-                    a: 0,
-                    b,
-                    end: end as u32,
-                },
-            );
-            Step::Next(next)
-        }
+    if step.number != 0 {
+        return step;
     }
+    let end = step.row;
+    table::put_row(
+        table,
+        room,
+        row,
+        Row {
+            kind,
+            a: 0,
+            b,
+            end: end as u32,
+        },
+    );
+    step
 }
 
-fn read_other(s: &[u8], p: Place, room: usize, table: &mut [u32], book: &mut [u32]) -> Step
-    requires { ⌜ (p .at < length (now s)) × Ready p room (length (now s)) (length (now table)) (length (now book)) ⌝ }
-    ensures { λ r. ⌜ Did (otherItem (now (s .entry)) room (p .at) (p .row) (bookOf (now (book .entry)))) (length (now (s .entry))) room (p .at + 1) (p .row) (now (table .entry)) (now (table .exit)) (now (book .exit)) r ⌝ }
-{
-    let at = p.at;
-    let row = p.row;
-    if room <= row {
-        return Step::Refused(Refusal::NoRow, at);
-    }
-    let first = Place {
-        at: at + 1,
-        row: row + 1,
-    };
-    let step = read_name_and_binary(s, first, at, room, table, book);
-    close(step, 12, 2, row, room, table)
-}
-
-// An item that is no String and holds no Values.
-pub fn read_plain(
+pub fn read_other(
     s: &[u8],
-    p: Place,
-    plain: Plain,
+    at: usize,
+    row: usize,
     room: usize,
     table: &mut [u32],
     book: &mut [u32],
 ) -> Step
-    requires { ⌜ (p .at < length (now s)) × Ready p room (length (now s)) (length (now table)) (length (now book)) ⌝ }
-    ensures { λ r. ⌜ Did (plainItem (now (s .entry)) room plain (p .at) (p .row) (bookOf (now (book .entry)))) (length (now (s .entry))) room (p .at + 1) (p .row) (now (table .entry)) (now (table .exit)) (now (book .exit)) r ⌝ }
+    requires { ⌜ (at < length (now s)) × Ready at row room (length (now s)) (length (now table)) (length (now book)) ⌝ }
+    ensures { λ r. ⌜ Did (otherItem (now (s .entry)) room at row (bookOf (now (book .entry)))) (length (now (s .entry))) room (at + 1) row (now (table .entry)) (now (table .exit)) (now (book .exit)) r ⌝ }
 {
-    match plain {
-        Plain::Integer => read_integer(s, p, room, table),
-        Plain::True => read_boolean(s, p, 1, room, table),
-        Plain::False => read_boolean(s, p, 0, room, table),
-        Plain::Double => read_short(s, p, Content::Double, room, table),
-        Plain::DateTime => read_short(s, p, Content::DateTime, room, table),
-        Plain::Binary => read_long(s, p, Content::Binary, room, table),
-        Plain::Other => read_other(s, p, room, table, book),
+    if room <= row {
+        return refuse(Refusal::NoRow, at);
     }
+    let step = read_name_and_binary(s, at + 1, row + 1, at, room, table, book);
+    close(step, 12, 2, row, room, table)
 }

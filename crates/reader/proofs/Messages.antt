@@ -9,24 +9,24 @@ use lib.ListN.{length, getD, replicate}
 use borrow.Author.Tests.{lt-ltb, le-ltb, le-leb, lt-leb, eq-eqb, ne-eqb}
 use Rattle.draft.specs.declared.Refusal.{Refusal}
 use Rattle.draft.specs.declared.Refusal.the-variants.{Ended, WrongPrefix, UnexpectedByte, TooLong}
+use Rattle.draft.specs.Refusals.{refusalOf}
 use Rattle.draft.specs.Codebook.{Book, clear}
 use Rattle.draft.specs.Table.{roomOf}
 use Rattle.draft.specs.Read.{Reading, over, only, opened, value, structItem, nested, callItem, responseItem, callOrResponse, prefix, agree, message, messageWithin}
+use Rattle.draft.proofs.Naming.{number-own}
 use Rattle.codebook.specs.Words.{bookOf}
 use Rattle.codebook.proofs.Recording.{clear-holds}
-use Rattle.item.specs.declared.Place.{Place}
 use Rattle.item.specs.declared.Step.{Step}
-use Rattle.item.specs.declared.Step.the-variants.{Next, Refused}
-use Rattle.item.specs.Contract.{Did}
-use Rattle.item.proofs.Readings.{Got, did-next, did-refused, done, did-no, did-ends, at-in, row-in, opened-full, opened-on, only-short, only-no, only-on, pair-first, pair-both, over-closed}
+use Rattle.item.specs.Contract.{refusedAt, Did}
+use Rattle.item.proofs.Readings.{Got, Not, did-next, did-not, done, did-no, did-ends, at-in, row-in, opened-full, opened-on, only-short, only-no, only-on, pair-first, pair-both, over-closed}
 use Rattle.reader.specs.declared.Answer.{Answer}
 use Rattle.reader.specs.declared.Answer.the-variants as answer
 use Rattle.reader.specs.Answers.{reading, answerOf, tableOf, Answers}
 
 -- what follows `R`
 module _ (s : List ℕ) (deep at : ℕ) (book : Book) {bytes room from r : ℕ} {T T′ W′ : List ℕ} (h : r < room) (k : at < length s) where
-  pub response-short : length s ≤ at + 1 → Did (responseItem s room deep at r book) bytes room from r T T′ W′ (Refused Ended (at + 1))
-  response-short l = opened-on s 1 at _ h (omega arith) (did-no (simp (le-ltb _ _ l)))
+  pub response-short : {step : Step} → length s ≤ at + 1 → step ≡ refusedAt Ended (at + 1) → Did (responseItem s room deep at r book) bytes room from r T T′ W′ step
+  response-short l e = opened-on s 1 at _ h (omega arith) (did-no Ended e (simp (le-ltb _ _ l)))
 
   pub response-fault : {step : Step} → at + 1 < length s → getD s (at + 1) 0 ≡ 70 → Did (over 3 1 r (only s room 83 (structItem s room (nested s room deep)) (at + 2) (r + 1) book)) bytes room from r T T′ W′ step → Did (responseItem s room deep at r book) bytes room from r T T′ W′ step
   response-fault l e d = opened-on s 1 at _ h (omega arith) (done (simp (lt-ltb _ _ l, eq-eqb _ _ e)) d)
@@ -36,9 +36,9 @@ module _ (s : List ℕ) (deep at : ℕ) (book : Book) {bytes room from r : ℕ} 
 
 -- the first item
 module _ (s : List ℕ) (deep at : ℕ) (book : Book) {bytes room from r : ℕ} {T T′ W′ : List ℕ} where
-  pub first-short : length s ≤ at → Did (callOrResponse s room deep at r book) bytes room from r T T′ W′ (Refused Ended at)
+  pub first-short : {step : Step} → length s ≤ at → step ≡ refusedAt Ended at → Did (callOrResponse s room deep at r book) bytes room from r T T′ W′ step
   unfolding callOrResponse
-  first-short h = did-no (simp (le-ltb _ _ h))
+  first-short h e = did-no Ended e (simp (le-ltb _ _ h))
 
   pub first-call : {step : Step} → at < length s → getD s at 0 ≡ 67 → Did (callItem s room deep at r book) bytes room from r T T′ W′ step → Did (callOrResponse s room deep at r book) bytes room from r T T′ W′ step
   unfolding callOrResponse
@@ -49,9 +49,9 @@ module _ (s : List ℕ) (deep at : ℕ) (book : Book) {bytes room from r : ℕ} 
     unfolding callOrResponse
     first-response e d = done (simp (lt-ltb _ _ h, ne-eqb _ _ n, eq-eqb _ _ e)) d
 
-    pub first-neither : (getD s at 0 ≡ 82 → ⊥) → Did (callOrResponse s room deep at r book) bytes room from r T T′ W′ (Refused UnexpectedByte at)
+    pub first-neither : {step : Step} → (getD s at 0 ≡ 82 → ⊥) → step ≡ refusedAt UnexpectedByte at → Did (callOrResponse s room deep at r book) bytes room from r T T′ W′ step
     unfolding callOrResponse
-    first-neither m = did-no (simp (lt-ltb _ _ h, ne-eqb _ _ n, ne-eqb _ _ m))
+    first-neither m e = did-no UnexpectedByte e (simp (lt-ltb _ _ h, ne-eqb _ _ n, ne-eqb _ _ m))
 
 pub ahead-next : (n : ℕ) → n + 1 ≤ n + 1 + 1
 ahead-next n = omega arith
@@ -69,16 +69,23 @@ module _ (s : List ℕ) (words : ℕ) {room from : ℕ} {T T₁ W W₁ : List �
   began : callOrResponse s (roomOf 4096 words) 32 12 0 clear ≡ callOrResponse s room 32 12 0 (bookOf W)
   began = simp (f, w, clear-holds 512)
 
-  pub body-no : (words₁ : ℕ) {T′ : List ℕ} {m : Refusal} {q : ℕ} → step ≡ Refused m q → T′ ≡ replicate words₁ 0 → words₁ ≡ words → Answers (callOrResponse s (roomOf 4096 words) 32 12 0 clear) words T′ (answer.Refused m q)
-  body-no words₁ e t k = let o = began ∙ did-refused d e in record { says = simp o; leaves = t ∙ simp (o, k) }
-
-  pub body-got : {p : Place} → step ≡ Next p → T ≡ replicate words 0 → Answers (callOrResponse s (roomOf 4096 words) 32 12 0 clear) words T₁ (answer.Accepted (p .row) (p .at))
-  body-got {p} e t = go (did-next d e)
+  pub body-no : (words₁ : ℕ) {T′ : List ℕ} {m : Refusal} → (step .number ≡ 0 → ⊥) → m ≡ refusalOf (step .number) → T′ ≡ replicate words₁ 0 → words₁ ≡ words → Answers (callOrResponse s (roomOf 4096 words) 32 12 0 clear) words T′ (answer.Refused m (step .at))
+  body-no words₁ {T′} {m} n i t k = go (did-not d n)
     where
-      go : Got (callOrResponse s room 32 12 0 (bookOf W)) (length s) room from 0 T T₁ W₁ p → Answers (callOrResponse s (roomOf 4096 words) 32 12 0 clear) words T₁ (answer.Accepted (p .row) (p .at))
+      go : Not (callOrResponse s room 32 12 0 (bookOf W)) step → Answers (callOrResponse s (roomOf 4096 words) 32 12 0 clear) words T′ (answer.Refused m (step .at))
+      go z =
+          let o = began ∙ z .reading in
+          let q : step .at ≡ z .place = ap (λ (x : Step). x .at) (z .says) in
+          let y : m ≡ z .why = i ∙ ap (λ (x : Step). refusalOf (x .number)) (z .says) ∙ number-own (z .why) in
+          record { says = simp (o, q, y); leaves = t ∙ simp (o, k) }
+
+  pub body-got : step .number ≡ 0 → T ≡ replicate words 0 → Answers (callOrResponse s (roomOf 4096 words) 32 12 0 clear) words T₁ (answer.Accepted (step .row) (step .at))
+  body-got e t = go (did-next d e)
+    where
+      go : Got (callOrResponse s room 32 12 0 (bookOf W)) (length s) room from 0 T T₁ W₁ step → Answers (callOrResponse s (roomOf 4096 words) 32 12 0 clear) words T₁ (answer.Accepted (step .row) (step .at))
       go g =
           let o = began ∙ g .reading in
-          let n : p .row ≡ length (g .rows) = g .next ∙ zero-add _ in
+          let n : step .row ≡ length (g .rows) = g .next ∙ zero-add _ in
           record { says = simp (o, n); leaves = g .wrote ∙ simp (o, f, t) }
 
 -- the whole message

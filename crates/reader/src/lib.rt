@@ -1,6 +1,5 @@
 // Reading a whole message into a lent table of rows.
 use draft::Refusal;
-use item::Place;
 use item::Step;
 ghost use mathlib.Core.Path.{_≡_};
 ghost use Prim.Native.Nat.{_+_, _≤_, _<_};
@@ -26,153 +25,140 @@ const MOST_NESTING: usize = 32;
 // An Array, where nothing else is allowed.
 fn read_array_only(
     s: &[u8],
-    p: Place,
+    at: usize,
+    row: usize,
     deep: usize,
     room: usize,
     table: &mut [u32],
     book: &mut [u32],
 ) -> Step
-    requires { ⌜ Ready p room (length (now s)) (length (now table)) (length (now book)) ⌝ }
-    ensures { λ r. ⌜ Did (only (now (s .entry)) room 65 (arrayItem (now (s .entry)) room (nested (now (s .entry)) room deep)) (p .at) (p .row) (bookOf (now (book .entry)))) (length (now (s .entry))) room (p .at + 1) (p .row) (now (table .entry)) (now (table .exit)) (now (book .exit)) r ⌝ }
+    requires { ⌜ Ready at row room (length (now s)) (length (now table)) (length (now book)) ⌝ }
+    ensures { λ r. ⌜ Did (only (now (s .entry)) room 65 (arrayItem (now (s .entry)) room (nested (now (s .entry)) room deep)) at row (bookOf (now (book .entry)))) (length (now (s .entry))) room (at + 1) row (now (table .entry)) (now (table .exit)) (now (book .exit)) r ⌝ }
 {
-    let at = p.at;
     if s.len() <= at {
-        return Step::Refused(Refusal::Ended, at);
+        return item::refuse(Refusal::Ended, at);
     }
     if s[at] == b'A' {
-        value::read_array(s, p, deep, room, table, book)
+        value::read_array(s, at, row, deep, room, table, book)
     } else {
-        Step::Refused(Refusal::UnexpectedByte, at)
+        item::refuse(Refusal::UnexpectedByte, at)
     }
 }
 
 // A Struct, where nothing else is allowed.
 fn read_struct_only(
     s: &[u8],
-    p: Place,
+    at: usize,
+    row: usize,
     deep: usize,
     room: usize,
     table: &mut [u32],
     book: &mut [u32],
 ) -> Step
-    requires { ⌜ Ready p room (length (now s)) (length (now table)) (length (now book)) ⌝ }
-    ensures { λ r. ⌜ Did (only (now (s .entry)) room 83 (structItem (now (s .entry)) room (nested (now (s .entry)) room deep)) (p .at) (p .row) (bookOf (now (book .entry)))) (length (now (s .entry))) room (p .at + 1) (p .row) (now (table .entry)) (now (table .exit)) (now (book .exit)) r ⌝ }
+    requires { ⌜ Ready at row room (length (now s)) (length (now table)) (length (now book)) ⌝ }
+    ensures { λ r. ⌜ Did (only (now (s .entry)) room 83 (structItem (now (s .entry)) room (nested (now (s .entry)) room deep)) at row (bookOf (now (book .entry)))) (length (now (s .entry))) room (at + 1) row (now (table .entry)) (now (table .exit)) (now (book .exit)) r ⌝ }
 {
-    let at = p.at;
     if s.len() <= at {
-        return Step::Refused(Refusal::Ended, at);
+        return item::refuse(Refusal::Ended, at);
     }
     if s[at] == b'S' {
-        value::read_struct(s, p, deep, room, table, book)
+        value::read_struct(s, at, row, deep, room, table, book)
     } else {
-        Step::Refused(Refusal::UnexpectedByte, at)
+        item::refuse(Refusal::UnexpectedByte, at)
     }
 }
 
 // A Call's method and its Array.
 fn read_method_and_array(
     s: &[u8],
-    p: Place,
+    at: usize,
+    row: usize,
     deep: usize,
     room: usize,
     table: &mut [u32],
     book: &mut [u32],
 ) -> Step
-    requires { ⌜ Ready p room (length (now s)) (length (now table)) (length (now book)) ⌝ }
-    ensures { λ r. ⌜ Did (pair (string (now (s .entry)) room) (only (now (s .entry)) room 65 (arrayItem (now (s .entry)) room (nested (now (s .entry)) room deep))) (p .at) (p .row) (bookOf (now (book .entry)))) (length (now (s .entry))) room (p .at + 1) (p .row) (now (table .entry)) (now (table .exit)) (now (book .exit)) r ⌝ }
+    requires { ⌜ Ready at row room (length (now s)) (length (now table)) (length (now book)) ⌝ }
+    ensures { λ r. ⌜ Did (pair (string (now (s .entry)) room) (only (now (s .entry)) room 65 (arrayItem (now (s .entry)) room (nested (now (s .entry)) room deep))) at row (bookOf (now (book .entry)))) (length (now (s .entry))) room (at + 1) row (now (table .entry)) (now (table .exit)) (now (book .exit)) r ⌝ }
 {
-    let step = item::read_string(s, p, room, table, book);
-    match step {
-        Step::Refused(refusal, place) => Step::Refused(refusal, place),
-        Step::Next(next) => read_array_only(s, next, deep, room, table, book),
+    let step = item::read_string(s, at, row, room, table, book);
+    if step.number != 0 {
+        return step;
     }
+    read_array_only(s, step.at, step.row, deep, room, table, book)
 }
 
 // The Call whose byte stands at p.
 fn read_call(
     s: &[u8],
-    p: Place,
+    at: usize,
+    row: usize,
     deep: usize,
     room: usize,
     table: &mut [u32],
     book: &mut [u32],
 ) -> Step
-    requires { ⌜ (p .at < length (now s)) × Ready p room (length (now s)) (length (now table)) (length (now book)) ⌝ }
-    ensures { λ r. ⌜ Did (callItem (now (s .entry)) room deep (p .at) (p .row) (bookOf (now (book .entry)))) (length (now (s .entry))) room (p .at + 1) (p .row) (now (table .entry)) (now (table .exit)) (now (book .exit)) r ⌝ }
+    requires { ⌜ (at < length (now s)) × Ready at row room (length (now s)) (length (now table)) (length (now book)) ⌝ }
+    ensures { λ r. ⌜ Did (callItem (now (s .entry)) room deep at row (bookOf (now (book .entry)))) (length (now (s .entry))) room (at + 1) row (now (table .entry)) (now (table .exit)) (now (book .exit)) r ⌝ }
 {
-    let at = p.at;
-    let row = p.row;
     if room <= row {
-        return Step::Refused(Refusal::NoRow, at);
+        return item::refuse(Refusal::NoRow, at);
     }
-    let first = Place {
-        at: at + 1,
-        row: row + 1,
-    };
-    let step = read_method_and_array(s, first, deep, room, table, book);
+    let step = read_method_and_array(s, at + 1, row + 1, deep, room, table, book);
     item::close(step, 1, 2, row, room, table)
 }
 
 // The Response whose byte stands at p: a fault's Struct, or a Value.
 fn read_response(
     s: &[u8],
-    p: Place,
+    at: usize,
+    row: usize,
     deep: usize,
     room: usize,
     table: &mut [u32],
     book: &mut [u32],
 ) -> Step
-    requires { ⌜ (p .at < length (now s)) × Ready p room (length (now s)) (length (now table)) (length (now book)) ⌝ }
-    ensures { λ r. ⌜ Did (responseItem (now (s .entry)) room deep (p .at) (p .row) (bookOf (now (book .entry)))) (length (now (s .entry))) room (p .at + 1) (p .row) (now (table .entry)) (now (table .exit)) (now (book .exit)) r ⌝ }
+    requires { ⌜ (at < length (now s)) × Ready at row room (length (now s)) (length (now table)) (length (now book)) ⌝ }
+    ensures { λ r. ⌜ Did (responseItem (now (s .entry)) room deep at row (bookOf (now (book .entry)))) (length (now (s .entry))) room (at + 1) row (now (table .entry)) (now (table .exit)) (now (book .exit)) r ⌝ }
 {
-    let at = p.at;
-    let row = p.row;
     if room <= row {
-        return Step::Refused(Refusal::NoRow, at);
+        return item::refuse(Refusal::NoRow, at);
     }
     let next = at + 1;
     if s.len() <= next {
-        return Step::Refused(Refusal::Ended, next);
+        return item::refuse(Refusal::Ended, next);
     }
     if s[next] == b'F' {
-        let fault = Place {
-            at: at + 2,
-            row: row + 1,
-        };
-        let step = read_struct_only(s, fault, deep, room, table, book);
+        let step = read_struct_only(s, at + 2, row + 1, deep, room, table, book);
         item::close(step, 3, 1, row, room, table)
     } else {
-        let first = Place {
-            at: next,
-            row: row + 1,
-        };
-        let step = value::read_value(s, first, deep, room, table, book);
+        let step = value::read_value(s, next, row + 1, deep, room, table, book);
         item::close(step, 2, 1, row, room, table)
     }
 }
 
 fn read_call_or_response(
     s: &[u8],
-    p: Place,
+    at: usize,
+    row: usize,
     deep: usize,
     room: usize,
     table: &mut [u32],
     book: &mut [u32],
 ) -> Step
-    requires { ⌜ Ready p room (length (now s)) (length (now table)) (length (now book)) ⌝ }
-    ensures { λ r. ⌜ Did (callOrResponse (now (s .entry)) room deep (p .at) (p .row) (bookOf (now (book .entry)))) (length (now (s .entry))) room (p .at + 1) (p .row) (now (table .entry)) (now (table .exit)) (now (book .exit)) r ⌝ }
+    requires { ⌜ Ready at row room (length (now s)) (length (now table)) (length (now book)) ⌝ }
+    ensures { λ r. ⌜ Did (callOrResponse (now (s .entry)) room deep at row (bookOf (now (book .entry)))) (length (now (s .entry))) room (at + 1) row (now (table .entry)) (now (table .exit)) (now (book .exit)) r ⌝ }
 {
-    let at = p.at;
     if s.len() <= at {
-        return Step::Refused(Refusal::Ended, at);
+        return item::refuse(Refusal::Ended, at);
     }
     if s[at] == b'C' {
-        return read_call(s, p, deep, room, table, book);
+        return read_call(s, at, row, deep, room, table, book);
     }
     if s[at] == b'R' {
-        return read_response(s, p, deep, room, table, book);
+        return read_response(s, at, row, deep, room, table, book);
     }
-    Step::Refused(Refusal::UnexpectedByte, at)
+    item::refuse(Refusal::UnexpectedByte, at)
 }
 
 // Whether a message begins as all do, as far as it goes.
@@ -201,17 +187,17 @@ fn read_body(s: &[u8], table: &mut [u32]) -> Answer
     let room = table::room_of(table.len());
     let mut words = [0u32; 512];
     let book: &mut [u32] = &mut words;
-    let start = Place { at: 12, row: 0 };
-    let step = read_call_or_response(s, start, MOST_NESTING, room, table, book);
-    match step {
-        Step::Refused(refusal, place) => {
-            table::clear(table);
-            Answer::Refused { refusal, place }
-        }
-        Step::Next(next) => Answer::Accepted {
-            rows: next.row,
-            used: next.at,
-        },
+    let step = read_call_or_response(s, 12, 0, MOST_NESTING, room, table, book);
+    if step.number != 0 {
+        table::clear(table);
+        return Answer::Refused {
+            refusal: draft::refusal_of(step.number),
+            place: step.at,
+        };
+    }
+    Answer::Accepted {
+        rows: step.row,
+        used: step.at,
     }
 }
 

@@ -13,11 +13,9 @@ use Rattle.draft.specs.Table.{putRows}
 use Rattle.draft.specs.Read.{Reading, got, refused, Reader, items, alike}
 use Rattle.codebook.specs.Words.{bookOf}
 use Rattle.table.proofs.Rows.{put-append}
-use Rattle.item.specs.declared.Place.{Place}
 use Rattle.item.specs.declared.Step.{Step}
-use Rattle.item.specs.declared.Step.the-variants.{Next, Refused}
-use Rattle.item.specs.Contract.{Did}
-use Rattle.item.proofs.Readings.{Got, did-next, did-refused, done, did-no}
+use Rattle.item.specs.Contract.{readTo, Did}
+use Rattle.item.proofs.Readings.{Got, did-next, did-not, done, did-no}
 
 -- a turn of the loop over a container's items
 module _ (f : List Row → Reader) (acc : List Row) (at r : ℕ) (book : Book) where
@@ -36,60 +34,62 @@ module _ (f : List Row → Reader) (acc : List Row) (at r : ℕ) (book : Book) w
   items-none zero h = refl
   items-none (suc n) h = absurd (omega arith)
 
--- where the loop over a container's n items stands, with `left` to come
-pub record Turn (f : List Row → Reader) (n : ℕ) (start : Place) (bytes room : ℕ) (T₀ W₀ : List ℕ) (left : ℕ) (here : Place) (T W : List ℕ) : Type 0 where
+-- where the loop over a container's n items, from the byte at₀ and the row r₀ on, stands, with `left` to come
+pub record Turn (f : List Row → Reader) (n at₀ r₀ bytes room : ℕ) (T₀ W₀ : List ℕ) (left at r : ℕ) (T W : List ℕ) : Type 0 where
   pub acc : List Row
-  pub same : items f n [] (start .at) (start .row) (bookOf W₀) ≡ items f left acc (here .at) (start .row) (bookOf W)
-  pub next : here .row ≡ start .row + length acc
-  pub wrote : T ≡ putRows room T₀ (start .row) acc
-  pub ahead : start .at ≤ here .at
-  pub within : here .at ≤ bytes
-  pub fits : here .row ≤ room
+  pub same : items f n [] at₀ r₀ (bookOf W₀) ≡ items f left acc at r₀ (bookOf W)
+  pub next : r ≡ r₀ + length acc
+  pub wrote : T ≡ putRows room T₀ r₀ acc
+  pub ahead : at₀ ≤ at
+  pub within : at ≤ bytes
+  pub fits : r ≤ room
 
-pub turn-first : {f : List Row → Reader} {n : ℕ} {start : Place} {bytes room : ℕ} {T W : List ℕ} → start .at ≤ bytes → start .row ≤ room → Turn f n start bytes room T W n start T W
+pub turn-first : {f : List Row → Reader} {n at r bytes room : ℕ} {T W : List ℕ} → at ≤ bytes → r ≤ room → Turn f n at r bytes room T W n at r T W
 unfolding putRows
-turn-first {start = p} h k = record { acc = []; same = refl; next = sym (add-zero (p .row)); wrote = refl; ahead = omega arith; within = h; fits = k }
+turn-first {r = r} h k = record { acc = []; same = refl; next = sym (add-zero r); wrote = refl; ahead = omega arith; within = h; fits = k }
 
-module _ {f : List Row → Reader} {n : ℕ} {start : Place} {bytes room : ℕ} {T₀ W₀ : List ℕ} {left : ℕ} {here : Place} {T W : List ℕ} (i : Turn f n start bytes room T₀ W₀ left here T W) where
-  after : {p : Place} {T′ W′ : List ℕ} → 0 < left → Got (f (i .acc) (here .at) (here .row) (bookOf W)) bytes room (here .at + 1) (here .row) T T′ W′ p → Turn f n start bytes room T₀ W₀ (left - 1) p T′ W′
-  after {p} h g =
+module _ {f : List Row → Reader} {n at₀ r₀ bytes room : ℕ} {T₀ W₀ : List ℕ} {left at r : ℕ} {T W : List ℕ} (i : Turn f n at₀ r₀ bytes room T₀ W₀ left at r T W) where
+  after : {step : Step} {T′ W′ : List ℕ} → 0 < left → Got (f (i .acc) at r (bookOf W)) bytes room (at + 1) r T T′ W′ step → Turn f n at₀ r₀ bytes room T₀ W₀ (left - 1) (step .at) (step .row) T′ W′
+  after h g =
       let l : length (i .acc ++ g .rows) ≡ length (i .acc) + length (g .rows) = length-append (i .acc) (g .rows) in
       record {
         acc = i .acc ++ g .rows;
-        same = i .same ∙ items-got f (i .acc) (here .at) (start .row) (bookOf W) left h (ap (λ (r : ℕ). f (i .acc) (here .at) r (bookOf W)) (sym (i .next)) ∙ g .reading);
+        same = i .same ∙ items-got f (i .acc) at r₀ (bookOf W) left h (ap (λ (x : ℕ). f (i .acc) at x (bookOf W)) (sym (i .next)) ∙ g .reading);
         next = omega (arith, g .next, i .next, l);
-        wrote = g .wrote ∙ rw (i .wrote, i .next) (put-append room T₀ (start .row) (i .acc) (g .rows) (omega (arith, g .next, i .next, g .fits)));
+        wrote = g .wrote ∙ rw (i .wrote, i .next) (put-append room T₀ r₀ (i .acc) (g .rows) (omega (arith, g .next, i .next, g .fits)));
         ahead = omega (arith, i .ahead, g .ahead);
         within = g .within;
         fits = g .fits;
       }
 
-  again-by : {step : Step} {p : Place} {T′ W′ : List ℕ} → 0 < left → Did (f (i .acc) (here .at) (here .row) (bookOf W)) bytes room (here .at + 1) (here .row) T T′ W′ step → step ≡ Next p → Turn f n start bytes room T₀ W₀ (left - 1) p T′ W′
+  again-by : {step : Step} {T′ W′ : List ℕ} → 0 < left → Did (f (i .acc) at r (bookOf W)) bytes room (at + 1) r T T′ W′ step → step .number ≡ 0 → Turn f n at₀ r₀ bytes room T₀ W₀ (left - 1) (step .at) (step .row) T′ W′
   again-by h d e = after h (did-next d e)
 
-  refused-by : {step : Step} {m : Refusal} {q : ℕ} {T′ T″ W′ W″ : List ℕ} → 0 < left → Did (f (i .acc) (here .at) (here .row) (bookOf W)) bytes room (here .at + 1) (here .row) T T′ W′ step → step ≡ Refused m q → Did (items f n [] (start .at) (start .row) (bookOf W₀)) bytes room (start .at) (start .row) T₀ T″ W″ (Refused m q)
-  refused-by h d e = did-no (i .same ∙ items-refused f (i .acc) (here .at) (start .row) (bookOf W) left h (ap (λ (r : ℕ). f (i .acc) (here .at) r (bookOf W)) (sym (i .next)) ∙ did-refused d e))
+  refused-by : {step : Step} {T′ T″ W′ W″ : List ℕ} → 0 < left → Did (f (i .acc) at r (bookOf W)) bytes room (at + 1) r T T′ W′ step → (step .number ≡ 0 → ⊥) → Did (items f n [] at₀ r₀ (bookOf W₀)) bytes room at₀ r₀ T₀ T″ W″ step
+  refused-by h d e =
+      let z = did-not d e in
+      did-no (z .why) (z .says) (i .same ∙ items-refused f (i .acc) at r₀ (bookOf W) left h (ap (λ (x : ℕ). f (i .acc) at x (bookOf W)) (sym (i .next)) ∙ z .reading))
 
-  pub turn-done : left ≤ 0 → Did (items f n [] (start .at) (start .row) (bookOf W₀)) bytes room (start .at) (start .row) T₀ T W (Next here)
+  pub turn-done : left ≤ 0 → Did (items f n [] at₀ r₀ (bookOf W₀)) bytes room at₀ r₀ T₀ T W (readTo at r)
   turn-done h =
-      done (i .same ∙ items-none f (i .acc) (here .at) (start .row) (bookOf W) left h)
+      done (i .same ∙ items-none f (i .acc) at r₀ (bookOf W) left h)
       (record {
         says = simp (sym (i .next));
         leaves = record { wrote = i .wrote; ahead = i .ahead; within = i .within; fits = rw (sym (i .next)) (i .fits); holds = refl };
       })
 
 -- where each is read alike, so that what a call did does not speak of the rows so far
-module _ (g : Reader) {n : ℕ} {start : Place} {bytes room : ℕ} {T₀ W₀ : List ℕ} {left : ℕ} {here : Place} {T W : List ℕ} (i : Turn (alike g) n start bytes room T₀ W₀ left here T W) where
-  pub turn-again : {step : Step} {p : Place} {T′ W′ : List ℕ} → 0 < left → Did (g (here .at) (here .row) (bookOf W)) bytes room (here .at + 1) (here .row) T T′ W′ step → step ≡ Next p → Turn (alike g) n start bytes room T₀ W₀ (left - 1) p T′ W′
+module _ (g : Reader) {n at₀ r₀ bytes room : ℕ} {T₀ W₀ : List ℕ} {left at r : ℕ} {T W : List ℕ} (i : Turn (alike g) n at₀ r₀ bytes room T₀ W₀ left at r T W) where
+  pub turn-again : {step : Step} {T′ W′ : List ℕ} → 0 < left → Did (g at r (bookOf W)) bytes room (at + 1) r T T′ W′ step → step .number ≡ 0 → Turn (alike g) n at₀ r₀ bytes room T₀ W₀ (left - 1) (step .at) (step .row) T′ W′
   unfolding alike
   turn-again h d e = again-by i h d e
 
-  pub turn-refused : {step : Step} {m : Refusal} {q : ℕ} {T′ T″ W′ W″ : List ℕ} → 0 < left → Did (g (here .at) (here .row) (bookOf W)) bytes room (here .at + 1) (here .row) T T′ W′ step → step ≡ Refused m q → Did (items (alike g) n [] (start .at) (start .row) (bookOf W₀)) bytes room (start .at) (start .row) T₀ T″ W″ (Refused m q)
+  pub turn-refused : {step : Step} {T′ T″ W′ W″ : List ℕ} → 0 < left → Did (g at r (bookOf W)) bytes room (at + 1) r T T′ W′ step → (step .number ≡ 0 → ⊥) → Did (items (alike g) n [] at₀ r₀ (bookOf W₀)) bytes room at₀ r₀ T₀ T″ W″ step
   unfolding alike
   turn-refused h d e = refused-by i h d e
 
 -- each accepted item takes a byte, so that fewer are left
-pub turn-less : (at : ℕ) {o : Reading} {bytes room r : ℕ} {T T′ W′ : List ℕ} {step : Step} {p : Place} → Did o bytes room (at + 1) r T T′ W′ step → step ≡ Next p → bytes - p .at < bytes - at
+pub turn-less : (at : ℕ) {o : Reading} {bytes room r : ℕ} {T T′ W′ : List ℕ} {step : Step} → Did o bytes room (at + 1) r T T′ W′ step → step .number ≡ 0 → bytes - step .at < bytes - at
 turn-less at d e = let g = did-next d e in omega (arith, g .ahead, g .within)
 
 -- small steps on

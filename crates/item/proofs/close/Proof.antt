@@ -5,10 +5,8 @@ use Rattle.item.proofs.close.Tie as tie
 
 pub close-spec : {M : Type 1} → statement M
 close-spec = tie.close (tie.spec
-    (λ c. search needs)  -- enum-known-step
-    (λ c. search needs)  -- enum-known-step-2
-    (λ c. search others)  -- cast-t15
-    (λ c κs. search needs)  -- put-row-requires
     (λ c. search others)  -- returns
+    (λ c. search others)  -- cast-t12
+    (λ c κs. search needs)  -- put-row-requires
     (λ c. search needs)  -- same-length
-    (λ c. search others))  -- returns-2
+    (λ c. search needs))  -- returns-2

@@ -7,6 +7,7 @@ pub put-contents-spec : {M : Type 1} → statement M
 put-contents-spec = tie.close (tie.spec
     (λ c κs. search needs)  -- inspect-requires
     (λ c. search needs)  -- enum-known-verdict
+    (λ c κs. search needs)  -- refuse-requires
     (λ c. search needs)  -- enum-told
     (λ c. search leaves)  -- add-put-leaf
     (λ c κs. search needs)  -- kind-requires

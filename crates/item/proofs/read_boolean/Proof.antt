@@ -5,6 +5,7 @@ use Rattle.item.proofs.read_boolean.Tie as tie
 
 pub read-boolean-spec : {M : Type 1} → statement M
 read-boolean-spec = tie.close (tie.spec
+    (λ c κs. search needs)  -- refuse-requires
     (λ c. record { did = λ W. search leaves })  -- returns
     (λ c. search needs)  -- add-put-leaf
     (λ c κs. search needs)  -- put-leaf-requires

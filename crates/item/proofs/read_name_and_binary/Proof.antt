@@ -9,12 +9,10 @@ read-binary-requires c κs = record { within = search others; fits = search othe
 pub read-name-and-binary-spec : {M : Type 1} → statement M
 read-name-and-binary-spec = tie.close (tie.spec
     (λ c κs. search needs)  -- read-name-requires
-    (λ c. search needs)  -- enum-known-step
-    (λ c. search needs)  -- enum-known-step-2
-    read-binary-requires
     (λ c. search needs)  -- same-length
     (λ c. search needs)  -- same-length-2
     (λ c. search others)  -- returns
+    read-binary-requires
     (λ c. search needs)  -- same-length-3
     (λ c. search needs)  -- same-length-4
     (λ c. search others))  -- returns-2

@@ -5,8 +5,10 @@ use Rattle.item.proofs.read_recorded.Tie as tie
 
 pub read-recorded-spec : {M : Type 1} → statement M
 read-recorded-spec = tie.close (tie.spec
+    (λ c κs. search needs)  -- refuse-requires
     (λ c. search leaves)  -- returns
     (λ c. search needs)  -- add-if2
+    (λ c κs. search needs)  -- refuse-requires-2
     (λ c. search leaves)  -- returns-2
     (λ c. search needs)  -- add-unsigned
     (λ c κs. search needs)  -- unsigned-requires

@@ -8,9 +8,8 @@ read-body-spec = tie.close (tie.spec
     (λ c κs. search needs)  -- room-of-requires
     (λ c. search needs)  -- slice-aggregate-book
     (λ c κs. search needs)  -- read-call-or-response-requires
-    (λ c. search needs)  -- enum-known-step
     (λ c κs. search needs)  -- clear-requires
-    (λ c. search needs)  -- enum-known-step-2
+    (λ c κs. search needs)  -- refusal-of-requires
     (λ c. search needs)  -- same-length
     (λ c. search whole)  -- returns
     (λ c. search needs)  -- same-length-2

@@ -5,9 +5,10 @@ use Rattle.reader.proofs.read_call.Tie as tie
 
 pub read-call-spec : {M : Type 1} → statement M
 read-call-spec = tie.close (tie.spec
+    (λ c κs. search needs)  -- refuse-requires
     (λ c. search messages)  -- returns
-    (λ c. search needs)  -- add-t13
-    (λ c. search needs)  -- add-t14
+    (λ c. search needs)  -- add-read-method-and-array
+    (λ c. search needs)  -- add-read-method-and-array-2
     (λ c κs. search needs)  -- read-method-and-array-requires
     (λ c κs. (search messages, search needs, search needs, search needs))  -- close-requires
     (λ c. search needs)  -- same-length

@@ -5,6 +5,7 @@ use Rattle.reader.proofs.read_call_or_response.Tie as tie
 
 pub read-call-or-response-spec : {M : Type 1} → statement M
 read-call-or-response-spec = tie.close (tie.spec
+    (λ c κs. search needs)  -- refuse-requires
     (λ c. search messages)  -- returns
     (λ c. search needs)  -- shared-slice-read-if2
     (λ c κs. search needs)  -- read-call-requires
@@ -16,4 +17,5 @@ read-call-or-response-spec = tie.close (tie.spec
     (λ c. search needs)  -- same-length-3
     (λ c. search needs)  -- same-length-4
     (λ c. search messages)  -- returns-3
+    (λ c κs. search needs)  -- refuse-requires-2
     (λ c. search messages))  -- returns-4

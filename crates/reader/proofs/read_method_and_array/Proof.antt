@@ -9,12 +9,10 @@ read-array-only-requires c κs = record { fitting = record { within = search mes
 pub read-method-and-array-spec : {M : Type 1} → statement M
 read-method-and-array-spec = tie.close (tie.spec
     (λ c κs. search needs)  -- read-string-requires
-    (λ c. search needs)  -- enum-known-step
-    (λ c. search needs)  -- enum-known-step-2
-    read-array-only-requires
     (λ c. search needs)  -- same-length
     (λ c. search needs)  -- same-length-2
     (λ c. search messages)  -- returns
+    read-array-only-requires
     (λ c. search needs)  -- same-length-3
     (λ c. search needs)  -- same-length-4
     (λ c. search messages))  -- returns-2

@@ -26,10 +26,15 @@ use Rattle.value.proofs.read_values.Reads as read-values
 use Rattle.value.proofs.read_values.Kinds as read-values-kinds
 use Rattle.value.proofs.+read_array+read_pair+read_pairs+read_struct+read_value+read_values.Lts-read_values as read-values-lts
 use Rattle.item.proofs.close.Reads as close-reads
-use Rattle.item.proofs.read_form.Reads as read-form-reads
-use Rattle.item.proofs.read_plain.Reads as read-plain-reads
+use Rattle.item.proofs.read_boolean.Reads as read-boolean-reads
+use Rattle.item.proofs.read_integer.Reads as read-integer-reads
+use Rattle.item.proofs.read_long.Reads as read-long-reads
+use Rattle.item.proofs.read_other.Reads as read-other-reads
+use Rattle.item.proofs.read_recalled.Reads as read-recalled-reads
+use Rattle.item.proofs.read_recorded.Reads as read-recorded-reads
+use Rattle.item.proofs.read_short.Reads as read-short-reads
 use Rattle.item.proofs.read_string.Reads as read-string-reads
-use Rattle.item.proofs.tag_of.Reads as tag-of-reads
+use Rattle.item.proofs.refuse.Reads as refuse-reads
 use Rattle.item.proofs.unsigned.Reads as unsigned-reads
 use Rattle.value.proofs.+read_array+read_pair+read_pairs+read_struct+read_value+read_values.{
   statement,
@@ -39,22 +44,22 @@ use Rattle.value.proofs.+read_array+read_pair+read_pairs+read_struct+re
 }
 
 abbrev μ-read-array : Measures 3 read-array-kinds.ps ℕ
-μ-read-array κs a = 4 * a .1 .1 .0 + 0
+μ-read-array κs a = 4 * a .1 .1 .1 .0 + 0
 
 abbrev μ-read-pair : Measures 3 read-pair-kinds.ps ℕ
-μ-read-pair κs a = 4 * a .1 .1 .0 + 2
+μ-read-pair κs a = 4 * a .1 .1 .1 .0 + 2
 
 abbrev μ-read-pairs : Measures 3 read-pairs-kinds.ps ℕ
-μ-read-pairs κs a = 4 * a .1 .1 .0 + 3
+μ-read-pairs κs a = 4 * a .1 .1 .1 .0 + 3
 
 abbrev μ-read-struct : Measures 3 read-struct-kinds.ps ℕ
-μ-read-struct κs a = 4 * a .1 .1 .0 + 0
+μ-read-struct κs a = 4 * a .1 .1 .1 .0 + 0
 
 abbrev μ-read-value : Measures 3 read-value-kinds.ps ℕ
-μ-read-value κs a = 4 * a .1 .1 .0 + 1
+μ-read-value κs a = 4 * a .1 .1 .1 .0 + 1
 
 abbrev μ-read-values : Measures 3 read-values-kinds.ps ℕ
-μ-read-values κs a = 4 * a .1 .1 .0 + 2
+μ-read-values κs a = 4 * a .1 .1 .1 .0 + 2
 
 abbrev read-array-at : ℕ → In 3 read-array-kinds.ps
 read-array-at t =
@@ -104,7 +109,7 @@ read-values-below t =
     and 3 read-values-kinds.ps (falls 3 read-values-kinds.ps _<_ μ-read-values t) read-values.Pre
 
 abbrev read-array-calls : ℕ → read-array-lts.Claims
-read-array-calls t = (unsigned-reads.Asked, unsigned-reads.Learnt, read-values-below t, read-values.Post, close-reads.Asked, close-reads.Learnt)
+read-array-calls t = (refuse-reads.Asked, refuse-reads.Learnt, unsigned-reads.Asked, unsigned-reads.Learnt, read-values-below t, read-values.Post, close-reads.Asked, close-reads.Learnt)
 
 abbrev read-pair-calls : ℕ → read-pair-lts.Claims
 read-pair-calls t = (read-string-reads.Asked, read-string-reads.Learnt, read-value-below t, read-value.Post)
@@ -113,10 +118,10 @@ abbrev read-pairs-calls : ℕ → read-pairs-lts.Claims
 read-pairs-calls t = (read-pair-below t, read-pair.Post)
 
 abbrev read-struct-calls : ℕ → read-struct-lts.Claims
-read-struct-calls t = (unsigned-reads.Asked, unsigned-reads.Learnt, read-pairs-below t, read-pairs.Post, close-reads.Asked, close-reads.Learnt)
+read-struct-calls t = (refuse-reads.Asked, refuse-reads.Learnt, unsigned-reads.Asked, unsigned-reads.Learnt, read-pairs-below t, read-pairs.Post, close-reads.Asked, close-reads.Learnt)
 
 abbrev read-value-calls : ℕ → read-value-lts.Claims
-read-value-calls t = (tag-of-reads.Asked, tag-of-reads.Learnt, read-plain-reads.Asked, read-plain-reads.Learnt, read-form-reads.Asked, read-form-reads.Learnt, read-array-below t, read-array.Post, read-struct-below t, read-struct.Post)
+read-value-calls t = (refuse-reads.Asked, refuse-reads.Learnt, read-integer-reads.Asked, read-integer-reads.Learnt, read-boolean-reads.Asked, read-boolean-reads.Learnt, read-short-reads.Asked, read-short-reads.Learnt, read-long-reads.Asked, read-long-reads.Learnt, read-array-below t, read-array.Post, read-struct-below t, read-struct.Post, read-other-reads.Asked, read-other-reads.Learnt, read-recorded-reads.Asked, read-recorded-reads.Learnt, read-recalled-reads.Asked, read-recalled-reads.Learnt)
 
 abbrev read-values-calls : ℕ → read-values-lts.Claims
 read-values-calls t = (read-value-below t, read-value.Post)
@@ -125,18 +130,18 @@ read-pair-read-value-requires : (t : ℕ) → read-pair-lts.Need-read-value-requ
 read-pair-read-value-requires t c κs = (search needs, record { fitting = record { within = search values; fits = search values; rows = search needs; table = search needs; message = search needs }; book = search needs })
 
 abbrev read-pairs-Inv-loop : read-pairs-lts.InvT-loop
-read-pairs-Inv-loop s deep n room table₀ book₀ pairs₀ here₀ table book pairs here =
-    Turn (alike (pair (string s room) (value s room deep))) n here₀ (length s) room table₀ book₀ pairs here table book × (length table ≡ length table₀) × (length book ≡ length book₀)
+read-pairs-Inv-loop s at row deep n room table₀ book₀ pairs₀ next₀ free₀ table book pairs next free =
+    Turn (alike (pair (string s room) (value s room deep))) n next₀ free₀ (length s) room table₀ book₀ pairs next free table book × (length table ≡ length table₀) × (length book ≡ length book₀)
 
 abbrev read-pairs-μ-loop : read-pairs-lts.MeasureT-loop
-read-pairs-μ-loop s deep n room table₀ book₀ pairs₀ here₀ table book pairs here = length s - here .at
+read-pairs-μ-loop s at row deep n room table₀ book₀ pairs₀ next₀ free₀ table book pairs next free = length s - next
 
 abbrev read-values-Inv-loop : read-values-lts.InvT-loop
-read-values-Inv-loop s deep n room table₀ book₀ values₀ here₀ table book values here =
-    Turn (alike (value s room deep)) n here₀ (length s) room table₀ book₀ values here table book × (length table ≡ length table₀) × (length book ≡ length book₀)
+read-values-Inv-loop s at row deep n room table₀ book₀ values₀ next₀ free₀ table book values next free =
+    Turn (alike (value s room deep)) n next₀ free₀ (length s) room table₀ book₀ values next free table book × (length table ≡ length table₀) × (length book ≡ length book₀)
 
 abbrev read-values-μ-loop : read-values-lts.MeasureT-loop
-read-values-μ-loop s deep n room table₀ book₀ values₀ here₀ table book values here = length s - here .at
+read-values-μ-loop s at row deep n room table₀ book₀ values₀ next₀ free₀ table book values next free = length s - next
 
 pub +read-array+read-pair+read-pairs+read-struct+read-value+read-values-spec :
     {M : Type 1} → statement M
@@ -151,9 +156,12 @@ pub +read-array+read-pair+read-pairs+read-struct+read-value+read-values-spec :
     (λ t. read-array-lts.spec (read-array-calls t)
     (read-array-at t)
     read-array.Post
+    (λ c κs. search needs)  -- read-array-refuse-requires
     (λ c. search values)  -- read-array-returns
+    (λ c κs. search needs)  -- read-array-refuse-requires-2
     (λ c. search values)  -- read-array-returns-2
     (λ c. search needs)  -- read-array-add-values-at
+    (λ c κs. search needs)  -- read-array-refuse-requires-3
     (λ c. search values)  -- read-array-returns-3
     (λ c. search needs)  -- read-array-add-unsigned
     (λ c κs. search needs)  -- read-array-unsigned-requires
@@ -169,12 +177,10 @@ pub +read-array+read-pair+read-pairs+read-struct+read-value+read-values-spec :
     (read-pair-at t)
     read-pair.Post
     (λ c κs. search needs)  -- read-pair-read-string-requires
-    (λ c. search needs)  -- read-pair-enum-known-step
-    (λ c. search needs)  -- read-pair-enum-known-step-2
-    (read-pair-read-value-requires t)
     (λ c. search needs)  -- read-pair-same-length
     (λ c. search needs)  -- read-pair-same-length-2
     (λ c. search values)  -- read-pair-returns
+    (read-pair-read-value-requires t)
     (λ c. search needs)  -- read-pair-same-length-3
     (λ c. search needs)  -- read-pair-same-length-4
     (λ c. search values))  -- read-pair-returns-2
@@ -186,11 +192,9 @@ pub +read-array+read-pair+read-pairs+read-struct+read-value+read-values-spec :
     read-pairs-μ-loop
     (λ c. (turn-first (search needs) (search needs), refl, refl))  -- read-pairs-loop-holds
     (λ c κs. search needs)  -- read-pairs-read-pair-requires
-    (λ c. search needs)  -- read-pairs-enum-known-step
     (λ c. search needs)  -- read-pairs-same-length
     (λ c. search needs)  -- read-pairs-same-length-2
     (λ c. search values)  -- read-pairs-returns
-    (λ c. search needs)  -- read-pairs-enum-known-step-2
     (λ c. search needs)  -- read-pairs-sub-pairs
     (λ c. search values)  -- read-pairs-loop-less
     (λ c. (search values, search needs, search needs))  -- read-pairs-loop-again
@@ -200,9 +204,12 @@ pub +read-array+read-pair+read-pairs+read-struct+read-value+read-values-spec :
     (λ t. read-struct-lts.spec (read-struct-calls t)
     (read-struct-at t)
     read-struct.Post
+    (λ c κs. search needs)  -- read-struct-refuse-requires
     (λ c. search values)  -- read-struct-returns
+    (λ c κs. search needs)  -- read-struct-refuse-requires-2
     (λ c. search values)  -- read-struct-returns-2
     (λ c. search needs)  -- read-struct-add-pairs-at
+    (λ c κs. search needs)  -- read-struct-refuse-requires-3
     (λ c. search values)  -- read-struct-returns-3
     (λ c. search needs)  -- read-struct-add-unsigned
     (λ c κs. search needs)  -- read-struct-unsigned-requires
@@ -217,31 +224,52 @@ pub +read-array+read-pair+read-pairs+read-struct+read-value+read-values-spec :
     (λ t. read-value-lts.spec (read-value-calls t)
     (read-value-at t)
     read-value.Post
+    (λ c κs. search needs)  -- read-value-refuse-requires
     (λ c. search values)  -- read-value-returns
-    (λ c. search needs)  -- read-value-shared-slice-read-tag-of
-    (λ c κs. search needs)  -- read-value-tag-of-requires
-    (λ c. search needs)  -- read-value-enum-known-tag
-    (λ c κs. search needs)  -- read-value-read-plain-requires
-    (λ c. search needs)  -- read-value-enum-known-tag-2
-    (λ c κs. search needs)  -- read-value-read-form-requires
-    (λ c. search needs)  -- read-value-enum-told
+    (λ c. search needs)  -- read-value-shared-slice-read-match
+    (λ c κs. search needs)  -- read-value-read-integer-requires
+    (λ c κs. search needs)  -- read-value-read-boolean-requires
+    (λ c κs. search needs)  -- read-value-read-boolean-requires-2
+    (λ c κs. search needs)  -- read-value-read-short-requires
+    (λ c κs. search needs)  -- read-value-read-short-requires-2
+    (λ c κs. search needs)  -- read-value-read-long-requires
     (λ c κs. search needs)  -- read-value-read-array-requires
-    (λ c. search needs)  -- read-value-enum-told-2
     (λ c κs. search needs)  -- read-value-read-struct-requires
-    (λ c. search needs)  -- read-value-enum-told-3
+    (λ c κs. search needs)  -- read-value-read-other-requires
+    (λ c κs. search needs)  -- read-value-read-long-requires-2
+    (λ c κs. search needs)  -- read-value-read-recorded-requires
+    (λ c κs. search needs)  -- read-value-read-recalled-requires
+    (λ c κs. search needs)  -- read-value-refuse-requires-2
     (λ c. search needs)  -- read-value-same-length
-    (λ c. search needs)  -- read-value-same-length-2
     (λ c. search values)  -- read-value-returns-2
-    (λ c. search needs)  -- read-value-same-length-3
-    (λ c. search needs)  -- read-value-same-length-4
+    (λ c. search needs)  -- read-value-same-length-2
     (λ c. search values)  -- read-value-returns-3
-    (λ c. search needs)  -- read-value-same-length-5
-    (λ c. search needs)  -- read-value-same-length-6
+    (λ c. search needs)  -- read-value-same-length-3
     (λ c. search values)  -- read-value-returns-4
+    (λ c. search needs)  -- read-value-same-length-4
+    (λ c. search values)  -- read-value-returns-5
+    (λ c. search needs)  -- read-value-same-length-5
+    (λ c. search values)  -- read-value-returns-6
+    (λ c. search needs)  -- read-value-same-length-6
+    (λ c. search values)  -- read-value-returns-7
     (λ c. search needs)  -- read-value-same-length-7
     (λ c. search needs)  -- read-value-same-length-8
-    (λ c. search values)  -- read-value-returns-5
-    (λ c. search values))  -- read-value-returns-6
+    (λ c. search values)  -- read-value-returns-8
+    (λ c. search needs)  -- read-value-same-length-9
+    (λ c. search needs)  -- read-value-same-length-10
+    (λ c. search values)  -- read-value-returns-9
+    (λ c. search needs)  -- read-value-same-length-11
+    (λ c. search needs)  -- read-value-same-length-12
+    (λ c. search values)  -- read-value-returns-10
+    (λ c. search needs)  -- read-value-same-length-13
+    (λ c. search values)  -- read-value-returns-11
+    (λ c. search needs)  -- read-value-same-length-14
+    (λ c. search needs)  -- read-value-same-length-15
+    (λ c. search values)  -- read-value-returns-12
+    (λ c. search needs)  -- read-value-same-length-16
+    (λ c. search needs)  -- read-value-same-length-17
+    (λ c. search values)  -- read-value-returns-13
+    (λ c. search values))  -- read-value-returns-14
     λ t. read-values-lts.spec
     (read-values-calls t)
     (read-values-at t)
@@ -250,11 +278,9 @@ pub +read-array+read-pair+read-pairs+read-struct+read-value+read-values-spec :
     read-values-μ-loop
     (λ c. (turn-first (search needs) (search needs), refl, refl))  -- read-values-loop-holds
     (λ c κs. search needs)  -- read-values-read-value-requires
-    (λ c. search needs)  -- read-values-enum-known-step
     (λ c. search needs)  -- read-values-same-length
     (λ c. search needs)  -- read-values-same-length-2
     (λ c. search values)  -- read-values-returns
-    (λ c. search needs)  -- read-values-enum-known-step-2
     (λ c. search needs)  -- read-values-sub-values
     (λ c. search values)  -- read-values-loop-less
     (λ c. (search values, search needs, search needs))  -- read-values-loop-again
