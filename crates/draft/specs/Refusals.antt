@@ -1,4 +1,4 @@
--- The refusals and document 01's numbers for them (4 is not used). Assumes nothing.
+-- The refusals and the numbers that documents 01 and 02 give them (4 is not used). Assumes nothing.
 use Prim.Native.Nat.{ℕ}
 use Rattle.draft.specs.declared.Refusal.{Refusal}
 use Rattle.draft.specs.declared.Refusal.the-variants.{
@@ -14,6 +14,7 @@ use Rattle.draft.specs.declared.Refusal.the-variants.{
   NotWritable,
   FormTooLong,
   OutputTooShort,
+  BadFault,
 }
 
 abbrev pub numberOf : Refusal → ℕ
@@ -41,3 +42,5 @@ numberOf NotWritable = 11
 numberOf FormTooLong = 12
 -- the output is shorter than the written form
 numberOf OutputTooShort = 13
+-- 02: a fault whose Struct does not hold the two members of a fault, and no more
+numberOf BadFault = 14

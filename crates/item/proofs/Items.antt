@@ -169,7 +169,7 @@ pub row-text-is : (s : List ℕ) {x y : Row} {t : List ℕ} → t ≡ part s (x 
 row-text-is s e f = e ∙ rw f
 
 -- what an accepted reading did, by itself
-got-did : {o : Reading} {bytes room from r : ℕ} {T T₁ W₁ : List ℕ} {p : Place} (g : Got o bytes room from r T T₁ W₁ p) → Did (got (g .rows) (p .at) (bookOf W₁)) bytes room from r T T₁ W₁ (Next p)
+pub got-did : {o : Reading} {bytes room from r : ℕ} {T T₁ W₁ : List ℕ} {p : Place} (g : Got o bytes room from r T T₁ W₁ p) → Did (got (g .rows) (p .at) (bookOf W₁)) bytes room from r T T₁ W₁ (Next p)
 got-did g = record { says = rw (g .next); leaves = record { wrote = g .wrote; ahead = g .ahead; within = g .within; fits = rw (sym (g .next)) (g .fits); holds = refl } }
 
 -- a String's refusal is the name's

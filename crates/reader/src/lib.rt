@@ -1,11 +1,12 @@
 // Reading a whole message into a lent table of rows.
 use draft::Refusal;
+use draft::Verdict;
 use item::Place;
 use item::Step;
 ghost use mathlib.Core.Path.{_≡_};
 ghost use Prim.Native.Nat.{_+_, _≤_, _<_};
 ghost use lib.ListN.{length, replicate};
-ghost use Rattle.draft.specs.Read.{pair, string, only, arrayItem, structItem, nested, callItem, responseItem, callOrResponse, prefix, agree};
+ghost use Rattle.draft.specs.Read.{pair, string, only, arrayItem, structItem, nested, callItem, faultStruct, responseItem, callOrResponse, prefix, agree};
 ghost use Rattle.draft.specs.Codebook.{clear};
 ghost use Rattle.draft.specs.Table.{roomOf};
 ghost use Rattle.codebook.specs.Words.{bookOf};
@@ -66,6 +67,33 @@ fn read_struct_only(
         value::read_struct(s, p, deep, room, table, book)
     } else {
         Step::Refused(Refusal::UnexpectedByte, at)
+    }
+}
+
+// A fault's Struct, judged once it is read.
+fn read_fault_struct(
+    s: &[u8],
+    p: Place,
+    deep: usize,
+    room: usize,
+    table: &mut [u32],
+    book: &mut [u32],
+) -> Step
+    requires { ⌜ Ready p room (length (now s)) (length (now table)) (length (now book)) ⌝ }
+    ensures { λ r. ⌜ Did (faultStruct (now (s .entry)) room deep (p .at) (p .row) (bookOf (now (book .entry)))) (length (now (s .entry))) room (p .at + 1) (p .row) (now (table .entry)) (now (table .exit)) (now (book .exit)) r ⌝ }
+{
+    let at = p.at;
+    let row = p.row;
+    let step = read_struct_only(s, p, deep, room, table, book);
+    match step {
+        Step::Refused(inside, place) => Step::Refused(inside, place),
+        Step::Next(next) => {
+            let verdict = fault::judge(table, room, s, row, next.row);
+            match verdict {
+                Verdict::Bad(refusal) => Step::Refused(refusal, at),
+                Verdict::Fine => Step::Next(next),
+            }
+        }
     }
 }
 
@@ -135,11 +163,11 @@ fn read_response(
         return Step::Refused(Refusal::Ended, next);
     }
     if s[next] == b'F' {
-        let fault = Place {
+        let first = Place {
             at: at + 2,
             row: row + 1,
         };
-        let step = read_struct_only(s, fault, deep, room, table, book);
+        let step = read_fault_struct(s, first, deep, room, table, book);
         item::close(step, 3, 1, row, room, table)
     } else {
         let first = Place {

@@ -1,0 +1,22 @@
+use Rattle.reader.proofs.Faults.{faults}
+use borrow.Author.Needs.{needs}
+use Rattle.reader.proofs.read_fault_struct.Statement.{statement}
+use Rattle.reader.proofs.read_fault_struct.Tie as tie
+
+pub read-fault-struct-spec : {M : Type 1} → statement M
+read-fault-struct-spec = tie.close (tie.spec
+    (λ c κs. search needs)  -- read-struct-only-requires
+    (λ c. search needs)  -- enum-known-step
+    (λ c. search needs)  -- enum-known-step-2
+    (λ c κs. (search needs, search faults, search needs, search needs))  -- judge-requires
+    (λ c. search needs)  -- enum-known-verdict
+    (λ c. search needs)  -- enum-told
+    (λ c. search needs)  -- same-length
+    (λ c. search needs)  -- same-length-2
+    (λ c. search faults)  -- returns
+    (λ c. search needs)  -- same-length-3
+    (λ c. search needs)  -- same-length-4
+    (λ c. search faults)  -- returns-2
+    (λ c. search needs)  -- same-length-5
+    (λ c. search needs)  -- same-length-6
+    (λ c. search faults))  -- returns-3
