@@ -39,6 +39,7 @@ extern "C" {
 #define BINMODE_NOT_WRITABLE 11     /* write: the table is not writable */
 #define BINMODE_FORM_TOO_LONG 12    /* write: the written form is over 65,536 bytes */
 #define BINMODE_OUTPUT_TOO_SHORT 13 /* write: the output is shorter than the written form */
+#define BINMODE_BAD_FAULT 14        /* read: a fault's Struct without exactly faultCode (Integer) and faultString (String) */
 
 /* The limits. */
 #define BINMODE_MOST_BYTES 65536 /* of a message, and of a writer's text bytes */
@@ -76,10 +77,11 @@ extern "C" {
  *                         refused, or to message_len if nothing stands there:
  *                            BINMODE_TOO_LONG, BINMODE_WRONG_PREFIX, and BINMODE_ENDED for fewer than 12 bytes: 0;
  *                            BINMODE_STANDARD_NAME: the offset of the Other's `O`;
+ *                            BINMODE_BAD_FAULT: the offset of the Struct's `S`, which is read whole first;
  *                            the others: the item's, which is 12 for the Call or Response, 13 for what follows `R` and 14
  *                            for what follows `RF`.
  *
- * Gives BINMODE_ACCEPTED, and the table has the rows and then zeros; or a refusal's number (1 to 10), and the whole table
+ * Gives BINMODE_ACCEPTED, and the table has the rows and then zeros; or a refusal's number (1 to 10, or 14), and the whole table
  * is zeros. The first failure from left to right decides.
  */
 uint8_t binmode_read(const uint8_t *message, size_t message_len, uint32_t *table, size_t table_words, uint64_t *rows,

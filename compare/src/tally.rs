@@ -2,8 +2,8 @@
 
 use second::generate::Random;
 
-/// The answers are numbered 0 to 13.
-const NUMBERS: usize = 14;
+/// The answers are numbered 0 to 14.
+const NUMBERS: usize = 15;
 
 const MEANINGS: [&str; NUMBERS] = [
     "accepted",
@@ -20,6 +20,7 @@ const MEANINGS: [&str; NUMBERS] = [
     "not writable",
     "written form too long",
     "output too short",
+    "other fault members",
 ];
 
 /// What every comparison goes on with.

@@ -1,5 +1,5 @@
 //! An independent second reader and writer of Binmode RPC messages, written
-//! from documents 01 and 002 only.
+//! from documents 01, 02 (as far as it has landed) and 002 only.
 
 pub mod corpus;
 pub mod generate;

@@ -1,4 +1,5 @@
-//! The messages of documents 01 and 002, as byte strings with names.
+//! The messages of documents 01 and 002, and of document 02's faults, as byte
+//! strings with names.
 
 /// The bytes of a line written as 002 writes them: octal as in C strings, and
 /// a blank with a trailing `\` where the next line is joined on.
@@ -30,6 +31,11 @@ pub const FOUR: &str = r"binmode-rpc:RI\004\0\0\0";
 pub const FAULT: &str = r"binmode-rpc:RFS\002\0\0\0 \
 U\011\0\0\0faultCodeI\001\0\0\0 \
 U\013\0\0\0faultStringU\021\0\0\0An error occurred";
+
+/// Its members in the other order, the code's key recalled.
+pub const FAULT_TURNED: &str = r"binmode-rpc:RFS\002\0\0\0 \
+U\013\0\0\0faultString>\007\011\0\0\0faultCode \
+<\007I\001\0\0\0";
 
 pub const FOO_BAR_BAZ: &str = r"binmode-rpc:RA\006\0\0\0 \
 >\000\003\0\0\0foo \
@@ -77,7 +83,7 @@ pub const HUGE_COUNT: &str = r"binmode-rpc:RA\377\377\377\377";
 pub const HUGE_COUNT_WITH_ITEM: &str = r"binmode-rpc:RA\377\377\377\377t";
 
 /// All of them, in the papers' order, each with a table's number of words.
-pub const ALL: [(&str, usize); 16] = [
+pub const ALL: [(&str, usize); 17] = [
     ("", 40),
     (OTHER_PREFIX, 40),
     (FOUR, 8),
@@ -91,6 +97,7 @@ pub const ALL: [(&str, usize); 16] = [
     (HUGE_COUNT, 8),
     (HUGE_COUNT_WITH_ITEM, 8),
     (FAULT, 24),
+    (FAULT_TURNED, 24),
     (COPYRIGHT, 8),
     (MIXED, 16_384),
     (MIXED_WITH_ONE_PAIR, 48),
@@ -99,7 +106,7 @@ pub const ALL: [(&str, usize); 16] = [
 /// What a message goes on with after the prefix, a table's number of words,
 /// the refusal and its place.
 #[rustfmt::skip]
-pub const EDGES: [(&[u8], usize, u8, usize); 51] = [
+pub const EDGES: [(&[u8], usize, u8, usize); 68] = [
     // With no row left, 1 for no byte and 3 come first, then 9.
     (b"", 3, 1, 12),
     (b"x", 3, 3, 12),
@@ -142,6 +149,26 @@ pub const EDGES: [(&[u8], usize, u8, usize); 51] = [
     (b"RFF", 16_384, 3, 14),
     (b"RFS\x01\0\0\0I", 16_384, 3, 19),
     (b"RFS\x01\0\0\0U\0\0\0\0", 16_384, 1, 24),
+    // A fault's members: none, one, three, the same twice, other keys, other
+    // kinds.
+    (b"RFS\0\0\0\0", 8, 14, 14),
+    (b"RFS\x01\0\0\0U\x09\0\0\0faultCodeI\x01\0\0\0", 16, 14, 14),
+    (b"RFS\x01\0\0\0U\x0b\0\0\0faultStringU\0\0\0\0", 16, 14, 14),
+    (b"RFS\x03\0\0\0U\x09\0\0\0faultCodeI\x01\0\0\0U\x0b\0\0\0faultStringU\0\0\0\0U\0\0\0\0t", 32, 14, 14),
+    (b"RFS\x03\0\0\0U\0\0\0\0tU\x09\0\0\0faultCodeI\x01\0\0\0U\x0b\0\0\0faultStringU\0\0\0\0", 32, 14, 14),
+    (b"RFS\x03\0\0\0>\0\x09\0\0\0faultCodeI\x01\0\0\0U\x0b\0\0\0faultStringU\0\0\0\0<\0I\x01\0\0\0", 32, 14, 14),
+    (b"RFS\x02\0\0\0U\x09\0\0\0faultCodeI\x01\0\0\0U\x09\0\0\0faultCodeI\x01\0\0\0", 24, 14, 14),
+    (b"RFS\x02\0\0\0>\0\x0b\0\0\0faultString<\0<\0<\0", 24, 14, 14),
+    (b"RFS\x02\0\0\0U\x09\0\0\0faultcodeI\x01\0\0\0U\x0b\0\0\0faultStringU\0\0\0\0", 24, 14, 14),
+    (b"RFS\x02\0\0\0U\x09\0\0\0faultCodeI\x01\0\0\0U\x0c\0\0\0faultString U\0\0\0\0", 24, 14, 14),
+    (b"RFS\x02\0\0\0U\x09\0\0\0faultCodetU\x0b\0\0\0faultStringU\0\0\0\0", 24, 14, 14),
+    (b"RFS\x02\0\0\0U\x09\0\0\0faultCodeU\0\0\0\0U\x0b\0\0\0faultStringI\x01\0\0\0", 24, 14, 14),
+    (b"RFS\x02\0\0\0U\x09\0\0\0faultCodeI\x01\0\0\0U\x0b\0\0\0faultStringA\0\0\0\0", 24, 14, 14),
+    (b"RFS\x01\0\0\0U\x09\0\0\0faultCodeA\x02\0\0\0U\x0b\0\0\0faultStringU\0\0\0\0", 24, 14, 14),
+    // What fails inside the Struct comes first.
+    (b"RFS\x03\0\0\0U\x09\0\0\0faultCodeI\x01\0\0\0U\x0b\0\0\0faultStringU\0\0\0\0", 24, 1, 59),
+    (b"RFS\x01\0\0\0U\x09\0\0\0faultCode<\0", 24, 6, 33),
+    (b"RFS\x01\0\0\0U\x09\0\0\0faultCodeI\x01\0\0\0", 12, 9, 33),
     // Others.
     (b"RO", 16_384, 1, 14),
     (b"ROB", 16_384, 3, 14),

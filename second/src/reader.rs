@@ -102,7 +102,11 @@ impl<'m> Reader<'m, '_> {
                 self.at = place + 1;
                 let kind = if self.tag(self.at)? == b'F' {
                     self.at += 1;
+                    let place = self.at;
                     self.container(b'S', 0)?;
+                    if !has_fault_members(&self.rows[..self.filled], self.message) {
+                        return refuse(refusal::FAULT, place);
+                    }
                     kind::FAULT
                 } else {
                     self.value(0)?;

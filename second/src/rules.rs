@@ -34,6 +34,29 @@ pub fn is_standard_name(name: &[u8]) -> bool {
     STANDARD_NAMES.contains(&name)
 }
 
+/// The members of a fault's Struct, by their keys and the kinds of their
+/// values.
+pub const FAULT_MEMBERS: [(&[u8], u32); 2] = [
+    (b"faultCode", kind::INTEGER),
+    (b"faultString", kind::STRING),
+];
+
+/// Whether the Struct in row 1 has the members of a fault and no other. Its
+/// rows are sound, and the texts of its keys lie in `text`.
+pub fn has_fault_members(rows: &[[u32; ROW_WORDS]], text: &[u8]) -> bool {
+    let [_, _, pairs, _] = rows[1];
+    let mut members = Vec::new();
+    let mut key = 2;
+    for _ in 0..pairs {
+        let [_, offset, length, _] = rows[key];
+        let [kind, _, _, end] = rows[key + 1];
+        members.push((&text[offset as usize..][..length as usize], kind));
+        key = end as usize;
+    }
+    members.sort();
+    members == FAULT_MEMBERS
+}
+
 /// The first word of a row.
 pub mod kind {
     pub const CALL: u32 = 1;
@@ -76,4 +99,6 @@ pub mod refusal {
     pub const FORM: u8 = 12;
     /// The output is shorter than the written form.
     pub const OUTPUT: u8 = 13;
+    /// A fault whose Struct has other members than a fault's.
+    pub const FAULT: u8 = 14;
 }

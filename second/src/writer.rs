@@ -183,7 +183,10 @@ fn check<'t>(table: &'t [u32], rows: usize, text: &'t [u8]) -> Option<(&'t [Row]
             checker.item_of(kind::ARRAY, next, 0)?
         }
         [kind::RESPONSE, 0, 1, _] => checker.value(1, 0)?,
-        [kind::FAULT, 0, 1, _] => checker.item_of(kind::STRUCT, 1, 0)?,
+        [kind::FAULT, 0, 1, _] => {
+            let end = checker.item_of(kind::STRUCT, 1, 0)?;
+            has_fault_members(rows, text).then_some(end)?
+        }
         _ => return None,
     };
     let whole = end == rows.len() && rows[0][3] as usize == end;

@@ -208,6 +208,37 @@ fn fault() {
 }
 
 #[test]
+fn fault_turned() {
+    let message = bytes_of(FAULT_TURNED);
+    let rows = [
+        [3, 0, 1, 6],
+        [10, 0, 2, 6],
+        [11, 24, 11, 3],
+        [11, 41, 9, 4],
+        [11, 41, 9, 5],
+        [4, 1, 0, 6],
+    ];
+    accepted(&message, 57, &rows);
+    assert_eq!(rewritten(&message).len(), message.len());
+    // A table with a third member, and one with a value of another kind.
+    let keys = b"faultCodefaultString";
+    #[rustfmt::skip]
+    let mut table = [
+        3, 0, 1, 6, 10, 0, 2, 6, 11, 0, 9, 3, 4, 7, 0, 4, 11, 9, 11, 5, 11, 9, 0, 6,
+    ];
+    let (answer, _) = write_into(&table, 6, keys, 100);
+    assert_eq!(answer, Write::Accepted { length: 59 });
+    table[12] = kind::BOOLEAN;
+    table[13] = 1;
+    unwritable(&table, 6, keys);
+    #[rustfmt::skip]
+    let table = [
+        3, 0, 1, 8, 10, 0, 3, 8, 11, 0, 9, 3, 4, 7, 0, 4, 11, 9, 11, 5, 11, 9, 0, 6, 11, 0, 0, 7, 5, 1, 0, 8,
+    ];
+    unwritable(&table, 8, keys);
+}
+
+#[test]
 fn copyright() {
     let message = bytes_of(COPYRIGHT);
     accepted(&message, 52, &[[2, 0, 1, 2], [11, 18, 34, 2]]);

@@ -1,4 +1,5 @@
--- Document 01's messages P1 to P11, read and written again: one table of cases, under a single statement. Assumes nothing.
+-- Document 01's messages P1 to P11, and faults by document 02's rule, read and written again: one table of cases, under a single statement.
+-- Assumes nothing.
 use mathlib.Core.Path.{_≡_, refl}
 use mathlib.Core.List.{List, [], _∷_, _++_}
 use Prim.Native.Nat.{ℕ, _-_, _*_}
@@ -9,10 +10,10 @@ use Rattle.text.specs.Texts.{ascii, same, among, standardName}
 use Rattle.draft.specs.declared.Row.{Row}
 use Rattle.draft.specs.Bytes.{bytes}
 use Rattle.draft.specs.Rows.{row, itemOf}
-use Rattle.draft.specs.Content.{contentRule, verdict, nameRule}
+use Rattle.draft.specs.Content.{contentRule, verdict, nameRule, heldOf, isCode, isMessage, isFault, faultRule}
 use Rattle.draft.specs.Codebook.{recorded}
 use Rattle.draft.specs.Table.{place, setRow, putRows, rowAt, from}
-use Rattle.draft.specs.Read.{Reading, got, refused as unread, pair, items, alike, tagOf, contents, string, only, name, value, nested, callOrResponse, agree, message, messageWithin}
+use Rattle.draft.specs.Read.{Reading, got, refused as unread, pair, items, alike, tagOf, contents, string, only, name, value, nested, heldRows, faultStruct, callOrResponse, agree, message, messageWithin}
 use Rattle.draft.specs.Strings.{textsOf, repeats, position, sents}
 use Rattle.draft.specs.Written.{lsb, counted, stringBytes, itemBytes, itemsOf, messageOf, written, rowsOf}
 use Rattle.reader.specs.Answers.{reading, answerOf, tableOf, Report, reportOf}
@@ -75,6 +76,21 @@ cases =
     -- P11
     ∷ refused "binmode-rpc:RAÿÿÿÿ" 64 1 18
     ∷ refused "binmode-rpc:RAÿÿÿÿt" 8 9 18
+    -- 02: 002's fault; and the message before the code, whose key is recalled
+    ∷ accepted "binmode-rpc:RFS\u{2}\0\0\0U\t\0\0\0faultCodeI\u{1}\0\0\0U\u{b}\0\0\0faultStringU\u{11}\0\0\0An error occurred" 64 76
+    (row 3 0 1 6 ∷ row 10 0 2 6 ∷ row 11 24 9 3 ∷ row 4 1 0 4 ∷ row 11 43 11 5 ∷ row 11 59 17 6 ∷ [])
+    ∷ rewritten "binmode-rpc:RFS\u{2}\0\0\0U\u{b}\0\0\0faultString>\u{7}\t\0\0\0faultCode<\u{7}I\u{1}\0\0\0" 64 57
+    (row 3 0 1 6 ∷ row 10 0 2 6 ∷ row 11 24 11 3 ∷ row 11 41 9 4 ∷ row 11 41 9 5 ∷ row 4 1 0 6 ∷ [])
+    "binmode-rpc:RFS\u{2}\0\0\0U\u{b}\0\0\0faultString>\0\t\0\0\0faultCode<\0I\u{1}\0\0\0" 57
+    -- one member, three, the same key twice, another kind, another key
+    ∷ refused "binmode-rpc:RFS\u{1}\0\0\0U\t\0\0\0faultCodeI\u{1}\0\0\0" 64 14 14
+    ∷ refused "binmode-rpc:RFS\u{3}\0\0\0U\t\0\0\0faultCodeI\u{1}\0\0\0U\u{b}\0\0\0faultStringU\u{1}\0\0\0xU\0\0\0\0t" 64 14 14
+    ∷ refused "binmode-rpc:RFS\u{2}\0\0\0>\0\t\0\0\0faultCodeI\u{1}\0\0\0<\0I\u{1}\0\0\0" 64 14 14
+    ∷ refused "binmode-rpc:RFS\u{2}\0\0\0U\t\0\0\0faultCodetU\u{b}\0\0\0faultStringU\0\0\0\0" 64 14 14
+    ∷ refused "binmode-rpc:RFS\u{2}\0\0\0U\t\0\0\0faultCodeI\u{1}\0\0\0U\u{b}\0\0\0faultstringU\0\0\0\0" 64 14 14
+    -- a third member that is cut short, or that a small table has no row for: what fails inside the Struct comes first
+    ∷ refused "binmode-rpc:RFS\u{3}\0\0\0U\t\0\0\0faultCodeI\u{1}\0\0\0U\u{b}\0\0\0faultStringU\u{1}\0\0\0xU\0\0\0\0" 64 1 65
+    ∷ refused "binmode-rpc:RFS\u{3}\0\0\0U\t\0\0\0faultCodeI\u{1}\0\0\0U\u{b}\0\0\0faultStringU\u{1}\0\0\0xU\0\0\0\0t" 24 9 60
     ∷ []
 
 -- a row's four words, one row after the other
@@ -102,7 +118,7 @@ abbrev given : List Case → List Outcome
 given [] = []
 given (c ∷ cs) = outcomeOf (c .sent) (c .words) (reading (c .sent) (c .words)) ∷ given cs
 
--- THE STATEMENT: reading and the written form give what document 01 says, for each case
+-- THE STATEMENT: reading and the written form give what documents 01 and 02 say, for each case
 pub cases-read : given cases ≡ expected cases
-unfolding cases reading messageWithin message agree callOrResponse nested value name only string contents tagOf alike items pair putRows setRow place recorded nameRule verdict contentRule standardName among same ascii wellFormed octets step dueAfter dueBy within rowAt from rowsOf itemOf textsOf repeats position sents lsb counted stringBytes itemBytes itemsOf messageOf written
+unfolding cases reading messageWithin message agree callOrResponse faultStruct heldRows heldOf isCode isMessage isFault faultRule nested value name only string contents tagOf alike items pair putRows setRow place recorded nameRule verdict contentRule standardName among same ascii wellFormed octets step dueAfter dueBy within rowAt from rowsOf itemOf textsOf repeats position sents lsb counted stringBytes itemBytes itemsOf messageOf written
 cases-read = refl

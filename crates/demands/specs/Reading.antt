@@ -1,28 +1,30 @@
 -- Demand 2 for reading: reading accepts exactly what the draft's grammar derives within the limits, and the rows say what was derived.
 -- The grammar and the meaning of rows are crate draft's Grammar and Meaning; the long arguments are in crate exact. Assumes nothing.
 use mathlib.Core.Path.{_≡_, refl, _∙_}
-use mathlib.Core.Bool.{Bool, true, false}
 use mathlib.Core.Logic.{_↔_, _≢_}
-use mathlib.Core.List.{List, _++_}
+use mathlib.Core.List.{List, [], _∷_, _++_}
 use Prim.Native.Nat.{ℕ, _≤_, _<_}
 use native.Mathlib.Omega.{arith}
 use lib.ListN.{length}
 use Rattle.text.specs.Rfc3629.{UTF8-octets}
 use Rattle.text.specs.Utf8.{wellFormed}
+use Rattle.text.specs.Texts.{same}
 use Rattle.text.proofs.Comparing.{clash}
 use Rattle.text.proofs.Grammar.{accepted, derived}
 use Rattle.draft.specs.declared.Refusal.{Refusal}
-use Rattle.draft.specs.declared.Refusal.the-variants.{Ended, WrongPrefix, UnexpectedByte, BadText, UnsetPosition, StandardName, TooDeep, NoRow, TooLong, NotWritable, FormTooLong, OutputTooShort}
+use Rattle.draft.specs.declared.Refusal.the-variants.{Ended, WrongPrefix, UnexpectedByte, BadText, UnsetPosition, StandardName, TooDeep, NoRow, TooLong, NotWritable, FormTooLong, OutputTooShort, BadFault}
 use Rattle.draft.specs.declared.Verdict.the-variants.{Fine}
 use Rattle.draft.specs.declared.Content.the-variants as content
 use Rattle.draft.specs.declared.Row.{Row}
-use Rattle.draft.specs.Content.{fineIf, contentRule}
+use Rattle.draft.specs.Bytes.{bytes}
+use Rattle.draft.specs.Content.{contentRule, Held, string, integer, isCode, isMessage, isFault, faultRule}
 use Rattle.draft.specs.Codebook.{Book}
 use Rattle.draft.specs.Table.{roomOf}
 use Rattle.draft.specs.Read.{Reading, got, refused, message, messageWithin}
 use Rattle.draft.specs.Grammar.{Cell, Keeps, Begins}
 use Rattle.draft.specs.Meaning.{MeanSame, Realises}
 use Rattle.reader.specs.Answers.{reading}
+use Rattle.exact.proofs.Members.{fine-by, fault-by}
 use Rattle.exact.proofs.Realising.{counts, same-meaning, one-meaning as one-list}
 use Rattle.exact.proofs.Deriving.{sound as derived-from}
 use Rattle.exact.proofs.Growing.{no-longer, longer, message-stays}
@@ -98,7 +100,7 @@ Underived s = (used nesting : ℕ) (cells : List Cell) → Begins s used nesting
 abbrev pub Beyond : List ℕ → ℕ → ℕ → Type 0
 Beyond s room deep = (used nesting : ℕ) (cells : List Cell) → Begins s used nesting cells → nesting ≤ deep → room < length cells
 
--- what a refusal says of a message; the last three are the writer's alone
+-- what a refusal says of a message; 11, 12 and 13 are the writer's alone
 abbrev pub Meant : Refusal → ℕ → List ℕ → ℕ → ℕ → Type 0
 Meant Ended most s room deep = Underived s
 Meant WrongPrefix most s room deep = Underived s
@@ -112,9 +114,10 @@ Meant TooLong most s room deep = most < length s
 Meant NotWritable most s room deep = ⊥
 Meant FormTooLong most s room deep = ⊥
 Meant OutputTooShort most s room deep = ⊥
+Meant BadFault most s room deep = Underived s
 
--- REFUSALS SPEAK THE TRUTH. 1, 2, 3, 5, 6 and 7 mean that no beginning of the message is derived at all, 8 and 9 that a derivation, if there is
--- one, is beyond the limits, and 10 only that there are too many bytes.
+-- REFUSALS SPEAK THE TRUTH. 1, 2, 3, 5, 6, 7 and 14 mean that no beginning of the message is derived at all, 8 and 9 that a derivation, if there
+-- is one, is beyond the limits, and 10 only that there are too many bytes.
 pub refusals-true :
     (most : ℕ) (s : List ℕ) (room deep : ℕ) {m : Refusal} {at : ℕ} → messageWithin most s room deep ≡ refused m at → Meant m most s room deep
 refusals-true most s room deep {m} {at} e = go m (within-refused most s room deep e)
@@ -132,6 +135,7 @@ refusals-true most s room deep {m} {at} e = go m (within-refused most s room dee
     by NotWritable e = of-reading s room deep e
     by FormTooLong e = of-reading s room deep e
     by OutputTooShort e = of-reading s room deep e
+    by BadFault e = λ used nesting cells b. underived s room deep e (omega arith) (omega arith) b
 
     go : (m : Refusal) → WithinRefused most s room deep m at → Meant m most s room deep
     go m (of-message e) = by m e
@@ -195,8 +199,18 @@ mean-same a b = same-meaning a b
 -- UTF-8. What the grammar asks of a text is RFC 3629's syntax of UTF-8.
 pub text-is-utf8 : (t : List ℕ) → Keeps content.Text t ↔ UTF8-octets t
 unfolding contentRule
-text-is-utf8 t = (λ h. derived t (fine (wellFormed t) h), λ h. rw (accepted h))
+text-is-utf8 t = (λ h. derived t (fine-by (wellFormed t) BadText h), λ h. rw (accepted h))
+
+-- FAULTS. What the grammar asks of a fault's Struct: the items below it are a faultCode, an Integer, and a faultString, a String, in either order,
+-- and no more.
+pub data TwoMembers : List Held → Type 0 where
+  code-first : (t : List ℕ) → TwoMembers (string (bytes "faultCode") ∷ integer ∷ string (bytes "faultString") ∷ string t ∷ [])
+  message-first : (t : List ℕ) → TwoMembers (string (bytes "faultString") ∷ string t ∷ string (bytes "faultCode") ∷ integer ∷ [])
+
+pub two-members : (items : List Held) → (faultRule items ≡ Fine) ↔ TwoMembers items
+unfolding faultRule isFault isCode isMessage same
+two-members items = (λ h. fault-by TwoMembers code-first message-first items (fine-by (isFault items) BadFault h), back)
   where
-    fine : (b : Bool) → fineIf b BadText ≡ Fine → b ≡ true
-    fine true h = refl
-    fine false h = let z : _≡_ {A = ℕ} 0 1 = cc in absurd (omega arith)
+    back : {items : List Held} → TwoMembers items → faultRule items ≡ Fine
+    back (code-first t) = refl
+    back (message-first t) = refl

@@ -30,6 +30,7 @@ use Rattle.draft.specs.declared.Refusal.the-variants.{
   NotWritable,
   FormTooLong,
   OutputTooShort,
+  BadFault,
 }
 use Rattle.draft.specs.Refusals.{numberOf, refusalOf}
 use Rattle.draft.specs.Rows.{itemOf}
@@ -135,10 +136,14 @@ module _ (n : ℕ) where
   unfolding refusalOf
   refusal-form e = rw e
 
-  pub refusal-output : (n ≡ 1 → ⊥) → (n ≡ 2 → ⊥) → (n ≡ 3 → ⊥) → (n ≡ 5 → ⊥) → (n ≡ 6 → ⊥) → (n ≡ 7 → ⊥) → (n ≡ 8 → ⊥) → (n ≡ 9 → ⊥) → (n ≡ 10 → ⊥) → (n ≡ 11 → ⊥) → (n ≡ 12 → ⊥) → OutputTooShort ≡ refusalOf n
+  pub refusal-output : n ≡ 13 → OutputTooShort ≡ refusalOf n
   unfolding refusalOf
-  refusal-output a b c d e f g h i j k =
-      rw (ne-eqb _ _ a, ne-eqb _ _ b, ne-eqb _ _ c, ne-eqb _ _ d, ne-eqb _ _ e, ne-eqb _ _ f, ne-eqb _ _ g, ne-eqb _ _ h, ne-eqb _ _ i, ne-eqb _ _ j, ne-eqb _ _ k)
+  refusal-output e = rw e
+
+  pub refusal-fault : (n ≡ 1 → ⊥) → (n ≡ 2 → ⊥) → (n ≡ 3 → ⊥) → (n ≡ 5 → ⊥) → (n ≡ 6 → ⊥) → (n ≡ 7 → ⊥) → (n ≡ 8 → ⊥) → (n ≡ 9 → ⊥) → (n ≡ 10 → ⊥) → (n ≡ 11 → ⊥) → (n ≡ 12 → ⊥) → (n ≡ 13 → ⊥) → BadFault ≡ refusalOf n
+  unfolding refusalOf
+  refusal-fault a b c d e f g h i j k l =
+      rw (ne-eqb _ _ a, ne-eqb _ _ b, ne-eqb _ _ c, ne-eqb _ _ d, ne-eqb _ _ e, ne-eqb _ _ f, ne-eqb _ _ g, ne-eqb _ _ h, ne-eqb _ _ i, ne-eqb _ _ j, ne-eqb _ _ k, ne-eqb _ _ l)
 
 -- no refusal has the number 0, and each its own
 pub number-some : (m : Refusal) → numberOf m ≡ 0 → ⊥
@@ -154,6 +159,7 @@ number-some TooLong e = omega (arith, e)
 number-some NotWritable e = omega (arith, e)
 number-some FormTooLong e = omega (arith, e)
 number-some OutputTooShort e = omega (arith, e)
+number-some BadFault e = omega (arith, e)
 
 pub number-own : (m : Refusal) → refusalOf (numberOf m) ≡ m
 unfolding refusalOf
@@ -169,5 +175,6 @@ number-own TooLong = refl
 number-own NotWritable = refl
 number-own FormTooLong = refl
 number-own OutputTooShort = refl
+number-own BadFault = refl
 
-pub ruleset refusals = (refusal-ended, refusal-prefix, refusal-byte, refusal-text, refusal-unset, refusal-name, refusal-deep, refusal-row, refusal-long, refusal-unwritable, refusal-form, refusal-output)
+pub ruleset refusals = (refusal-ended, refusal-prefix, refusal-byte, refusal-text, refusal-unset, refusal-name, refusal-deep, refusal-row, refusal-long, refusal-unwritable, refusal-form, refusal-output, refusal-fault)

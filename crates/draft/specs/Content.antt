@@ -1,18 +1,19 @@
 -- The rules for content, each said once: reading, the grammar and writability all cite them. Assumes nothing.
-use mathlib.Core.Bool.{Bool, true, false}
-use mathlib.Core.List.{List}
+use mathlib.Core.Bool.{Bool, true, false, _&&_, _||_}
+use mathlib.Core.List.{List, [], _∷_}
 use Prim.Native.Nat.{ℕ, _+_}
 use lib.ListN.{length}
-use lib.Dec.{leb}
+use lib.Dec.{leb, eqb}
 use Rattle.text.specs.Utf8.{wellFormed}
-use Rattle.text.specs.Texts.{ascii, standardName}
+use Rattle.text.specs.Texts.{ascii, same, standardName}
 use Rattle.draft.specs.declared.Refusal.{Refusal}
-use Rattle.draft.specs.declared.Refusal.the-variants.{Ended, BadText, StandardName}
+use Rattle.draft.specs.declared.Refusal.the-variants.{Ended, BadText, StandardName, BadFault}
 use Rattle.draft.specs.declared.Verdict.{Verdict}
 use Rattle.draft.specs.declared.Verdict.the-variants.{Fine, Bad}
 use Rattle.draft.specs.declared.Content.{Content}
 use Rattle.draft.specs.declared.Content.the-variants.{Double, DateTime, Binary, Text}
-use Rattle.draft.specs.Bytes.{part}
+use Rattle.draft.specs.Bytes.{bytes, part}
+use Rattle.draft.specs.Rows.{kindOf}
 
 abbrev pub fineIf : Bool → Refusal → Verdict
 fineIf true refusal = Fine
@@ -40,3 +41,55 @@ badIf false refusal = Fine
 -- the name in an Other is not a standard type's
 unfoldable pub nameRule : List ℕ → Verdict
 nameRule s = badIf (standardName s) StandardName
+
+-- an item that stands in a fault's Struct, as the rule for its members sees it: a String with its text, an Integer, or something else
+pub data Held : Type 0 where
+  string : List ℕ → Held
+  integer : Held
+  another : Held
+
+abbrev pub pickHeld : Bool → Held → Held → Held
+pickHeld true x y = x
+pickHeld false x y = y
+
+-- by the kind of its row, with the text that it has if it is a String
+unfoldable pub heldOf : ℕ → List ℕ → Held
+heldOf kind text = pickHeld (eqb kind (kindOf Text)) (string text) (pickHeld (eqb kind 4) integer another)
+
+abbrev pub isInteger : Held → Bool
+isInteger (string text) = false
+isInteger integer = true
+isInteger another = false
+
+abbrev pub isString : Held → Bool
+isString (string text) = true
+isString integer = false
+isString another = false
+
+-- a String of these bytes
+abbrev pub isText : List ℕ → Held → Bool
+isText name (string text) = same text name
+isText name integer = false
+isText name another = false
+
+-- a key and its value: 'faultCode, an Integer'
+unfoldable pub isCode : Held → Held → Bool
+isCode key value = isText (bytes "faultCode") key && isInteger value
+
+-- 'and faultString, a String'
+unfoldable pub isMessage : Held → Held → Bool
+isMessage key value = isText (bytes "faultString") key && isString value
+
+-- 'exactly' these two, 'in either order': an Integer and a String have one row each, so they are the first two items and the next two, and
+-- there are no more
+unfoldable pub isFault : List Held → Bool
+isFault (w ∷ x ∷ y ∷ z ∷ []) = (isCode w x && isMessage y z) || (isMessage w x && isCode y z)
+isFault [] = false
+isFault (w ∷ []) = false
+isFault (w ∷ x ∷ []) = false
+isFault (w ∷ x ∷ y ∷ []) = false
+isFault (w ∷ x ∷ y ∷ z ∷ v ∷ more) = false
+
+-- document 02's rule for the items that a fault's Struct holds, in the order of their rows
+unfoldable pub faultRule : List Held → Verdict
+faultRule items = fineIf (isFault items) BadFault

@@ -1,5 +1,6 @@
 -- The draft's grammar: document 002's productions over bytes, in its order and words, with what they mean; then its codebook.
--- '01:' marks a decision of document 01 where 002 is open or says otherwise. No rule sets a limit on bytes, rows or nesting. Assumes nothing.
+-- '01:' marks a decision of document 01 where 002 is open or says otherwise, '02:' one of document 02. No rule sets a limit on bytes, rows or
+-- nesting. Assumes nothing.
 use mathlib.Core.Path.{_≡_}
 use mathlib.Core.Bool.{Bool, true, false}
 use mathlib.Core.Option.{Option, some, none}
@@ -12,8 +13,8 @@ use Rattle.draft.specs.declared.Verdict.the-variants.{Fine}
 use Rattle.draft.specs.declared.Content.{Content}
 use Rattle.draft.specs.declared.Content.the-variants as content
 use Rattle.draft.specs.Bytes.{bytes}
-use Rattle.draft.specs.Rows.{kindOf}
-use Rattle.draft.specs.Content.{contentRule, nameRule}
+use Rattle.draft.specs.Rows.{below, kindOf}
+use Rattle.draft.specs.Content.{contentRule, nameRule, Held, heldOf, faultRule}
 
 -- MEANING. What an item means is a list of cells, one for each row of document 01's table and in the order of the rows.
 -- A cell says the row's kind, how many rows stand below it, and: how many things it holds (b), or its number (a), or its content bytes.
@@ -53,6 +54,16 @@ struct-cell pairs below = cell 10 below (holding pairs)
 
 abbrev pub other-cell : Cell
 other-cell = cell 12 2 (holding 2)
+
+-- cells, as the rule for a fault's members sees them
+abbrev pub heldCell : Cell → Held
+heldCell (cell kind m (holding n)) = heldOf kind []
+heldCell (cell kind m (number n)) = heldOf kind []
+heldCell (cell kind m (contents t)) = heldOf kind t
+
+unfoldable pub heldCells : List Cell → List Held
+heldCells [] = []
+heldCells (c ∷ cs) = heldCell c ∷ heldCells cs
 
 -- How a String is sent: its kind, its CodebookPosition if it has one, and the text that it stands for.
 pub data Sent : Type 0 where
@@ -111,11 +122,13 @@ mutual
         → Response d (code "R" ∷ xs) (fault-cell below ∷ cs) fs
 
   -- Fault := 'F' Struct
-  -- 01: the Struct may have any members (002: those of the XML-RPC specification); 'F' has no row of its own
+  -- 'a regular Struct (with members as specified by the .. XML-RPC specification)'
+  -- 02: these are exactly a faultCode and a faultString, as the rule says. 01: 'F' has no row of its own
   pub data Fault : ℕ → List ℕ → List Cell → List Sent → Type 0 where
     fault :
         {d : ℕ} {xs : List ℕ} {cs : List Cell} {fs : List Sent}
         → Struct d xs cs fs
+        → faultRule (heldCells (below cs)) ≡ Fine
         → Fault d (code "F" ∷ xs) cs fs
 
   -- Value := (Integer|Boolean|Double|DateTimeISO8601Binary|Array|Struct|String|Other)

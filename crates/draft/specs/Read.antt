@@ -22,8 +22,8 @@ use Rattle.draft.specs.declared.Entry.{Entry}
 use Rattle.draft.specs.declared.Entry.the-variants.{Unset, Text}
 use Rattle.draft.specs.declared.Row.{Row}
 use Rattle.draft.specs.Bytes.{bytes, byteAt, unsignedAt, part}
-use Rattle.draft.specs.Rows.{row, kindOf}
-use Rattle.draft.specs.Content.{verdict, nameRule}
+use Rattle.draft.specs.Rows.{row, below, kindOf}
+use Rattle.draft.specs.Content.{verdict, nameRule, Held, heldOf, faultRule}
 use Rattle.draft.specs.Codebook.{Book, clear, recorded}
 
 -- the rows, where the next byte stands, and the codebook; or why and where it is refused
@@ -105,6 +105,14 @@ pub data Nest : Type 0 where
 -- the text that a row names
 abbrev pub textOf : List ℕ → Row → List ℕ
 textOf s x = part s (x .a) (x .b)
+
+-- rows, as the rule for a fault's members sees them
+abbrev pub heldRow : List ℕ → Row → Held
+heldRow s x = heldOf (x .kind) (textOf s x)
+
+unfoldable pub heldRows : List ℕ → List Row → List Held
+heldRows s [] = []
+heldRows s (x ∷ rows) = heldRow s x ∷ heldRows s rows
 
 -- a message's bytes, and the rows that there is room for
 module _ (s : List ℕ) (room : ℕ) where
@@ -225,13 +233,19 @@ module _ (s : List ℕ) (room : ℕ) where
   callItem deep at r book =
       opened 1 at r (over 1 2 r (pair string (only (code "A") (arrayItem (nested deep))) (at + 1) (r + 1) book))
 
+  -- a fault's Struct, judged once it is read, with the place of its `S`
+  unfoldable pub faultStruct : ℕ → Reader
+  faultStruct deep at r book =
+      then (only (code "S") (structItem (nested deep)) at r book)
+      (λ rows at′ book′. judged (faultRule (heldRows s (below rows))) at (got rows at′ book′))
+
   -- `R`, then `F` and a Struct, or a Value
   abbrev pub responseItem : ℕ → Reader
   responseItem deep at r book =
       opened 1 at r
       (present (at + 1)
       (pick (eqb (byteAt s (at + 1)) (code "F"))
-      (over 3 1 r (only (code "S") (structItem (nested deep)) (at + 2) (r + 1) book))
+      (over 3 1 r (faultStruct deep (at + 2) (r + 1) book))
       (over 2 1 r (value deep (at + 1) (r + 1) book))))
 
   unfoldable pub callOrResponse : ℕ → Reader

@@ -1,4 +1,4 @@
--- The refusals and document 01's numbers for them (4 is not used). Assumes nothing.
+-- The refusals and the numbers that documents 01 and 02 give them (4 is not used). Assumes nothing.
 use Prim.Native.Nat.{ℕ}
 use mathlib.Core.Bool.{Bool, true, false}
 use lib.Dec.{eqb}
@@ -16,6 +16,7 @@ use Rattle.draft.specs.declared.Refusal.the-variants.{
   NotWritable,
   FormTooLong,
   OutputTooShort,
+  BadFault,
 }
 
 abbrev pub numberOf : Refusal → ℕ
@@ -43,6 +44,8 @@ numberOf NotWritable = 11
 numberOf FormTooLong = 12
 -- the output is shorter than the written form
 numberOf OutputTooShort = 13
+-- 02: a fault whose Struct does not hold the two members of a fault, and no more
+numberOf BadFault = 14
 
 abbrev pickRefusal : Bool → Refusal → Refusal → Refusal
 pickRefusal true x y = x
@@ -62,4 +65,5 @@ refusalOf n =
     (pickRefusal (eqb n 10) TooLong
     (pickRefusal (eqb n 11) NotWritable
     (pickRefusal (eqb n 12) FormTooLong
-    OutputTooShort))))))))))
+    (pickRefusal (eqb n 13) OutputTooShort
+    BadFault)))))))))))

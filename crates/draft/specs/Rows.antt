@@ -1,5 +1,6 @@
 -- Rows: document 01's kinds, and a row of them. Assumes nothing.
 use mathlib.Core.Bool.{Bool, true, false}
+use mathlib.Core.List.{List, [], _∷_}
 use Prim.Native.Nat.{ℕ}
 use lib.Dec.{eqb}
 use Rattle.draft.specs.declared.Row.{Row}
@@ -10,6 +11,11 @@ use Rattle.draft.specs.declared.Item.the-variants as item
 
 abbrev pub row : ℕ → ℕ → ℕ → ℕ → Row
 row k a b e = record { kind = k; a = a; b = b; end = e }
+
+-- what stands below the first of an item's rows, or cells
+abbrev pub below : {A : Type 0} → List A → List A
+below [] = []
+below (x ∷ xs) = xs
 
 -- the kind of a row that names content bytes
 abbrev pub kindOf : Content → ℕ

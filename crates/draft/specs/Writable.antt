@@ -1,6 +1,6 @@
 -- Writable tables, by document 01's rules: where the rows of an item end that begins at row r, if they are such an item's rows.
 -- Every word of every row is judged. Limits are parameters. Assumes nothing.
-use Prim.Native.Nat.{ℕ, zero, suc, _+_, _*_}
+use Prim.Native.Nat.{ℕ, zero, suc, _+_, _*_, _-_}
 use mathlib.Core.Bool.{Bool, true, false, _&&_}
 use mathlib.Core.List.{List}
 use lib.ListN.{length}
@@ -26,9 +26,9 @@ use Rattle.draft.specs.declared.Extent.{Extent}
 use Rattle.draft.specs.declared.Extent.the-variants.{Until, Unfit}
 use Rattle.draft.specs.declared.Row.{Row}
 use Rattle.draft.specs.Rows.{kindOf, itemOf}
-use Rattle.draft.specs.Content.{verdict, nameRule}
-use Rattle.draft.specs.Table.{roomOf, rowAt}
-use Rattle.draft.specs.Read.{textOf}
+use Rattle.draft.specs.Content.{verdict, nameRule, faultRule}
+use Rattle.draft.specs.Table.{roomOf, rowAt, from}
+use Rattle.draft.specs.Read.{textOf, heldRows}
 
 abbrev pub fit : Bool → Extent → Extent
 fit true o = o
@@ -149,6 +149,12 @@ module _ (row : ℕ → Row) (rows : ℕ) (s : List ℕ) where
   nested zero = floor
   nested (suc deep) = under (value deep)
 
+  -- a fault's Struct, which ends among the rows, and what its rule says of the rows below its own
+  unfoldable pub faultStruct : ℕ → Walk
+  faultStruct deep r =
+      then (only 10 (structItem (nested deep)) r)
+      (λ next. fit (leb next rows) (ruled (faultRule (heldRows s (from row (r + 1) (next - (r + 1))))) (Until next)))
+
   -- a Call holds its method and an Array, a Response a Value, a fault a Struct
   abbrev pub callItem : ℕ → Row → Walk
   callItem deep x r = holding 2 x (pair string (only 9 (arrayItem (nested deep))) (r + 1))
@@ -157,7 +163,7 @@ module _ (row : ℕ → Row) (rows : ℕ) (s : List ℕ) where
   responseItem deep x r = holding 1 x (value deep (r + 1))
 
   abbrev pub faultItem : ℕ → Row → Walk
-  faultItem deep x r = holding 1 x (only 10 (structItem (nested deep)) (r + 1))
+  faultItem deep x r = holding 1 x (faultStruct deep (r + 1))
 
   abbrev pub first : Item → ℕ → Row → Walk
   first Call deep x r = callItem deep x r

@@ -3,7 +3,7 @@ ghost use mathlib.Core.Path.{_≡_};
 ghost use Rattle.draft.specs.Refusals.{numberOf, refusalOf};
 ghost use Rattle.draft.specs.Rows.{kindOf, itemOf};
 
-// Why a message or a table is refused, in the order of document 01's numbers.
+// Why a message or a table is refused, in the order of the papers' numbers.
 pub enum Refusal {
     Ended,
     WrongPrefix,
@@ -17,6 +17,7 @@ pub enum Refusal {
     NotWritable,
     FormTooLong,
     OutputTooShort,
+    BadFault,
 }
 
 // What a rule says of some content.
@@ -94,7 +95,7 @@ pub enum Extent {
     Unfit,
 }
 
-// Document 01's number of a refusal.
+// The papers' number of a refusal.
 pub fn number(refusal: Refusal) -> u8
     ensures { λ n. ⌜ n ≡ numberOf refusal ⌝ }
 {
@@ -111,6 +112,7 @@ pub fn number(refusal: Refusal) -> u8
         Refusal::NotWritable => 11,
         Refusal::FormTooLong => 12,
         Refusal::OutputTooShort => 13,
+        Refusal::BadFault => 14,
     }
 }
 
@@ -130,7 +132,8 @@ pub fn refusal_of(number: usize) -> Refusal
         10 => Refusal::TooLong,
         11 => Refusal::NotWritable,
         12 => Refusal::FormTooLong,
-        _ => Refusal::OutputTooShort,
+        13 => Refusal::OutputTooShort,
+        _ => Refusal::BadFault,
     }
 }
 

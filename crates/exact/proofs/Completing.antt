@@ -21,15 +21,15 @@ use Rattle.draft.specs.declared.Form.{Form}
 use Rattle.draft.specs.declared.Form.the-variants.{Regular, Recorded, Recalled}
 use Rattle.draft.specs.declared.Entry.the-variants.{Text}
 use Rattle.draft.specs.Bytes.{byteAt, part}
-use Rattle.draft.specs.Rows.{row, kindOf}
-use Rattle.draft.specs.Content.{verdict, nameRule}
+use Rattle.draft.specs.Rows.{row, below, kindOf}
+use Rattle.draft.specs.Content.{verdict, nameRule, faultRule}
 use Rattle.draft.specs.Codebook.{Book, clear, recorded as record-text}
-use Rattle.draft.specs.Read.{Reading, got, Reader, over, pair as read-pair, items, alike, leaf, tagOf, present, opened, contents as read-contents, integerItem, booleanItem, shortItem, longItem, recordedItem, recalled as recalledEntry, recalledItem, stringItem, string as read-string, only, firstText, name, otherItem, counted, arrayItem, structItem, item, value, nested, callItem, responseItem, callOrResponse, prefix, agree, message}
-use Rattle.draft.specs.Grammar.{Cell, cell, holding, number, content-cell, Sent, regular, recorded, recalled, LSB, Keeps, Message, call-message, response-message, Call, call, Response, value-response, fault-response, fault, Value, integer-value, boolean-value, double-value, datetime-value, binary-value, array-value, struct-value, string-value, other-value, Integer, integer, boolean-true, boolean-false, Double, double, datetime, Binary, binary, Array, array, Values, no-values, more-values, Struct, struct, Pairs, no-pairs, more-pairs, Pair, pair, Other, other, String, regular-string, recorded-string, recalled-string, string-data, Recording, look, after, Legal, legal-recalled}
+use Rattle.draft.specs.Read.{Reading, got, Reader, over, pair as read-pair, items, alike, leaf, tagOf, present, opened, contents as read-contents, integerItem, booleanItem, shortItem, longItem, recordedItem, recalled as recalledEntry, recalledItem, stringItem, string as read-string, only, firstText, name, otherItem, counted, arrayItem, structItem, item, value, nested, callItem, faultStruct, responseItem, callOrResponse, prefix, agree, message}
+use Rattle.draft.specs.Grammar.{Cell, cell, holding, number, content-cell, heldCells, Sent, regular, recorded, recalled, LSB, Keeps, Message, call-message, response-message, Call, call, Response, value-response, fault-response, fault, Value, integer-value, boolean-value, double-value, datetime-value, binary-value, array-value, struct-value, string-value, other-value, Integer, integer, boolean-true, boolean-false, Double, double, datetime, Binary, binary, Array, array, Values, no-values, more-values, Struct, struct, Pairs, no-pairs, more-pairs, Pair, pair, Other, other, String, regular-string, recorded-string, recalled-string, string-data, Recording, look, after, Legal, legal-recalled}
 use Rattle.draft.specs.Meaning.{hasNumber, hasContent, says-contents, Means, means, Realises, no-more, and-then}
 use Rattle.exact.proofs.Standing.{Here, ends, front, back, byte-of, second, four, part-here}
 use Rattle.exact.proofs.Replaying.{after-append, legal-front, legal-back, Agrees, agrees-clear, agrees-recorded, found}
-use Rattle.exact.proofs.Realising.{content-means, over-means, number-means, counts, realises-append}
+use Rattle.exact.proofs.Realising.{content-means, over-means, number-means, counts, realises-append, held-below}
 
 -- an accepted reading, with these meanings, up to `to`, that leaves a codebook which agrees with these recordings
 pub record Reads (s : List ℕ) (o : Reading) (r : ℕ) (cs : List Cell) (to : ℕ) (R : List Recording) : Type 0 where
@@ -420,6 +420,19 @@ module _ (s : List ℕ) (room : ℕ) where
   value-begins (string-value recalled-string) = (omega arith, refl)
   value-begins (other-value (other x k y e)) = (omega arith, refl)
 
+  -- a fault's Struct that keeps its rule
+  fault-read :
+      {d : ℕ} {xs : List ℕ} {cs : List Cell} {fs : List Sent} → Struct d xs cs fs → faultRule (heldCells (below cs)) ≡ Fine
+      → ReadBy s room (faultStruct s room d) xs cs fs
+  unfolding faultStruct
+  fault-read x k =
+      record {
+        reads = λ at r book R h l a i.
+            let g = only-read (code "S") (struct-begins x .0) (struct-begins x .1) (struct-read x) .reads at r book R h l a i in
+            by (rw (g .is, held-below (g .realises), k)) refl
+            (record { rows = g .rows; book = g .book; is = refl; realises = g .realises; agrees = g .agrees });
+      }
+
   -- what stands after 'R': a Value, or 'F' and a Struct
   response-read : {d : ℕ} {xs : List ℕ} {cs : List Cell} {fs : List Sent} → Response d xs cs fs → ReadBy s room (responseItem s room d) xs cs fs
   unfolding hasNumber hasContent
@@ -431,12 +444,12 @@ module _ (s : List ℕ) (room : ℕ) where
             by (present-is (at + 1) _ (omega (arith, ends b, value-begins v .0)) ∙ rw (first-of b (value-begins v .0), value-begins v .1)) refl
             (over-read 2 1 (code "R" ∷ []) refl refl (value-read v) m refl refl .reads at r book R h l a i);
       })
-  response-read (fault-response (fault {xs = xs} x) m) =
+  response-read (fault-response (fault {xs = xs} x k) m) =
       opened-read 1 (omega arith) (omega arith)
       (record {
         reads = λ at r book R h l a i.
             by (present-is (at + 1) _ (omega (arith, ends h)) ∙ rw (second h)) refl
-            (over-read 3 1 (code "R" ∷ code "F" ∷ []) refl refl (only-read (code "S") (struct-begins x .0) (struct-begins x .1) (struct-read x)) m refl refl .reads at r book R h l a i);
+            (over-read 3 1 (code "R" ∷ code "F" ∷ []) refl refl (fault-read x k) m refl refl .reads at r book R h l a i);
       })
 
   call-begins : {d : ℕ} {xs : List ℕ} {cs : List Cell} {fs : List Sent} → Call d xs cs fs → (0 < length xs) × (getD xs 0 0 ≡ code "C")

@@ -26,15 +26,15 @@ use Rattle.draft.specs.declared.Form.the-variants.{Regular, Recorded, Recalled}
 use Rattle.draft.specs.declared.Entry.{Entry}
 use Rattle.draft.specs.declared.Entry.the-variants.{Unset, Text}
 use Rattle.draft.specs.Bytes.{byteAt, unsignedAt, part}
-use Rattle.draft.specs.Rows.{row, kindOf}
-use Rattle.draft.specs.Content.{contentRule, allThere, verdict, nameRule}
+use Rattle.draft.specs.Rows.{row, below, kindOf}
+use Rattle.draft.specs.Content.{contentRule, allThere, verdict, nameRule, faultRule}
 use Rattle.draft.specs.Codebook.{Book, clear, recorded as record-text}
-use Rattle.draft.specs.Read.{Reading, got, refused, pick, then, judged, Reader, behind, over, pair as read-pair, items, alike, leaf, pickTag, tagOf, Nest, floor, under, present, opened, contents as read-contents, integerItem, booleanItem, shortItem, longItem, recordedItem, recalled as recalledEntry, recalledItem, stringItem, ifString, string as read-string, only, firstText, name, otherItem, counted, arrayItem, structItem, item, value, nested, callItem, responseItem, callOrResponse, prefix, agree, message}
-use Rattle.draft.specs.Grammar.{Cell, cell, holding, content-cell, Sent, regular, LSB, Keeps, Message, call-message, response-message, Call, call, Response, value-response, fault-response, fault, Value, integer-value, boolean-value, double-value, datetime-value, binary-value, array-value, struct-value, string-value, other-value, Integer, integer, Boolean, boolean-true, boolean-false, Double, double, datetime, Binary, binary, Array, array, Values, no-values, more-values, Struct, struct, Pairs, no-pairs, more-pairs, Pair, pair, Other, other, String, regular-string, recorded-string, recalled-string, string-data, Recording, after, Legal, legal-none, legal-regular, legal-recorded, legal-recalled}
+use Rattle.draft.specs.Read.{Reading, got, refused, pick, then, judged, Reader, behind, over, pair as read-pair, items, alike, leaf, pickTag, tagOf, Nest, floor, under, present, opened, contents as read-contents, integerItem, booleanItem, shortItem, longItem, recordedItem, recalled as recalledEntry, recalledItem, stringItem, ifString, string as read-string, only, firstText, name, otherItem, counted, arrayItem, structItem, item, value, nested, callItem, heldRows, faultStruct, responseItem, callOrResponse, prefix, agree, message}
+use Rattle.draft.specs.Grammar.{Cell, cell, holding, content-cell, heldCells, Sent, regular, LSB, Keeps, Message, call-message, response-message, Call, call, Response, value-response, fault-response, fault, Value, integer-value, boolean-value, double-value, datetime-value, binary-value, array-value, struct-value, string-value, other-value, Integer, integer, Boolean, boolean-true, boolean-false, Double, double, datetime, Binary, binary, Array, array, Values, no-values, more-values, Struct, struct, Pairs, no-pairs, more-pairs, Pair, pair, Other, other, String, regular-string, recorded-string, recalled-string, string-data, Recording, after, Legal, legal-none, legal-regular, legal-recorded, legal-recalled}
 use Rattle.draft.specs.Meaning.{hasNumber, hasContent, Means, Realises, no-more, and-then}
 use Rattle.exact.proofs.Standing.{Here, nothing-here, ends, join, bytes-at, long, byte-before, two-before, five-before, six-before}
 use Rattle.exact.proofs.Replaying.{after-append, legal-join, Agrees, agrees-clear, agrees-recorded, said}
-use Rattle.exact.proofs.Realising.{content-means, over-means, number-means, counts, realises-append}
+use Rattle.exact.proofs.Realising.{content-means, over-means, number-means, counts, realises-append, held-below}
 use Rattle.exact.proofs.Completing.{value-is, first-text}
 
 -- what an accepted reading says of the tests on its way
@@ -189,6 +189,10 @@ pub data CallBody (d : ℕ) : List ℕ → List Cell → List Sent → Type 0 wh
   call-body :
       {xs ys zs t : List ℕ} {cs : List Cell} {f : Sent} {fs : List Sent} → String xs t f → Array d ys cs fs → zs ≡ xs ++ ys
       → CallBody d zs (content-cell content.Text t ∷ cs) (f ∷ fs)
+
+-- a fault's Struct that keeps its rule
+abbrev pub FaultStruct : ℕ → Production
+FaultStruct d xs cs fs = Struct d xs cs fs × (faultRule (heldCells (below cs)) ≡ Fine)
 
 pub data CallOrResponse (d : ℕ) : List ℕ → List Cell → List Sent → Type 0 where
   of-call : {xs : List ℕ} {cs : List Cell} {fs : List Sent} → Call d xs cs fs → CallOrResponse d xs cs fs
@@ -375,7 +379,7 @@ module _ (s : List ℕ) (room : ℕ) where
       go at r book R rows to book′ tag.Unknown b e a = refused-got e
 
   -- what only one byte begins
-  only-sound : (b : ℕ) {f : Reader} {P : Production} → SoundAt s room b f P → Sound s room (only s room b f) P
+  pub only-sound : (b : ℕ) {f : Reader} {P : Production} → SoundAt s room b f P → Sound s room (only s room b f) P
   unfolding only
   only-sound b g =
       record {
@@ -671,7 +675,7 @@ module _ (s : List ℕ) (room : ℕ) where
   array-sound zero = array-floor
   array-sound (suc d) = array-under d (value-sound d)
 
-  struct-sound : (d : ℕ) → SoundAt s room (code "S") (structItem s room (nested s room d)) (Struct d)
+  pub struct-sound : (d : ℕ) → SoundAt s room (code "S") (structItem s room (nested s room d)) (Struct d)
   unfolding nested
   struct-sound zero = struct-floor
   struct-sound (suc d) = struct-under d (value-sound d)
@@ -688,6 +692,30 @@ module _ (s : List ℕ) (room : ℕ) where
             (rw b at (byte-before {s = s} {at = at} (omega (arith, f .1)) (nothing-here (f .1)))) refl h (g .all);
       }
 
+  fault-sound : (d : ℕ) → Sound s room (faultStruct s room d) (FaultStruct d)
+  unfolding faultStruct
+  fault-sound d =
+      record {
+        derived = λ at r book R rows to book′ e a.
+            let f = then-by (only s room (code "S") (structItem s room (nested s room d)) at r book) _ e in
+            let g = judged-by (faultRule (heldRows s (below (f .new)))) at _ (f .next) in
+            let h = only-sound (code "S") (struct-sound d) .derived at r book R rows to book′ (f .is ∙ g .1) a in
+            let i : f .new ≡ rows = cc in
+            let k : faultRule (heldRows s (below rows)) ≡ Fine = rw i at (g .0) in
+            record {
+              used = h .used;
+              cells = h .cells;
+              sents = h .sents;
+              derives = (h .derives, rw (held-below (h .realises)) at k);
+              here = h .here;
+              ends = h .ends;
+              legal = h .legal;
+              agrees = h .agrees;
+              realises = h .realises;
+              fits = h .fits;
+            };
+      }
+
   response-sound : (d : ℕ) → SoundAt s room (code "R") (responseItem s room d) (Response d)
   unfolding hasNumber hasContent
   response-sound d =
@@ -701,14 +729,14 @@ module _ (s : List ℕ) (room : ℕ) where
       go :
           (at r : ℕ) (book : Book) (R : List Recording) (rows : List Row) (to : ℕ) (book′ : Book) → byteAt s at ≡ code "R" → at + 1 < length s
           → (c : Bool) → eqb (byteAt s (at + 1)) (code "F") ≡ c
-          → pick c (over 3 1 r (only s room (code "S") (structItem s room (nested s room d)) (at + 2) (r + 1) book))
+          → pick c (over 3 1 r (faultStruct s room d (at + 2) (r + 1) book))
           (over 2 1 r (value s room d (at + 1) (r + 1) book)) ≡ got rows to book′
           → Agrees s book R → Derived (Response d) s room at r R rows to book′
       go at r book R rows to book′ b i true j e a =
-          let g = over-by 3 1 r (only s room (code "S") (structItem s room (nested s room d)) (at + 2) (r + 1) book) e in
-          let h = only-sound (code "S") (struct-sound d) .derived (at + 2) (r + 1) book R (g .new) to book′ (g .is) a in
+          let g = over-by 3 1 r (faultStruct s room d (at + 2) (r + 1) book) e in
+          let h = fault-sound d .derived (at + 2) (r + 1) book R (g .new) to book′ (g .is) a in
           let p = two-before {s = s} {at = at} (omega arith) (nothing-here (omega arith)) in
-          over-derived (Response d) 3 1 (code "R" ∷ code "F" ∷ []) refl refl (λ xs cs fs x. fault-response (fault x) refl)
+          over-derived (Response d) 3 1 (code "R" ∷ code "F" ∷ []) refl refl (λ xs cs fs x. fault-response (fault (x .0) (x .1)) refl)
           (rw (b, eqb-true (byteAt s (at + 1)) (code "F") j) at p) refl h (g .all)
       go at r book R rows to book′ b i false j e a =
           let g = over-by 2 1 r (value s room d (at + 1) (r + 1) book) e in

@@ -14,7 +14,7 @@ use Rattle.text.specs.Utf8.{wellFormed}
 use Rattle.text.proofs.Comparing.{clash}
 use Rattle.text.specs.Texts.{ascii, standardName}
 use Rattle.draft.specs.declared.Refusal.{Refusal}
-use Rattle.draft.specs.declared.Refusal.the-variants.{Ended, WrongPrefix, UnexpectedByte, BadText, UnsetPosition, StandardName, TooDeep, NoRow, TooLong, NotWritable, FormTooLong, OutputTooShort}
+use Rattle.draft.specs.declared.Refusal.the-variants.{Ended, WrongPrefix, UnexpectedByte, BadText, UnsetPosition, StandardName, TooDeep, NoRow, TooLong, NotWritable, FormTooLong, OutputTooShort, BadFault}
 use Rattle.draft.specs.declared.Row.{Row}
 use Rattle.draft.specs.declared.Verdict.{Verdict}
 use Rattle.draft.specs.declared.Verdict.the-variants.{Fine, Bad}
@@ -29,14 +29,16 @@ use Rattle.draft.specs.declared.Form.the-variants.{Regular, Recorded, Recalled}
 use Rattle.draft.specs.declared.Entry.{Entry}
 use Rattle.draft.specs.declared.Entry.the-variants.{Unset, Text}
 use Rattle.draft.specs.Bytes.{byteAt, unsignedAt, part}
-use Rattle.draft.specs.Content.{contentRule, fineIf, badIf, allThere, verdict, nameRule}
+use Rattle.draft.specs.Rows.{below}
+use Rattle.draft.specs.Content.{contentRule, fineIf, badIf, allThere, verdict, nameRule, Held, isFault, faultRule}
 use Rattle.draft.specs.Codebook.{Book, clear, recorded as record-text}
-use Rattle.draft.specs.Grammar.{Cell, Sent, Recording, after, Pair}
-use Rattle.draft.specs.Meaning.{Realises, and-then, means, says-contents}
-use Rattle.draft.specs.Read.{Reading, got, refused, pick, then, judged, Reader, behind, over, pair as read-pair, items, alike, tagOf, Nest, floor, under, present, opened, contents as read-contents, shortItem, longItem, recalled as recalledEntry, stringItem, ifString, string as read-string, only, firstText, name, otherItem, counted, arrayItem, structItem, item, value, nested, callItem, responseItem, callOrResponse, prefix, agree, message}
+use Rattle.draft.specs.Grammar.{Payload, Cell, Sent, Recording, after, Pair}
+use Rattle.draft.specs.Meaning.{Realises, no-more, and-then, means, Says, says-holding, says-number, says-contents}
+use Rattle.draft.specs.Read.{Reading, got, refused, pick, then, judged, Reader, behind, over, pair as read-pair, items, alike, tagOf, Nest, floor, under, present, opened, contents as read-contents, shortItem, longItem, recalled as recalledEntry, stringItem, ifString, string as read-string, only, firstText, name, otherItem, counted, arrayItem, structItem, item, value, nested, callItem, heldRows, faultStruct, responseItem, callOrResponse, prefix, agree, message}
 use Rattle.exact.proofs.Replaying.{Agrees, agrees-clear}
+use Rattle.exact.proofs.Realising.{held-below}
 use Rattle.exact.proofs.Completing.{value-is}
-use Rattle.exact.proofs.Deriving.{Production, Sound, OneString, one-string, pair-join, string-sound, name-sound, value-sound, pair-sound}
+use Rattle.exact.proofs.Deriving.{Production, Sound, OneString, one-string, pair-join, string-sound, only-sound, name-sound, value-sound, struct-sound, pair-sound}
 
 -- what says that there is too little; bytes only if there may be more of them
 pub data TooLittle (more : Bool) : Refusal → Type 0 where
@@ -58,6 +60,7 @@ OfReading TooLong = ⊥
 OfReading NotWritable = ⊥
 OfReading FormTooLong = ⊥
 OfReading OutputTooShort = ⊥
+OfReading BadFault = Unit {0}
 
 -- an answer, and the answer when there is more: acceptance stays, and so does a refusal that does not say that there is too little
 pub data Stays (more : Bool) : Reading → Reading → Type 0 where
@@ -148,6 +151,10 @@ content-of content.Text t e = fine-of (wellFormed t) BadText tt e
 name-of : (t : List ℕ) {m : Refusal} → nameRule t ≡ Bad m → OfReading m
 unfolding nameRule
 name-of t e = bad-of (standardName t) StandardName tt e
+
+fault-of : (items : List Held) {m : Refusal} → faultRule items ≡ Bad m → OfReading m
+unfolding faultRule
+fault-of items e = fine-of (isFault items) BadFault tt e
 
 judged-stays :
     {more : Bool} (v : Verdict) (at : ℕ) (rows : List Row) (to : ℕ) (book : Book) → ((m : Refusal) → v ≡ Bad m → OfReading m)
@@ -394,6 +401,28 @@ module _ {more : Bool} (s s′ : List ℕ) (room room′ : ℕ) (l : Longer more
             (λ i. over-stays 1 2 r (pair-grows (string-sound s room) string-grows (only-grows (code "A") (array-grows d d′ h)) .stays (at + 1) (r + 1) book R a));
       }
 
+  -- rows that were read mean the same with more bytes behind them
+  says-more : {x : Row} {p : Payload} → Says s x p → Says s′ x p
+  says-more (says-holding h i a b) = says-holding h i a b
+  says-more (says-number h a b) = says-number h a b
+  says-more {x} (says-contents h i j) = says-contents h (omega (arith, least l)) (same-part l (x .a) (x .b) i ∙ j)
+
+  realises-more : {r : ℕ} {rows : List Row} {cells : List Cell} → Realises s r rows cells → Realises s′ r rows cells
+  realises-more no-more = no-more
+  realises-more (and-then (means i e p) m) = and-then (means i e (says-more p)) (realises-more m)
+
+  fault-grows : (d d′ : ℕ) → d ≤ d′ → Grows (faultStruct s room d) (faultStruct s′ room′ d′)
+  unfolding faultStruct
+  fault-grows d d′ h =
+      record {
+        stays = λ at r book R a.
+            then-stays (only-grows (code "S") (struct-grows d d′ h) .stays at r book R a)
+            (λ rows to book′ e.
+            let g = only-sound s room (code "S") (struct-sound s room d) .derived at r book R rows to book′ e a in
+            let i : heldRows s′ (below rows) ≡ heldRows s (below rows) = held-below (realises-more (g .realises)) ∙ sym (held-below (g .realises)) in
+            rw i (judged-stays (faultRule (heldRows s (below rows))) at rows to book′ (λ m. fault-of (heldRows s (below rows)))));
+      }
+
   response-grows : (d d′ : ℕ) → d ≤ d′ → Grows (responseItem s room d) (responseItem s′ room′ d′)
   response-grows d d′ h =
       record {
@@ -402,7 +431,7 @@ module _ {more : Bool} (s s′ : List ℕ) (room room′ : ℕ) (l : Longer more
             (λ i. present-stays (at + 1)
             (λ j. rw (same-byte l (at + 1) j)
             (pick-stays (eqb (byteAt s (at + 1)) (code "F"))
-            (over-stays 3 1 r (only-grows (code "S") (struct-grows d d′ h) .stays (at + 2) (r + 1) book R a))
+            (over-stays 3 1 r (fault-grows d d′ h .stays (at + 2) (r + 1) book R a))
             (over-stays 2 1 r (value-grows d d′ h .stays (at + 1) (r + 1) book R a)))));
       }
 

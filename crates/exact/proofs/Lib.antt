@@ -6,3 +6,4 @@ pub mod Completing
 pub mod Deriving
 pub mod Growing
 pub mod Concluding
+pub mod Members

@@ -14,8 +14,10 @@ use Rattle.text.proofs.Comparing.{clash}
 use Rattle.draft.specs.declared.Row.{Row}
 use Rattle.draft.specs.declared.Content.{Content}
 use Rattle.draft.specs.declared.Content.the-variants.{Double, DateTime, Binary, Text}
-use Rattle.draft.specs.Rows.{row, kindOf}
-use Rattle.draft.specs.Grammar.{Payload, holding, number, contents, Cell, cell, content-cell}
+use Rattle.draft.specs.Rows.{row, below, kindOf}
+use Rattle.draft.specs.Content.{heldOf}
+use Rattle.draft.specs.Read.{textOf, heldRows}
+use Rattle.draft.specs.Grammar.{Payload, holding, number, contents, Cell, cell, content-cell, heldCell, heldCells}
 use Rattle.draft.specs.Meaning.{hasNumber, hasContent, SameRow, MeanSame, no-rows, and-row, Says, says-holding, says-number, says-contents, Means, means, Realises, no-more, and-then}
 use Rattle.exact.proofs.Standing.{Here, ends, part-here, long}
 
@@ -61,6 +63,31 @@ module _ {s : List ℕ} where
       go : {r : ℕ} {xs : List Row} {cs : List Cell} → Realises s r xs cs → Realises s (r + length xs) ys ds → Realises s r (xs ++ ys) (cs ++ ds)
       go {r} no-more b = rw add-zero at b
       go (and-then {r} {x} {c} {xs} {cs} m t) b = and-then m (let e : r + suc (length xs) ≡ suc r + length xs = omega arith in go t (rw e at b))
+
+-- rows with the meaning of cells are the same to the rule for a fault's members: only a String's text counts
+text-unseen : (k : ℕ) (t u : List ℕ) → hasContent k ≡ false → heldOf k t ≡ heldOf k u
+unfolding heldOf hasContent
+text-unseen k t u h = go (eqb k 11) refl
+  where
+    go : (b : Bool) → eqb k 11 ≡ b → heldOf k t ≡ heldOf k u
+    go true e = clash refl (rw (eqb-true k 11 e) at h)
+    go false e = rw e
+
+module _ {s : List ℕ} where
+  held-cell : {r : ℕ} {x : Row} {c : Cell} → Means s r x c → heldOf (x .kind) (textOf s x) ≡ heldCell c
+  held-cell {x = x} (means k e (says-holding h i a b)) = rw (← k) (text-unseen (x .kind) (textOf s x) [] i)
+  held-cell {x = x} (means k e (says-number h a b)) = rw (← k) (text-unseen (x .kind) (textOf s x) [] (number-no-content (x .kind) h))
+  held-cell (means k e (says-contents h i j)) = rw (k, j)
+
+  pub held-same : {r : ℕ} {xs : List Row} {cs : List Cell} → Realises s r xs cs → heldRows s xs ≡ heldCells cs
+  unfolding heldRows heldCells
+  held-same no-more = refl
+  held-same (and-then m t) = rw (held-cell m, held-same t)
+
+  pub held-below : {r : ℕ} {xs : List Row} {cs : List Cell} → Realises s r xs cs → heldRows s (below xs) ≡ heldCells (below cs)
+  unfolding heldRows heldCells
+  held-below no-more = refl
+  held-below (and-then m t) = held-same t
 
 -- rows that mean the same have equal cells, and the other way round
 module _ {s t : List ℕ} where

@@ -33,9 +33,9 @@ use Rattle.draft.specs.Read.{Reading, got, refused, Reader, pick, opened, pair,
 use Rattle.codebook.specs.Words.{bookOf}
 use Rattle.table.proofs.Stored.{first-row}
 use Rattle.item.specs.declared.Step.{Step}
-use Rattle.item.specs.Contract.{refusedAt, readTo, answer, Left, Leaves, Did, Stored, Closed, Ends}
+use Rattle.item.specs.Contract.{refusedAt, readTo, judgedAt, answer, Left, Leaves, Did, Stored, Closed, Ends}
 use Rattle.item.proofs.Tags.{tag-regular, tag-recorded, tag-recalled}
-use Rattle.item.proofs.Readings.{Got, did-next, did-not, done, did-no, held, opened-full, opened-cut, opened-on, leaf-got, judged-bad, judged-fine, only-short, only-no, only-on, pair-first, pair-both, over-closed, did-ends, at-in, row-in, only-held, pair-held}
+use Rattle.item.proofs.Readings.{Got, did-next, did-not, done, did-no, held, opened-full, opened-cut, opened-on, leaf-got, judged-bad, judged-fine, judged-did, only-short, only-no, only-on, pair-first, pair-both, over-closed, did-ends, at-in, row-in, only-held, pair-held}
 
 -- content that its rule takes lies in the message
 fine-there : (b : Bool) (w : Verdict) → allThere b w ≡ Fine → b ≡ true
@@ -164,7 +164,7 @@ pub row-text-is : (s : List ℕ) {x y : Row} {t : List ℕ} → t ≡ part s (x 
 row-text-is s e f = e ∙ rw f
 
 -- what an accepted reading did, by itself
-got-did : {o : Reading} {bytes room from r : ℕ} {T T₁ W₁ : List ℕ} {step : Step} → step .number ≡ 0 → (g : Got o bytes room from r T T₁ W₁ step) → Did (got (g .rows) (step .at) (bookOf W₁)) bytes room from r T T₁ W₁ step
+pub got-did : {o : Reading} {bytes room from r : ℕ} {T T₁ W₁ : List ℕ} {step : Step} → step .number ≡ 0 → (g : Got o bytes room from r T T₁ W₁ step) → Did (got (g .rows) (step .at) (bookOf W₁)) bytes room from r T T₁ W₁ step
 got-did e g = record { says = rw (e, g .next); leaves = record { wrote = g .wrote; ahead = g .ahead; within = g .within; fits = rw (sym (g .next)) (g .fits); holds = refl } }
 
 -- a String's refusal is the name's
@@ -201,11 +201,8 @@ module _ (s : List ℕ) (at : ℕ) (book : Book) {bytes room from r : ℕ} {T T�
     name-is : name s room q at r book ≡ judged v q (got (did-next d e .rows) (step .at) (bookOf W₁))
     name-is = name-by s room q at r book (did-next d e .reading) (named l f g)
 
-    pub name-bad : {m : Refusal} {T′ W′ : List ℕ} {answer : Step} → v ≡ Bad m → answer ≡ refusedAt m q → Did (name s room q at r book) bytes room from r T T′ W′ answer
-    name-bad {m} i f = did-no m f (name-is ∙ rw i)
-
-    pub name-fine : {answer : Step} → v ≡ Fine → answer ≡ step → Did (name s room q at r book) bytes room from r T T₁ W₁ answer
-    name-fine i f = rw f (done (name-is ∙ rw i) (got-did e (did-next d e)))
+    pub name-judged : {answer : Step} → answer ≡ judgedAt v q step → Did (name s room q at r book) bytes room from r T T₁ W₁ answer
+    name-judged i = done name-is (judged-did v q (got-did e (did-next d e)) i)
 
 -- an item's own row
 pub close-refused : {step : Step} {k b r room : ℕ} {T T′ : List ℕ} → (step .number ≡ 0 → ⊥) → Closed step k b r room T T′ step
@@ -237,4 +234,12 @@ pub ruleset leaves = (held, opened-full, opened-cut, opened-on, leaf-got, intege
 
 pub ruleset strings = (string-short, string-regular, string-recorded, string-recalled, string-no, only-short, only-no, only-on, only-held)
 
-pub ruleset others = (string-row, name-refused, name-bad, name-fine, pair-first, pair-both, pair-held, at-in, row-in, did-ends, row-text-is, opened-full, opened-on, over-closed, one-in, ahead-next, close-refused, close-next, end-word)
+pub judged-bad-is : (m : Refusal) (at : ℕ) (step : Step) {v : Verdict} {answer : Step} → v ≡ Bad m → answer ≡ refusedAt m at → answer ≡ judgedAt v at step
+judged-bad-is m at step i e = rw i e
+
+pub judged-fine-is : (at : ℕ) (step : Step) {v : Verdict} → v ≡ Fine → step ≡ judgedAt v at step
+judged-fine-is at step i = rw i
+
+pub ruleset rules = (judged-bad-is, judged-fine-is)
+
+pub ruleset others = (string-row, name-refused, name-judged, pair-first, pair-both, pair-held, at-in, row-in, did-ends, row-text-is, opened-full, opened-on, over-closed, one-in, ahead-next, close-refused, close-next, end-word)

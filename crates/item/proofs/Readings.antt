@@ -22,7 +22,7 @@ use Rattle.draft.proofs.Naming.{number-some}
 use Rattle.codebook.specs.Words.{bookOf}
 use Rattle.table.proofs.Rows.{put-append}
 use Rattle.item.specs.declared.Step.{Step}
-use Rattle.item.specs.Contract.{refusedAt, readTo, answer, Left, Leaves, Did, Stored, Closed, Ends}
+use Rattle.item.specs.Contract.{refusedAt, readTo, judgedAt, answer, Left, Leaves, Did, Stored, Closed, Ends}
 
 -- a refusal, by its number
 pub refused-is : (m : Refusal) (p : ℕ) {n : ℕ} → n ≡ numberOf m → _≡_ {A = Step} (record { number = n; at = p; row = 0 }) (refusedAt m p)
@@ -117,6 +117,11 @@ module _ {v w : Verdict} (at : ℕ) (o : Reading) {bytes room from r : ℕ} {T T
 
   pub judged-fine : {step : Step} → v ≡ Fine → Did o bytes room from r T T′ W′ step → Did (judged w at o) bytes room from r T T′ W′ step
   judged-fine i d = rw (← e, i) d
+
+-- what a rule says of a reading that was accepted
+pub judged-did : (v : Verdict) (at : ℕ) {o : Reading} {bytes room from r : ℕ} {T T′ W′ : List ℕ} {step answer : Step} → Did o bytes room from r T T′ W′ step → answer ≡ judgedAt v at step → Did (judged v at o) bytes room from r T T′ W′ answer
+judged-did Fine at d e = rw e d
+judged-did (Bad m) at d e = did-no m e refl
 
 -- what f reads, where only the byte b may begin it
 module _ (s : List ℕ) (b : ℕ) (f : Reader) (at : ℕ) (book : Book) {bytes room from r : ℕ} {T T′ W′ : List ℕ} where

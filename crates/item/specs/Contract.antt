@@ -4,6 +4,8 @@ use mathlib.Core.List.{List}
 use Prim.Native.Nat.{ℕ, _+_, _*_, _≤_}
 use lib.ListN.{length}
 use Rattle.draft.specs.declared.Refusal.{Refusal}
+use Rattle.draft.specs.declared.Verdict.{Verdict}
+use Rattle.draft.specs.declared.Verdict.the-variants.{Fine, Bad}
 use Rattle.draft.specs.declared.Row.{Row}
 use Rattle.draft.specs.Refusals.{numberOf}
 use Rattle.draft.specs.Codebook.{Book}
@@ -32,6 +34,11 @@ refusedAt m p = record { number = numberOf m; at = p; row = 0 }
 
 abbrev pub readTo : ℕ → ℕ → Step
 readTo to r = record { number = 0; at = to; row = r }
+
+-- a step, unless a rule refuses what it read
+abbrev pub judgedAt : Verdict → ℕ → Step → Step
+judgedAt Fine at step = step
+judgedAt (Bad m) at step = refusedAt m at
 
 -- the answer to a reading that began at row r
 abbrev pub answer : ℕ → Reading → Step

@@ -12,7 +12,7 @@ ghost use Rattle.draft.specs.Bytes.{unsignedAt};
 ghost use Rattle.draft.specs.Table.{setRow, rowAt};
 ghost use Rattle.draft.specs.Read.{textOf, pair, contents, integerItem, booleanItem, shortItem, longItem, recordedItem, recalledItem, string, only, name, otherItem};
 ghost use Rattle.codebook.specs.Words.{bookOf};
-ghost use Rattle.item.specs.Contract.{Fitting, Ready, refusedAt, readTo, Did, Stored, Closed, Ends};
+ghost use Rattle.item.specs.Contract.{Fitting, Ready, refusedAt, readTo, judgedAt, Did, Stored, Closed, Ends};
 
 // What reading an item answers: 0 if it was read, with the next byte and the next row; or the number of a refusal, with its place.
 // All three are words, so that an answer is copied as it was stored.
@@ -30,6 +30,16 @@ pub fn refuse(refusal: Refusal, at: usize) -> Step
         number: draft::number(refusal) as usize,
         at,
         row: 0,
+    }
+}
+
+// An item that was read up to a step, unless its rule refuses it at a place.
+pub fn judged(verdict: Verdict, place: usize, step: Step) -> Step
+    ensures { λ r. ⌜ r ≡ judgedAt verdict place step ⌝ }
+{
+    match verdict {
+        Verdict::Bad(refusal) => refuse(refusal, place),
+        Verdict::Fine => step,
     }
 }
 
@@ -295,10 +305,7 @@ fn read_name(
         return step;
     }
     let verdict = content::judge_name(row_text(s, table, room, row));
-    match verdict {
-        Verdict::Bad(refusal) => refuse(refusal, o),
-        Verdict::Fine => step,
-    }
+    judged(verdict, o, step)
 }
 
 // The name of the Other at o, and its Binary.

@@ -12,7 +12,7 @@ use Rattle.draft.specs.declared.Refusal.the-variants.{Ended, WrongPrefix, Unexp
 use Rattle.draft.specs.Refusals.{refusalOf}
 use Rattle.draft.specs.Codebook.{Book, clear}
 use Rattle.draft.specs.Table.{roomOf}
-use Rattle.draft.specs.Read.{Reading, over, only, opened, value, structItem, nested, callItem, responseItem, callOrResponse, prefix, agree, message, messageWithin}
+use Rattle.draft.specs.Read.{Reading, over, only, opened, value, callItem, faultStruct, responseItem, callOrResponse, prefix, agree, message, messageWithin}
 use Rattle.draft.proofs.Naming.{number-own}
 use Rattle.codebook.specs.Words.{bookOf}
 use Rattle.codebook.proofs.Recording.{clear-holds}
@@ -28,7 +28,7 @@ module _ (s : List ℕ) (deep at : ℕ) (book : Book) {bytes room from r : ℕ} 
   pub response-short : {step : Step} → length s ≤ at + 1 → step ≡ refusedAt Ended (at + 1) → Did (responseItem s room deep at r book) bytes room from r T T′ W′ step
   response-short l e = opened-on s 1 at _ h (omega arith) (did-no Ended e (simp (le-ltb _ _ l)))
 
-  pub response-fault : {step : Step} → at + 1 < length s → getD s (at + 1) 0 ≡ 70 → Did (over 3 1 r (only s room 83 (structItem s room (nested s room deep)) (at + 2) (r + 1) book)) bytes room from r T T′ W′ step → Did (responseItem s room deep at r book) bytes room from r T T′ W′ step
+  pub response-fault : {step : Step} → at + 1 < length s → getD s (at + 1) 0 ≡ 70 → Did (over 3 1 r (faultStruct s room deep (at + 2) (r + 1) book)) bytes room from r T T′ W′ step → Did (responseItem s room deep at r book) bytes room from r T T′ W′ step
   response-fault l e d = opened-on s 1 at _ h (omega arith) (done (simp (lt-ltb _ _ l, eq-eqb _ _ e)) d)
 
   pub response-value : {step : Step} → at + 1 < length s → (getD s (at + 1) 0 ≡ 70 → ⊥) → Did (over 2 1 r (value s room deep (at + 1) (r + 1) book)) bytes room from r T T′ W′ step → Did (responseItem s room deep at r book) bytes room from r T T′ W′ step

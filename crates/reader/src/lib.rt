@@ -4,7 +4,7 @@ use item::Step;
 ghost use mathlib.Core.Path.{_≡_};
 ghost use Prim.Native.Nat.{_+_, _≤_, _<_};
 ghost use lib.ListN.{length, replicate};
-ghost use Rattle.draft.specs.Read.{pair, string, only, arrayItem, structItem, nested, callItem, responseItem, callOrResponse, prefix, agree};
+ghost use Rattle.draft.specs.Read.{pair, string, only, arrayItem, structItem, nested, callItem, faultStruct, responseItem, callOrResponse, prefix, agree};
 ghost use Rattle.draft.specs.Codebook.{clear};
 ghost use Rattle.draft.specs.Table.{roomOf};
 ghost use Rattle.codebook.specs.Words.{bookOf};
@@ -68,6 +68,27 @@ fn read_struct_only(
     }
 }
 
+// A fault's Struct, judged once it is read.
+fn read_fault_struct(
+    s: &[u8],
+    at: usize,
+    row: usize,
+    deep: usize,
+    room: usize,
+    table: &mut [u32],
+    book: &mut [u32],
+) -> Step
+    requires { ⌜ Ready at row room (length (now s)) (length (now table)) (length (now book)) ⌝ }
+    ensures { λ r. ⌜ Did (faultStruct (now (s .entry)) room deep at row (bookOf (now (book .entry)))) (length (now (s .entry))) room (at + 1) row (now (table .entry)) (now (table .exit)) (now (book .exit)) r ⌝ }
+{
+    let inside = read_struct_only(s, at, row, deep, room, table, book);
+    if inside.number != 0 {
+        return inside;
+    }
+    let verdict = fault::judge(table, room, s, row, inside.row);
+    item::judged(verdict, at, inside)
+}
+
 // A Call's method and its Array.
 fn read_method_and_array(
     s: &[u8],
@@ -129,7 +150,7 @@ fn read_response(
         return item::refuse(Refusal::Ended, next);
     }
     if s[next] == b'F' {
-        let step = read_struct_only(s, at + 2, row + 1, deep, room, table, book);
+        let step = read_fault_struct(s, at + 2, row + 1, deep, room, table, book);
         item::close(step, 3, 1, row, room, table)
     } else {
         let step = value::read_value(s, next, row + 1, deep, room, table, book);

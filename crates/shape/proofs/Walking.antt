@@ -18,11 +18,11 @@ use Rattle.draft.specs.declared.Extent.{Extent}
 use Rattle.draft.specs.declared.Extent.the-variants.{Until, Unfit}
 use Rattle.draft.specs.declared.Row.{Row}
 use Rattle.draft.specs.Rows.{itemOf}
-use Rattle.draft.specs.Table.{roomOf, rowAt}
-use Rattle.draft.specs.Content.{verdict, nameRule}
+use Rattle.draft.specs.Table.{roomOf, rowAt, from}
+use Rattle.draft.specs.Content.{verdict, nameRule, faultRule}
 use Rattle.draft.specs.Bytes.{part}
-use Rattle.draft.specs.Read.{textOf}
-use Rattle.draft.specs.Writable.{fit, Walk, closed, leaf, over, holding, sized, contentItem, only, string, name, pair, items, alike, arrayItem, structItem, item, value, nested, floor, under, first, callOrResponse, wholly, writableWithin, writable}
+use Rattle.draft.specs.Read.{textOf, heldRows}
+use Rattle.draft.specs.Writable.{fit, Walk, closed, leaf, over, holding, sized, contentItem, only, string, name, pair, items, alike, arrayItem, structItem, item, value, nested, floor, under, faultStruct, first, callOrResponse, wholly, writableWithin, writable}
 use Rattle.shape.specs.Asked.{Ready}
 use Rattle.shape.proofs.Turns.{turn-done, turn-again, turn-no}
 
@@ -117,6 +117,17 @@ module _ (row : ℕ → Row) (rows : ℕ) (s : List ℕ) where
       unfolding only
       only-here d j l = l ∙ rw (lt-ltb r rows h, ← i, eq-eqb (x .kind) k (j ∙ d))
 
+    only-before : (b : Bool) → ltb r rows ≡ b → {n : ℕ} → only row rows s k f r ≡ Until n → b ≡ true
+    unfolding only
+    only-before true e i = refl
+    only-before false e i = let z : _≡_ {A = ℕ} 0 1 = clash (rw e at i) in absurd (omega arith)
+      where
+        clash : {n : ℕ} → Unfit ≡ Until n → _≡_ {A = ℕ} 0 1
+        clash f = cc
+
+    pub only-there : {o : Extent} {n : ℕ} → o ≡ only row rows s k f r → o ≡ Until n → r < rows
+    only-there h i = ltb-true r rows (only-before (ltb r rows) refl (sym h ∙ i))
+
   pub string-is : (r : ℕ) {e : Extent} → e ≡ only row rows s 11 (contentItem s Text) r → e ≡ string row rows s r
   unfolding string
   string-is r h = h
@@ -127,17 +138,10 @@ module _ (row : ℕ → Row) (rows : ℕ) (s : List ℕ) where
     unfolding name
     name-no i = rw (← h, i)
 
-    string-past : (b : Bool) → ltb r rows ≡ b → {k : ℕ} → string row rows s r ≡ Until k → b ≡ true
-    unfolding string only
-    string-past true e i = refl
-    string-past false e i = let z : _≡_ {A = ℕ} 0 1 = clash (rw e at i) in absurd (omega arith)
-      where
-        clash : {k : ℕ} → Unfit ≡ Until k → _≡_ {A = ℕ} 0 1
-        clash f = cc
-
     module _ {k : ℕ} (i : o ≡ Until k) where
       pub string-there : r < rows
-      string-there = ltb-true r rows (string-past (ltb r rows) refl (sym h ∙ i))
+      unfolding string
+      string-there = only-there 11 (contentItem s Text) r h i
 
       module _ {t : List ℕ} {v : Verdict} (e : t ≡ textOf s (row r)) (j : v ≡ nameRule t) where
         pub name-bad : {m : Refusal} → v ≡ Bad m → Unfit ≡ name row rows s r
@@ -181,6 +185,26 @@ module _ (row : ℕ → Row) (rows : ℕ) (s : List ℕ) where
       pub struct-less : o ≡ items (alike (pair (string row rows s) (value row rows s (deep - 1)))) n (r + 1) (r + 1) → e ≡ over x o → e ≡ structItem row rows s (nested row rows s deep) x r
       struct-less h i = i ∙ rw (nested-less deep d, h, f)
 
+  -- a fault's Struct
+  module _ (deep r : ℕ) {o : Extent} (h : o ≡ only row rows s 10 (structItem row rows s (nested row rows s deep)) r) where
+    pub fault-no : o ≡ Unfit → Unfit ≡ faultStruct row rows s deep r
+    unfolding faultStruct
+    fault-no i = rw (← h, i)
+
+    module _ {n : ℕ} (i : o ≡ Until n) where
+      pub fault-past : rows < n → Unfit ≡ faultStruct row rows s deep r
+      unfolding faultStruct
+      fault-past l = rw (← h, i, lt-leb n rows l)
+
+      module _ {v : Verdict} (l : n ≤ rows) (j : v ≡ faultRule (heldRows s (from row (r + 1) (n - (r + 1))))) where
+        pub fault-bad : {m : Refusal} → v ≡ Bad m → Unfit ≡ faultStruct row rows s deep r
+        unfolding faultStruct
+        fault-bad g = rw (← h, i, le-leb n rows l, ← j, g)
+
+        pub fault-fine : v ≡ Fine → Until n ≡ faultStruct row rows s deep r
+        unfolding faultStruct
+        fault-fine g = rw (← h, i, le-leb n rows l, ← j, g)
+
   -- the Call or Response
   module _ (deep r : ℕ) where
     pub first-past : rows ≤ r → Unfit ≡ callOrResponse row rows s deep r
@@ -197,7 +221,13 @@ row-few h l = omega (arith, h .stated, h .most)
 pub row-room : {r rows room words : ℕ} → Ready rows room words → r < rows → r < room
 row-room h l = omega (arith, h .stated)
 
-pub ruleset walking = (fit-eq, fit-ne, fit-le, fit-gt, closed-there, closed-else, wholly-is, holding-on, sized-double, sized-date, sized-binary, sized-text, content-large, content-bad, content-fine, pair-no, pair-on, row-text-is, only-past, only-not, only-else, only-here, string-is, string-there, name-no, name-bad, name-fine, value-past, value-is, array-deep, struct-deep, array-less, struct-less, first-past, first-is, row-few, row-room, turn-done, turn-again, turn-no)
+pub row-in : {r rows room words : ℕ} → Ready rows room words → r < rows → r ≤ room
+row-in h l = omega (arith, h .stated)
+
+pub end-in : {n rows room words : ℕ} → Ready rows room words → n ≤ rows → n ≤ room
+end-in h l = omega (arith, h .stated)
+
+pub ruleset walking = (fit-eq, fit-ne, fit-le, fit-gt, closed-there, closed-else, wholly-is, holding-on, sized-double, sized-date, sized-binary, sized-text, content-large, content-bad, content-fine, pair-no, pair-on, row-text-is, only-past, only-not, only-else, only-here, only-there, string-is, string-there, name-no, name-bad, name-fine, value-past, value-is, array-deep, struct-deep, array-less, struct-less, fault-no, fault-past, fault-bad, fault-fine, first-past, first-is, row-few, row-room, row-in, end-in, turn-done, turn-again, turn-no)
 
 -- the whole table
 module _ (T : List ℕ) (rows : ℕ) (s : List ℕ) where

@@ -11,7 +11,7 @@ ghost use lib.ListN.{length};
 ghost use Rattle.draft.specs.Rows.{kindOf};
 ghost use Rattle.draft.specs.Table.{rowAt};
 ghost use Rattle.draft.specs.Read.{textOf};
-ghost use Rattle.draft.specs.Writable.{closed, leaf, over, holding, integerItem, booleanItem, sized as sizedBy, contentItem, only, string, name, otherItem, arrayItem, structItem, value, nested, pair, items, alike, callItem, responseItem, faultItem, callOrResponse, wholly as whollyBy, writable as writableBy};
+ghost use Rattle.draft.specs.Writable.{closed, leaf, over, holding, integerItem, booleanItem, sized as sizedBy, contentItem, only, string, name, otherItem, arrayItem, structItem, value, nested, pair, items, alike, callItem, faultStruct, responseItem, faultItem, callOrResponse, wholly as whollyBy, writable as writableBy};
 ghost use Rattle.shape.specs.Asked.{Ready};
 
 // The most bytes that the texts may lie in.
@@ -380,6 +380,34 @@ fn walk_struct_only(
     }
 }
 
+// A fault's Struct, and what its rule says.
+fn walk_fault_struct(
+    table: &[u32],
+    room: usize,
+    rows: usize,
+    text: &[u8],
+    deep: usize,
+    r: usize,
+) -> Extent
+    requires { ⌜ Ready rows room (length (now table)) ⌝ }
+    ensures { λ e. ⌜ e ≡ faultStruct (rowAt room (now (table .entry))) rows (now (text .entry)) deep r ⌝ }
+{
+    let extent = walk_struct_only(table, room, rows, text, deep, r);
+    match extent {
+        Extent::Unfit => Extent::Unfit,
+        Extent::Until(next) => {
+            if rows < next {
+                return Extent::Unfit;
+            }
+            let verdict = fault::judge(table, room, text, r, next);
+            match verdict {
+                Verdict::Fine => Extent::Until(next),
+                Verdict::Bad(_) => Extent::Unfit,
+            }
+        }
+    }
+}
+
 // A method and an Array.
 fn walk_method_and_array(
     table: &[u32],
@@ -425,7 +453,7 @@ fn walk_call_or_response(
             close_holding(1, row, extent)
         }
         Item::Fault => {
-            let extent = walk_struct_only(table, room, rows, text, deep, r + 1);
+            let extent = walk_fault_struct(table, room, rows, text, deep, r + 1);
             close_holding(1, row, extent)
         }
         Item::Integer => Extent::Unfit,

@@ -1,4 +1,5 @@
-// Reads the messages of document 01 and the examples and counter-examples of the draft (document 002), and lists each.
+// Reads the messages of document 01, the examples and counter-examples of the draft (document 002), and faults by document 02's rule, and
+// lists each.
 
 fn run(name: &[u8], message: &[u8], table: &mut [u32]) {
     console::write(name);
@@ -103,11 +104,60 @@ fn run_others(message: &mut [u8], table: &mut [u32]) {
     run_nested(b"01: 33 nested Arrays", 33, message, table);
 }
 
+// Faults, by document 02's rule for their members.
+fn run_faults(table: &mut [u32]) {
+    run(
+        b"02: a fault with the message first, the code's key recalled",
+        b"binmode-rpc:RFS\x02\0\0\0U\x0b\0\0\0faultString>\x07\x09\0\0\0faultCode<\x07I\x01\0\0\0",
+        table,
+    );
+    run(
+        b"02: a fault with the code alone",
+        b"binmode-rpc:RFS\x01\0\0\0U\x09\0\0\0faultCodeI\x01\0\0\0",
+        table,
+    );
+    run(
+        b"02: a fault with a third member",
+        b"binmode-rpc:RFS\x03\0\0\0U\x09\0\0\0faultCodeI\x01\0\0\0U\x0b\0\0\0faultStringU\x05\0\0\0ErrorU\0\0\0\0t",
+        table,
+    );
+    run(
+        b"02: a fault with the code twice",
+        b"binmode-rpc:RFS\x02\0\0\0>\0\x09\0\0\0faultCodeI\x01\0\0\0<\0I\x01\0\0\0",
+        table,
+    );
+}
+
+fn run_other_faults(table: &mut [u32]) {
+    run(
+        b"02: a fault with a Boolean for a code",
+        b"binmode-rpc:RFS\x02\0\0\0U\x09\0\0\0faultCodetU\x0b\0\0\0faultStringU\x05\0\0\0Error",
+        table,
+    );
+    run(
+        b"02: a fault with a Double for a message",
+        b"binmode-rpc:RFS\x02\0\0\0U\x09\0\0\0faultCodeI\x01\0\0\0U\x0b\0\0\0faultStringD\x05Error",
+        table,
+    );
+    run(
+        b"02: a fault with another key",
+        b"binmode-rpc:RFS\x02\0\0\0U\x09\0\0\0faultCodeI\x01\0\0\0U\x0b\0\0\0faultstringU\x05\0\0\0Error",
+        table,
+    );
+    run(
+        b"02: a fault with a third member that is cut short",
+        b"binmode-rpc:RFS\x03\0\0\0U\x09\0\0\0faultCodeI\x01\0\0\0U\x0b\0\0\0faultStringU\x05\0\0\0ErrorU\0\0\0\0",
+        table,
+    );
+}
+
 fn run_all(message: &mut [u8], table: &mut [u32], small: &mut [u32]) {
     run_examples(table);
     run_mixed_arrays(table);
     run_counter_examples(table);
     run_others(message, table);
+    run_faults(table);
+    run_other_faults(table);
     run(
         b"01: that count and a t, into 8 words (P11)",
         b"binmode-rpc:RA\xff\xff\xff\xfft",

@@ -17,15 +17,16 @@ use Rattle.draft.specs.declared.Item.{Item}
 use Rattle.draft.specs.declared.Item.the-variants as item
 use Rattle.draft.specs.declared.Extent.the-variants.{Until}
 use Rattle.draft.specs.Bytes.{Below, and-below}
-use Rattle.draft.specs.Rows.{itemOf}
-use Rattle.draft.specs.Content.{verdict, nameRule}
-use Rattle.draft.specs.Read.{textOf, prefix}
-use Rattle.draft.specs.Writable.{ruled, Walk, pair as walk-pair, items, alike, closed, over, holding as walk-holding, integerItem, booleanItem, sized, contentItem, counted, arrayItem, only, string as walk-string, name, otherItem, structItem, item as walk-item, value, nested, first, callOrResponse}
-use Rattle.draft.specs.Grammar.{Payload, Message, call-message, response-message, holding, number, Cell, cell, content-cell, Sent, Keeps, Call, call, Response, value-response, fault-response, fault, Value, integer-value, boolean-value, double-value, datetime-value, array-value, struct-value, string-value, other-value, boolean-true, boolean-false, double, datetime, binary-value, Binary, binary, Array, array, Values, no-values, more-values, Struct, struct, Pairs, no-pairs, more-pairs, Pair, pair, Other, other, String, regular-string, recorded-string, recalled-string}
+use Rattle.draft.specs.Rows.{below, itemOf}
+use Rattle.draft.specs.Content.{verdict, nameRule, faultRule}
+use Rattle.draft.specs.Table.{from}
+use Rattle.draft.specs.Read.{textOf, heldRows, prefix}
+use Rattle.draft.specs.Writable.{ruled, Walk, pair as walk-pair, items, alike, closed, over, holding as walk-holding, integerItem, booleanItem, sized, contentItem, counted, arrayItem, only, string as walk-string, name, otherItem, structItem, item as walk-item, value, nested, faultStruct, first, callOrResponse}
+use Rattle.draft.specs.Grammar.{Payload, Message, call-message, response-message, holding, number, Cell, cell, content-cell, heldCells, Sent, Keeps, Call, call, Response, value-response, fault-response, fault, Value, integer-value, boolean-value, double-value, datetime-value, array-value, struct-value, string-value, other-value, boolean-true, boolean-false, double, datetime, binary-value, Binary, binary, Array, array, Values, no-values, more-values, Struct, struct, Pairs, no-pairs, more-pairs, Pair, pair, Other, other, String, regular-string, recorded-string, recalled-string}
 use Rattle.draft.specs.Meaning.{says-holding, says-number, says-contents, Means, means}
 use Rattle.exact.proofs.Standing.{long}
 use Rattle.written.proofs.Limiting.{below-front, below-back}
-use Rattle.written.proofs.Standing.{Stands, stands-none, stands-more, stands-head, stands-tail, stands-front, stands-back}
+use Rattle.written.proofs.Standing.{Stands, stands-none, stands-more, stands-head, stands-tail, stands-front, stands-back, held-under}
 use Rattle.written.proofs.Sending.{textIn}
 use Rattle.written.proofs.Measuring.{Kept, kept-more, kept-front, kept-back}
 use Rattle.written.proofs.Walking.{value-is}
@@ -260,6 +261,18 @@ module _ (row : ℕ → Row) (rows : ℕ) (s : List ℕ) where
       let g = held-fits 1 2 (pair-fits (string-fits (keeps-text x k)) (only-fits 9 (array-begins y) p)) n in
       first-fits d item.Call refl (record { walks = λ r h l. g .walks r h l })
 
+  -- a fault's Struct that keeps its rule
+  fault-fits :
+      {d : ℕ} {xs : List ℕ} {cs : List Cell} {fs : List Sent} → Struct d xs cs fs → faultRule (heldCells (below cs)) ≡ Fine → Below 256 xs → Kept fs
+      → WalkedBy (faultStruct row rows s d) cs
+  unfolding faultStruct
+  fault-fits {d} {cs = cs} x j b k =
+      record {
+        walks = λ r h l.
+            let g = only-fits 10 (struct-begins x) (struct-fits x b k) .walks r h l in
+            rw (g, le-leb _ _ l, held-under h, j);
+      }
+
   response-fits :
       {d : ℕ} {xs : List ℕ} {cs : List Cell} {fs : List Sent} → Response d xs cs fs → Below 256 xs → Kept fs
       → WalkedBy (callOrResponse row rows s d) cs
@@ -267,8 +280,8 @@ module _ (row : ℕ → Row) (rows : ℕ) (s : List ℕ) where
   response-fits {d} (value-response v n) (and-below h b) k =
       let g = held-fits 2 1 (value-fits v b k) n in
       first-fits d item.Response refl (record { walks = λ r h l. g .walks r h l })
-  response-fits {d} (fault-response (fault x) n) (and-below h (and-below i b)) k =
-      let g = held-fits 3 1 (only-fits 10 (struct-begins x) (struct-fits x b k)) n in
+  response-fits {d} (fault-response (fault x j) n) (and-below h (and-below i b)) k =
+      let g = held-fits 3 1 (fault-fits x j b k) n in
       first-fits d item.Fault refl (record { walks = λ r h l. g .walks r h l })
 
   -- what is derived is walked

@@ -149,7 +149,7 @@ call-measured (call x y e m) =
 response-measured : {d : ℕ} {xs : List ℕ} {cs : List Cell} {fs : List Sent} → Response d xs cs fs → Measured xs cs fs
 unfolding form strings itemOf
 response-measured (value-response v m) = let g = value-measured v in record { same = g .same; size = omega (arith, g .size); honest = g .honest }
-response-measured (fault-response (fault x) m) = let g = struct-measured x in record { same = g .same; size = omega (arith, g .size); honest = g .honest }
+response-measured (fault-response (fault x k) m) = let g = struct-measured x in record { same = g .same; size = omega (arith, g .size); honest = g .honest }
 
 pub measured : {d : ℕ} {zs : List ℕ} {cs : List Cell} {fs : List Sent} → Message d zs cs fs → Whole zs cs fs
 measured (call-message x e) = behind (call-measured x) e

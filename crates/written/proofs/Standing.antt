@@ -1,14 +1,17 @@
 -- Rows by their numbers that have the meanings of cells, taken apart and put together. Assumes nothing.
-use mathlib.Core.Path.{_≡_, refl}
+use mathlib.Core.Path.{_≡_, refl, _∙_}
 use mathlib.Core.List.{List, [], _∷_, _++_}
-use Prim.Native.Nat.{ℕ, zero, suc, _+_}
+use Prim.Native.Nat.{ℕ, zero, suc, _+_, _-_}
 use native.Mathlib.Omega.{arith}
 use native.Mathlib.Nat.{add-zero}
 use lib.ListN.{length}
 use Rattle.draft.specs.declared.Row.{Row}
+use Rattle.draft.specs.Rows.{below}
 use Rattle.draft.specs.Table.{from}
-use Rattle.draft.specs.Grammar.{Cell}
+use Rattle.draft.specs.Read.{heldRows}
+use Rattle.draft.specs.Grammar.{Cell, heldCells}
 use Rattle.draft.specs.Meaning.{Means, Realises, no-more, and-then}
+use Rattle.exact.proofs.Realising.{held-same}
 
 -- the rows from row r on have the meanings of the cells
 pub data Stands (row : ℕ → Row) (s : List ℕ) : ℕ → List Cell → Type 0 where
@@ -53,3 +56,12 @@ module _ {row : ℕ → Row} {s : List ℕ} where
           let i : x ≡ row r = cc in
           let j : xs ≡ from row (suc r) n = cc in
           stands-more (rw i at m) (go n t j)
+
+  -- the rows below the first, as the rule for a fault's members sees them
+  pub held-under : {r : ℕ} {cs : List Cell} → Stands row s r cs → heldRows s (from row (r + 1) (r + length cs - (r + 1))) ≡ heldCells (below cs)
+  unfolding from heldRows heldCells
+  held-under {r} stands-none = let e : r + 0 - (r + 1) ≡ 0 = omega arith in rw e
+  held-under {r} (stands-more {cs = cs} m t) =
+      let e : r + suc (length cs) - (r + 1) ≡ length cs = omega arith in
+      let f : r + 1 ≡ suc r = omega arith in
+      rw (e, f) (held-same (stands-realises t))

@@ -3,7 +3,7 @@
 use mathlib.Core.Path.{_≡_, refl, sym, ap, _∙_}
 use mathlib.Core.Bool.{Bool, true, false}
 use mathlib.Core.List.{List, [], _∷_, _++_, append-nil}
-use Prim.Native.Nat.{ℕ, zero, suc, _+_, _≤_, _<_, _%_}
+use Prim.Native.Nat.{ℕ, zero, suc, _+_, _-_, _≤_, _<_, _%_}
 use native.Mathlib.Omega.{arith}
 use lib.Dec.{eqb, leb, ltb}
 use lib.ListN.{length, length-append}
@@ -18,20 +18,21 @@ use Rattle.draft.specs.declared.Item.the-variants as item
 use Rattle.draft.specs.declared.Extent.{Extent}
 use Rattle.draft.specs.declared.Extent.the-variants.{Until, Unfit}
 use Rattle.draft.specs.Bytes.{part}
-use Rattle.draft.specs.Rows.{kindOf, itemOf}
-use Rattle.draft.specs.Content.{contentRule, verdict, nameRule}
-use Rattle.draft.specs.Read.{textOf}
-use Rattle.draft.specs.Writable.{fit, ruled, then, Walk, pair as walk-pair, items, alike, closed, leaf, over, holding as walk-holding, integerItem, booleanItem, sized, Nest, floor, under, contentItem, counted as walk-counted, arrayItem, only, string as walk-string, name, otherItem, structItem, item as walk-item, value, nested, first, callOrResponse}
+use Rattle.draft.specs.Rows.{below, kindOf, itemOf}
+use Rattle.draft.specs.Content.{contentRule, verdict, nameRule, faultRule}
+use Rattle.draft.specs.Table.{from}
+use Rattle.draft.specs.Read.{textOf, heldRows}
+use Rattle.draft.specs.Writable.{fit, ruled, then, Walk, pair as walk-pair, items, alike, closed, leaf, over, holding as walk-holding, integerItem, booleanItem, sized, Nest, floor, under, contentItem, counted as walk-counted, arrayItem, only, string as walk-string, name, otherItem, structItem, item as walk-item, value, nested, faultStruct, first, callOrResponse}
 use Rattle.draft.specs.Written.{lsb, counted, stringBytes}
-use Rattle.draft.specs.Grammar.{holding, number, Cell, cell, content-cell, Sent, regular, recorded, recalled, Keeps, Call, Response, value-response, fault-response, fault, Value, integer-value, boolean-value, double-value, datetime-value, array-value, struct-value, integer, boolean-true, boolean-false, double, datetime, binary, Array, array, Values, no-values, more-values, Struct, struct, Pairs, no-pairs, more-pairs, Pair, String, regular-string, recorded-string, recalled-string, string-data}
+use Rattle.draft.specs.Grammar.{holding, number, Cell, cell, content-cell, heldCells, Sent, regular, recorded, recalled, Keeps, Call, Response, value-response, fault-response, fault, Value, integer-value, boolean-value, double-value, datetime-value, array-value, struct-value, integer, boolean-true, boolean-false, double, datetime, binary, Array, array, Values, no-values, more-values, Struct, struct, Pairs, no-pairs, more-pairs, Pair, String, regular-string, recorded-string, recalled-string, string-data}
 use Rattle.draft.specs.Meaning.{hasNumber, hasContent, says-holding, says-number, says-contents, Means, means}
 use Rattle.exact.proofs.Standing.{long}
 use Rattle.exact.proofs.Realising.{content-has}
-use Rattle.exact.proofs.Deriving.{Production, Joins, OneString, one-string, OneName, one-name, OneBinary, one-binary, OtherBody, CallBody, CallOrResponse, of-call, of-response, there-by, other-join, call-join, pair-join, other-make, call-make, binary-make, string-make}
+use Rattle.exact.proofs.Deriving.{Production, Joins, OneString, one-string, OneName, one-name, OneBinary, one-binary, OtherBody, CallBody, FaultStruct, CallOrResponse, of-call, of-response, there-by, other-join, call-join, pair-join, other-make, call-make, binary-make, string-make}
 use Rattle.written.proofs.Sending.{textIn, texts, none-sent, first-sent, split}
 use Rattle.written.proofs.Forming.{strings, form, HasKind, item-kind, strings-append, form-append}
 use Rattle.written.proofs.Limiting.{lsb-is}
-use Rattle.written.proofs.Standing.{Stands, stands-none, stands-more, stands-one, stands-append}
+use Rattle.written.proofs.Standing.{Stands, stands-none, stands-more, stands-one, stands-append, held-under}
 
 -- what an accepted walk says of the tests on its way
 module _ {to : ℕ} where
@@ -165,9 +166,9 @@ writes-response : {d : ℕ} {cs : List Cell} → Writes (Value d) cs → Writes 
 unfolding form strings itemOf
 writes-response p = record { derives = λ gs e. of-response (value-response (p .derives gs e) refl) }
 
-writes-fault : {d : ℕ} {cs : List Cell} → Writes (Struct d) cs → Writes (CallOrResponse d) (cell 3 (length cs) (holding 1) ∷ cs)
+writes-fault : {d : ℕ} {cs : List Cell} → Writes (FaultStruct d) cs → Writes (CallOrResponse d) (cell 3 (length cs) (holding 1) ∷ cs)
 unfolding form strings itemOf
-writes-fault p = record { derives = λ gs e. of-response (fault-response (fault (p .derives gs e)) refl) }
+writes-fault p = record { derives = λ gs e. let x = p .derives gs e in of-response (fault-response (fault (x .0) (x .1)) refl) }
 
 -- a Value by its kind
 pub value-is :
@@ -426,6 +427,26 @@ module _ (row : ℕ → Row) (rows : ℕ) (s : List ℕ) where
   struct-sound zero = struct-floor
   struct-sound (suc d) = struct-under d (value-sound d)
 
+  fault-sound : (d : ℕ) → Sound (faultStruct row rows s d) (FaultStruct d)
+  unfolding faultStruct
+  fault-sound d =
+      record {
+        walked = λ r to e.
+            let f = then-by (only row rows s 10 (structItem row rows s (nested row rows s d)) r) _ e in
+            let g = fit-by (leb (f .middle) rows) _ (f .next) in
+            let h = ruled-by (faultRule (heldRows s (from row (r + 1) (f .middle - (r + 1))))) _ (g .1) in
+            let i : f .middle ≡ to = until-same (h .1) in
+            let w = only-sound 10 (struct-sound d) .walked r to (f .is ∙ h .1) in
+            let z : f .middle ≡ r + length (w .cells) = i ∙ w .ends in
+            let k : faultRule (heldCells (below (w .cells))) ≡ Fine = rw (z, held-under (w .stands)) at (h .0) in
+            record {
+              cells = w .cells;
+              ends = w .ends;
+              stands = w .stands;
+              writes = λ q. record { derives = λ gs j. (w .writes q .derives gs j, k) };
+            };
+      }
+
   first-sound :
       (d r to : ℕ) (i : Item) → HasKind i (row r .kind) → first row rows s i d (row r) r ≡ Until to → Walked (CallOrResponse d) r to
   unfolding hasNumber hasContent
@@ -434,7 +455,7 @@ module _ (row : ℕ → Row) (rows : ℕ) (s : List ℕ) where
   first-sound d r to item.Response j e =
       held-walked {P = Value d} {Q = CallOrResponse d} 2 1 refl refl j (value-sound d) (λ cs w. writes-response w) e
   first-sound d r to item.Fault j e =
-      held-walked {P = Struct d} {Q = CallOrResponse d} 3 1 refl refl j (only-sound 10 (struct-sound d)) (λ cs w. writes-fault w) e
+      held-walked {P = FaultStruct d} {Q = CallOrResponse d} 3 1 refl refl j (fault-sound d) (λ cs w. writes-fault w) e
   first-sound d r to item.Integer j e = unfit-until e
   first-sound d r to item.Boolean j e = unfit-until e
   first-sound d r to (item.Content c) j e = unfit-until e

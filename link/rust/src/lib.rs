@@ -42,6 +42,8 @@ pub mod number {
     pub const FORM_TOO_LONG: u8 = 12;
     /// The output is shorter than the written form.
     pub const OUTPUT_TOO_SHORT: u8 = 13;
+    /// A fault whose Struct holds anything but faultCode, an Integer, and faultString, a String.
+    pub const BAD_FAULT: u8 = 14;
 }
 
 /// What reading a message answers.

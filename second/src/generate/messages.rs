@@ -174,17 +174,19 @@ enum Flaw {
     StandardName,
     UnsetRecall,
     WrongTag,
+    Members,
     Prefix,
     Cut,
 }
 
 impl Flaw {
-    const ALL: [Flaw; 7] = [
+    const ALL: [Flaw; 8] = [
         Flaw::BadText,
         Flaw::NotAscii,
         Flaw::StandardName,
         Flaw::UnsetRecall,
         Flaw::WrongTag,
+        Flaw::Members,
         Flaw::Prefix,
         Flaw::Cut,
     ];
@@ -255,6 +257,10 @@ impl<'r> Builder<'r> {
 
     /// A Call or Response of any sort.
     fn tree(&mut self) {
+        if self.flaw == Some(Flaw::Members) {
+            self.bytes.extend(b"RF");
+            return self.wrong_members();
+        }
         match self.random.below(6) {
             0 | 1 => {
                 self.bytes.push(b'C');
@@ -263,7 +269,7 @@ impl<'r> Builder<'r> {
             }
             2 => {
                 self.bytes.extend(b"RF");
-                self.structure(0);
+                self.fault_members();
             }
             3 => {
                 self.bytes.push(b'R');
@@ -384,6 +390,64 @@ impl<'r> Builder<'r> {
         }
     }
 
+    /// A fault's Struct, in either order. The message is a key now and then, so
+    /// that the other key can be recalled from it.
+    fn fault_members(&mut self) {
+        self.bytes.push(b'S');
+        self.field(2);
+        let code_first = self.random.one_in(2);
+        for turn in [true, false] {
+            if turn == code_first {
+                self.key(FAULT_MEMBERS[0].0);
+                self.integer();
+            } else {
+                self.key(FAULT_MEMBERS[1].0);
+                match self.random.below(3) {
+                    0 => self.key(FAULT_MEMBERS[0].0),
+                    _ => self.string(),
+                }
+            }
+        }
+    }
+
+    /// A fault's Struct with one, three or other members, other keys or kinds,
+    /// or the same key twice; now and then it comes out right.
+    fn wrong_members(&mut self) {
+        if self.random.one_in(8) {
+            let levels = self.random.between(1, NESTING_LIMIT + 1);
+            return self.nest(Some(b'S'), levels);
+        }
+        if self.random.one_in(8) {
+            return self.structure(0);
+        }
+        let pairs = *self.random.pick(&[0, 1, 2, 2, 2, 2, 2, 3, 3, 4]);
+        self.bytes.push(b'S');
+        self.field(pairs);
+        let code_first = self.random.one_in(2);
+        for pair in 0..pairs {
+            let (mut name, mut kind) = FAULT_MEMBERS[(pair + code_first as usize) % 2];
+            match self.random.below(6) {
+                0 => name = *self.random.pick(&NEAR_KEYS),
+                1 => {
+                    kind = *self
+                        .random
+                        .pick(&[kind::INTEGER, kind::STRING, kind::BOOLEAN])
+                }
+                _ => {}
+            }
+            self.key(name);
+            match kind {
+                kind::INTEGER => self.integer(),
+                kind::STRING => self.string(),
+                _ => self.value(1),
+            }
+        }
+    }
+
+    fn key(&mut self, name: &[u8]) {
+        self.send(name.to_vec());
+    }
+
     fn string(&mut self) {
         if self.goes_wrong(Flaw::UnsetRecall) {
             let unset: Vec<u8> = (0..=u8::MAX)
@@ -474,19 +538,29 @@ const NEAR_NAMES: [&[u8]; 10] = [
     b"nil",
 ];
 
+/// Keys that are a fault's, or almost.
+const NEAR_KEYS: [&[u8]; 10] = [
+    b"faultCode",
+    b"faultString",
+    b"",
+    b"fault",
+    b"faultcode",
+    b"faultCod",
+    b"faultCode ",
+    b"faultStrin",
+    b"faultStrings",
+    b"faultCode\0\0",
+];
+
 /// Nested between these depths.
 fn deep(random: &mut Random, least: usize, most: usize) -> Vec<u8> {
     let levels = random.between(least, most);
     let mut builder = Builder::new(random);
-    match builder.random.below(4) {
+    match builder.random.below(3) {
         0 => {
             builder.bytes.push(b'C');
             builder.string();
             builder.nest(Some(b'A'), levels);
-        }
-        1 => {
-            builder.bytes.extend(b"RF");
-            builder.nest(Some(b'S'), levels);
         }
         _ => {
             builder.bytes.push(b'R');

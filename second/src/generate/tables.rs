@@ -13,10 +13,15 @@ pub struct Table {
     pub text: Vec<u8>,
 }
 
-/// Any table: writable, nested too deep, or damaged.
+/// Any table: writable, nested too deep, a fault with other members, or
+/// damaged.
 pub fn table(random: &mut Random) -> Table {
     if random.one_in(20) {
         return deep(random, NESTING_LIMIT + 1, NESTING_LIMIT + 2);
+    }
+    if random.one_in(12) {
+        let pairs = *random.pick(&[0, 1, 2, 2, 2, 2, 2, 3, 3, 4]);
+        return fault(random, pairs, false);
     }
     let mut table = writable(random);
     if random.one_in(2) {
@@ -98,6 +103,9 @@ impl Rows {
 /// Up to so many strings from a few texts, which overlap or stand at several
 /// offsets, in all places where strings can be.
 pub fn few_strings(random: &mut Random, most: usize) -> Table {
+    if most >= 3 && random.one_in(4) {
+        return fault(random, 2, true);
+    }
     let text = "aaaa\u{e9}aab2.75ab\u{e9}\u{1f600}aa".as_bytes().to_vec();
     let whole = String::from_utf8_lossy(&text).into_owned();
     let mut edges: Vec<usize> = whole.char_indices().map(|(at, _)| at).collect();
@@ -118,14 +126,9 @@ pub fn few_strings(random: &mut Random, most: usize) -> Table {
             string(random, &mut rows);
             root
         }
-        1 => rows.open(kind::FAULT, 1),
         _ => rows.open(kind::RESPONSE, 1),
     };
-    let keyed = match rows.0[0][0] {
-        kind::CALL => false,
-        kind::FAULT => true,
-        _ => random.one_in(2),
-    };
+    let keyed = rows.0[0][0] != kind::CALL && random.one_in(2);
     let count = if keyed { values.min(left) } else { values };
     let outer = rows.open(if keyed { kind::STRUCT } else { kind::ARRAY }, count);
     left -= if keyed { count } else { 0 };
@@ -159,6 +162,53 @@ pub fn few_strings(random: &mut Random, most: usize) -> Table {
             _ => {
                 left -= 1;
                 string(random, &mut rows);
+            }
+        }
+    }
+    rows.close(outer);
+    rows.close(root);
+    rows.finish(text)
+}
+
+/// A fault with so many members: the right ones in either order, or with keys
+/// and kinds like them. Its texts stand at several offsets.
+fn fault(random: &mut Random, pairs: usize, right: bool) -> Table {
+    let text = b"faultCodefaultStringfaultCode faultStrings".to_vec();
+    let (code, message) = ([(0, 9), (20, 9)], [(9, 11), (30, 11)]);
+    let near = [(0, 8), (0, 10), (20, 10), (9, 10), (30, 12), (0, 0), (1, 9)];
+    let mut rows = Rows(Vec::new());
+    let root = rows.open(kind::FAULT, 1);
+    let outer = rows.open(kind::STRUCT, pairs);
+    let code_first = random.one_in(2);
+    for pair in 0..pairs {
+        let is_code = pair.is_multiple_of(2) == code_first;
+        let keys = if is_code { &code } else { &message };
+        let (mut offset, mut length) = *random.pick(keys);
+        let mut is_integer = is_code;
+        if !right {
+            match random.below(6) {
+                0 => (offset, length) = *random.pick(&near),
+                1 => is_integer = !is_integer,
+                _ => {}
+            }
+        }
+        rows.leaf(kind::STRING, offset, length);
+        let other_kind = !right && random.one_in(8);
+        match (other_kind, is_integer) {
+            (true, _) => match random.below(3) {
+                0 => rows.leaf(kind::BOOLEAN, random.below(2), 0),
+                1 => rows.leaf(kind::BINARY, 0, 9),
+                _ => {
+                    let array = rows.open(kind::ARRAY, 2);
+                    rows.leaf(kind::STRING, 9, 11);
+                    rows.leaf(kind::STRING, 0, 9);
+                    rows.close(array);
+                }
+            },
+            (_, true) => rows.leaf(kind::INTEGER, random.word() as u32 as usize, 0),
+            _ => {
+                let (offset, length) = *random.pick(&[(0, 9), (9, 11), (29, 1), (0, 0)]);
+                rows.leaf(kind::STRING, offset, length);
             }
         }
     }
@@ -204,7 +254,7 @@ fn many_repeated(random: &mut Random) -> Table {
 fn deep(random: &mut Random, least: usize, most: usize) -> Table {
     let levels = random.between(least, most);
     let mut rows = Rows(Vec::new());
-    let root = *random.pick(&[kind::CALL, kind::RESPONSE, kind::FAULT]);
+    let root = *random.pick(&[kind::CALL, kind::RESPONSE]);
     let mut open = vec![rows.open(root, if root == kind::CALL { 2 } else { 1 })];
     if root == kind::CALL {
         rows.leaf(kind::STRING, 0, 1);
@@ -212,7 +262,6 @@ fn deep(random: &mut Random, least: usize, most: usize) -> Table {
     for level in 0..levels {
         let kind = match root {
             kind::CALL if level == 0 => kind::ARRAY,
-            kind::FAULT if level == 0 => kind::STRUCT,
             _ => *random.pick(&[kind::ARRAY, kind::STRUCT]),
         };
         open.push(rows.open(kind, 1));
