@@ -40,11 +40,11 @@ past : (size b : ℕ) (s : List ℕ) → drop (size + 6) (b ∷ s) ≡ drop (siz
 past size b s = let e : size + 6 ≡ suc (size + 5) = omega arith in rw e
 
 -- one record, and what is behind it
-pub find-step : (n cards at : ℕ) (s : List ℕ) → find n cards at 0 s ≡ onward (lookAt n cards at s) (λ cards′ size. find n cards′ (at + size + 6) 0 (drop (size + 6) s))
+pub find-step : (n cards at : ℕ) (s : List ℕ) → find n cards at 0 s ≡ onward (lookAt n cards at s) (λ cards′ size. find n cards′ (at + (size + 6)) 0 (drop (size + 6) s))
 unfolding find lookAt
 find-step n cards at [] = refl
 find-step n cards at (b ∷ s) =
-    onward-alike (lookAt n cards at (b ∷ s)) (λ cards′ size. find-skips n cards′ (at + size + 6) (size + 5) s ∙ ap (find n cards′ (at + size + 6) 0) (sym (past size b s)))
+    onward-alike (lookAt n cards at (b ∷ s)) (λ cards′ size. find-skips n cards′ (at + (size + 6)) (size + 5) s ∙ ap (find n cards′ (at + (size + 6)) 0) (sym (past size b s)))
 
 -- what looking at a record can give, and what the record is then
 pub data Looked (n cards at : ℕ) (s : List ℕ) : Look → Type 0 where
@@ -127,8 +127,7 @@ module _ (s : List ℕ) (n before from : ℕ) {cards at : ℕ} (i : Seeking s n 
 
       pub seek-again : Seeking s n before from cards′ (at + (size + 6))
       seek-again =
-          let a : at + size + 6 ≡ at + (size + 6) = omega arith in
-          record { same = i .same ∙ find-step n cards at (drop at s) ∙ rw (← looks, f, drop-drop (size + 6) at s, a); counts = by .counts (i .counts) }
+          record { same = i .same ∙ find-step n cards at (drop at s) ∙ rw (← looks, f, drop-drop (size + 6) at s); counts = by .counts (i .counts) }
 
       module _ (h : at < length s) where
         pub seek-size : length s < 18446744073709551616 → Fits w64 (size + 6)

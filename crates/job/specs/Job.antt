@@ -75,7 +75,7 @@ onward (Onward cards size) more = more cards size
 unfoldable pub find : ℕ → ℕ → ℕ → ℕ → List ℕ → Found
 find n cards at skip [] = Missing FileEnded at
 find n cards at (suc skip) (b ∷ s) = find n cards at skip s
-find n cards at zero (b ∷ s) = onward (lookAt n cards at (b ∷ s)) (λ cards′ size. find n cards′ (at + size + 6) (size + 5) s)
+find n cards at zero (b ∷ s) = onward (lookAt n cards at (b ∷ s)) (λ cards′ size. find n cards′ (at + (size + 6)) (size + 5) s)
 
 -- the body of card n in a file, or why there is none
 abbrev pub bodyOf : List ℕ → ℕ → Found
