@@ -1,9 +1,10 @@
 //! An independent second reader and writer of Binmode RPC messages, written
-//! from documents 01 and 002 only.
+//! from documents 01, 02 and 002 only.
 
 pub mod corpus;
 pub mod generate;
 pub mod hex;
+pub mod job;
 pub mod meaning;
 pub mod papers;
 pub mod reader;

@@ -108,14 +108,14 @@ pub fn put_text(line: &mut [u8], at: usize, text: &[u8]) -> usize {
     end
 }
 
-fn put_number(line: &mut [u8], at: usize, n: u64) -> usize {
+pub fn put_number(line: &mut [u8], at: usize, n: u64) -> usize {
     let mut digits = [0u8; 20];
     let k = io::decimal(n, &mut digits);
     put_text(line, at, &digits[..k])
 }
 
 // Writes a line's first bytes, and its end.
-fn write_line(line: &mut [u8], at: usize) {
+pub fn write_line(line: &mut [u8], at: usize) {
     let n = put_byte(line, at, b'\n');
     if n <= line.len() {
         write(&line[0..n]);
@@ -154,7 +154,7 @@ fn write_row(r: usize, row: Row) {
     write_line(line, at);
 }
 
-fn write_rows(table: &[u32], rows: usize) {
+pub fn write_rows(table: &[u32], rows: usize) {
     let room = table::room_of(table.len());
     let mut r = 0;
     while r < room {

@@ -34,8 +34,11 @@ trail-lies {at = at} {start = start} {size = size} {s = s} (asked w k i) e =
 trail-lies (passed w k i t) e = further w (trail-lies t e)
 trail-lies (other w k t) e = further w (trail-lies t e)
 
+pub lies-from : (n cards at : ℕ) (s : List ℕ) {start size : ℕ} → find n cards at 0 s ≡ Body start size → Lies at start size s
+lies-from n cards at s e = trail-lies (trail n cards at s) e
+
 pub lies : (s : List ℕ) (n : ℕ) {start size : ℕ} → bodyOf s n ≡ Body start size → start + size ≤ length s
-lies s n e = omega (arith, trail-lies (trail n 0 0 s) e .within)
+lies s n e = omega (arith, lies-from n 0 0 s e .within)
 
 -- a record's head, whatever stands behind it
 module _ (u t : List ℕ) (h : 6 ≤ length u) where

@@ -8,6 +8,10 @@
 #[cfg(not(all(target_arch = "x86_64", target_os = "linux")))]
 compile_error!("the proved library is built for x86-64 Linux");
 
+mod job;
+
+pub use job::{CardAnswer, CardFound, next_card, read_card};
+
 /// Most bytes in a message, and in the bytes a writer's texts lie in.
 pub const MOST_BYTES: usize = 65_536;
 /// Most rows in a table.
@@ -42,6 +46,12 @@ pub mod number {
     pub const FORM_TOO_LONG: u8 = 12;
     /// The output is shorter than the written form.
     pub const OUTPUT_TOO_SHORT: u8 = 13;
+    /// A job file ends before or inside a record, with no kind 2 yet.
+    pub const FILE_ENDED: u8 = 15;
+    /// A kind 2 body of wrong length or number.
+    pub const WRONG_END: u8 = 16;
+    /// A sound job ends before the card asked for.
+    pub const NO_CARD: u8 = 26;
 }
 
 /// What reading a message answers.
