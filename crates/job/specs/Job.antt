@@ -56,7 +56,7 @@ abbrev pub pickLook : Bool → Look → Look → Look
 pickLook true x y = x
 pickLook false x y = y
 
--- what a whole record of a kind says to who asks for card n: it stands at `at`, with so many cards before it, and s begins with it
+-- what a whole record of a kind says to one who asks for card n: it stands at `at`, with so many cards before it, and s begins with it
 abbrev pub recordSays : Kind → ℕ → ℕ → ℕ → List ℕ → Look
 recordSays Card n cards at s = pickLook (eqb cards n) (Settled (Body (at + 6) (bodyLength s))) (Onward (cards + 1) (bodyLength s))
 recordSays End n cards at s = Settled (Missing (pickRefusal (endsWith s cards) NoCard WrongEnd) at)

@@ -95,7 +95,7 @@ fn kind_at(s: &[u8]) -> Kind
     }
 }
 
-// What a whole kind 2 record says of who asks for a card that did not come.
+// What a whole kind 2 record says when the card asked for has not come.
 fn end_says(s: &[u8], cards: usize) -> JobRefusal
     requires { ⌜ recordLength (now s) ≤ length (now s) ⌝ }
     ensures { λ r. ⌜ r ≡ pickRefusal (endsWith (now (s .entry)) cards) JobRefusal.NoCard JobRefusal.WrongEnd ⌝ }
@@ -115,7 +115,7 @@ fn missing(refusal: JobRefusal, place: usize) -> Look
     Look::Settled(Found::Missing { refusal, place })
 }
 
-// What the record that s begins with says to who asks for card number `number`: it stands at `at`, with so many cards before it.
+// What the record that s begins with says to one who asks for a card: it stands at `at`, with so many cards before it.
 fn look_at(s: &[u8], number: usize, cards: usize, at: usize) -> Look
     requires { ⌜ (cards ≤ number) × (at + length (now s) < 18446744073709551616) ⌝ }
     ensures { λ r. ⌜ r ≡ lookAt number cards at (now (s .entry)) ⌝ }

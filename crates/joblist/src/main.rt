@@ -12,43 +12,14 @@ fn complain(text: &[u8]) {
     io::write_all(STDERR_FILENO, text);
 }
 
-// A word, with a number behind it.
-fn put_pair(line: &mut [u8], at: usize, word: &[u8], n: u64) -> usize {
-    let end = console::put_text(line, at, word);
-    console::put_number(line, end, n)
-}
-
-// `card N at P bytes B`, with `rows R used U` or `refused N at P` behind it.
-fn write_card(number: usize, start: usize, size: usize, answer: reader::Answer) {
-    let mut space = [0u8; 160];
-    let line: &mut [u8] = &mut space;
-    let mut at = put_pair(line, 0, b"card ", number as u64);
-    at = put_pair(line, at, b" at ", start as u64);
-    at = put_pair(line, at, b" bytes ", size as u64);
-    match answer {
-        reader::Answer::Accepted { rows, used } => {
-            at = put_pair(line, at, b" rows ", rows as u64);
-            at = put_pair(line, at, b" used ", used as u64);
-        }
-        reader::Answer::Refused { refusal, place } => {
-            at = put_pair(line, at, b" refused ", draft::number(refusal) as u64);
-            at = put_pair(line, at, b" at ", place as u64);
-        }
-    }
-    console::write_line(line, at);
-}
-
 fn list_card(file: &[u8], number: usize, start: usize, size: usize, table: &mut [u32]) {
     let answer = reader::read(content::part(file, start, size), table);
-    write_card(number, start, size, answer);
+    console::write_card(number, start, size, answer);
 }
 
 // `cards N`, and `refused N at P` if the job is not sound.
 fn write_end(cards: usize, refusal: JobRefusal, place: usize) {
-    let mut space = [0u8; 64];
-    let line: &mut [u8] = &mut space;
-    let at = put_pair(line, 0, b"cards ", cards as u64);
-    console::write_line(line, at);
+    console::write_count(cards);
     match refusal {
         JobRefusal::NoCard => {}
         JobRefusal::FileEnded => console::write_refusal(job::number(refusal), place),
@@ -81,13 +52,7 @@ fn list_one(file: &[u8], number: usize, table: &mut [u32]) {
     let answer = job::read_card(file, number, table);
     match answer {
         job::Answer::Accepted { rows, used, body } => {
-            let mut space = [0u8; 96];
-            let line: &mut [u8] = &mut space;
-            let mut at = put_pair(line, 0, b"rows ", rows as u64);
-            at = put_pair(line, at, b" used ", used as u64);
-            at = put_pair(line, at, b" body ", body as u64);
-            console::write_line(line, at);
-            console::write_rows(table, rows);
+            console::write_rows_of_card(table, rows, used, body);
         }
         job::Answer::Refused { refusal, place } => {
             console::write_refusal(draft::number(refusal), place);
