@@ -114,6 +114,39 @@ impl Jobs {
         Ok(())
     }
 
+    /// A small job, cut at every byte, and with each byte of its records' heads
+    /// and of its count set to every value.
+    pub fn edges(&mut self, run: &mut Run) -> Compared {
+        let card = b"binmode-rpc:RI\x04\0\0\0";
+        let records = [
+            record(1, card),
+            record(9, b"note"),
+            record(1, b"binmode-rpc:R<\x02"),
+            record(2, &2_u32.to_le_bytes()),
+            record(1, card),
+        ];
+        let mut file = records.concat();
+        self.every_card(run, &file)?;
+        self.every_cut(run, &file)?;
+        let mut start = 0;
+        for (index, record) in records.iter().enumerate() {
+            let fields = if index == 3 { 10 } else { 6 };
+            for place in start..start + fields {
+                let byte = file[place];
+                for value in 0..=u8::MAX {
+                    file[place] = value;
+                    self.walk(&file)?;
+                    for number in 0..4 {
+                        self.call(run, &file, number, 16)?;
+                    }
+                }
+                file[place] = byte;
+            }
+            start += record.len();
+        }
+        Ok(())
+    }
+
     /// A generated job, and it damaged; now and then cut at every byte.
     pub fn round(&mut self, run: &mut Run) -> Compared {
         let records = records(&mut run.random);

@@ -55,6 +55,7 @@ fn compare(run: &mut Run) -> Compared {
     let mut jobs = Jobs::new();
     reading.papers(run)?;
     reading.edges(run)?;
+    jobs.edges(run)?;
     while !run.tally.is_over() {
         reading.round(run)?;
         if run.random.one_in(4) {
@@ -72,6 +73,7 @@ fn compare(run: &mut Run) -> Compared {
     shortest::tried(&mut run.random)?;
     reading.papers(run)?;
     reading.edges(run)?;
+    jobs.edges(run)?;
     while !run.tally.is_over() {
         reading.round(run)?;
         writing.round(run)?;

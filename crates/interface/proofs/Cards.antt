@@ -1,5 +1,5 @@
 -- What answers each return of the exported functions on job files. Assumes nothing.
-use mathlib.Core.Path.{_≡_, refl, _∙_, sym}
+use mathlib.Core.Path.{_≡_}
 use mathlib.Core.List.{List}
 use Prim.Native.Nat.{ℕ}
 use Rattle.draft.specs.declared.Refusal.{Refusal}

@@ -1,6 +1,5 @@
 -- What answers each return of the functions that look at one record. Assumes nothing.
-use mathlib.Core.Path.{_≡_, refl, sym, _∙_}
-use mathlib.Core.Bool.{Bool, true, false}
+use mathlib.Core.Path.{_≡_, _∙_}
 use mathlib.Core.List.{List}
 use Prim.Native.Nat.{ℕ, _+_, _*_, _-_, _≤_, _<_}
 use native.Mathlib.Omega.{arith}
@@ -14,7 +13,7 @@ use Rattle.job.specs.declared.JobRefusal.the-variants.{FileEnded, WrongE
 use Rattle.job.specs.declared.Found.the-variants.{Body, Missing}
 use Rattle.job.specs.declared.Look.{Look}
 use Rattle.job.specs.declared.Look.the-variants.{Settled, Onward}
-use Rattle.job.specs.Job.{kindAt, bodyLength, recordLength, endsWith, pickRefusal, lookAt}
+use Rattle.job.specs.Job.{kindAt, recordLength, endsWith, pickRefusal, lookAt}
 
 -- the kind, from its two bytes
 module _ (s : List ℕ) {a b : ℕ} (p : a ≡ getD s 4 0) (q : b ≡ getD s 5 0) where

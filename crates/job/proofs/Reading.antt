@@ -1,8 +1,8 @@
 -- What answers each return of the functions that read a card. Assumes nothing.
-use mathlib.Core.Path.{_≡_, refl, sym, ap, _∙_}
+use mathlib.Core.Path.{_≡_, ap, _∙_}
 use mathlib.Core.List.{List}
 use Prim.Native.Nat.{ℕ}
-use lib.ListN.{length, replicate}
+use lib.ListN.{replicate}
 use Rattle.draft.specs.declared.Refusal.{Refusal}
 use Rattle.draft.specs.Bytes.{part}
 use Rattle.reader.specs.declared.Answer.{Answer as ReaderAnswer}

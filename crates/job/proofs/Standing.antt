@@ -1,18 +1,16 @@
 -- A card's body lies in the file, and it is found whatever stands behind it; the next card is found from its end. Assumes nothing.
 use mathlib.Core.Path.{_≡_, refl, sym, ap, _∙_}
 use mathlib.Core.List.{List, _++_}
-use Prim.Native.Nat.{ℕ, _+_, _-_, _*_, _≤_, _<_}
+use Prim.Native.Nat.{ℕ, _+_, _-_, _≤_, _<_}
 use native.Mathlib.Omega.{arith}
 use native.Mathlib.Nat.{sub-zero}
 use lib.ListN.{length, getD, take, drop, length-append, length-drop, List·getD-append}
 use lib.Seq.{drop-append-le, take-append-le, drop-drop}
-use Rattle.draft.specs.Bytes.{byteAt, unsignedAt, part}
-use Rattle.job.specs.declared.Kind.{Kind}
+use Rattle.draft.specs.Bytes.{byteAt, part}
 use Rattle.job.specs.declared.Kind.the-variants.{Card, Other}
-use Rattle.job.specs.declared.JobRefusal.{JobRefusal}
 use Rattle.job.specs.declared.Found.{Found}
-use Rattle.job.specs.declared.Found.the-variants.{Body, Missing}
-use Rattle.job.specs.Job.{kindOf, kindAt, bodyLength, recordLength, find, bodyOf}
+use Rattle.job.specs.declared.Found.the-variants.{Body}
+use Rattle.job.specs.Job.{kindAt, bodyLength, recordLength, find, bodyOf}
 use Rattle.job.proofs.Trails.{Trail, cut, asked, ended, wrong, passed, other, trail, step-asked, step-passed, step-other}
 
 -- a body lies behind its record's first six bytes, and in the file

@@ -41,6 +41,7 @@ kindAt s = kindOf (byteAt s 4 + 256 * byteAt s 5)
 abbrev pub recordLength : List ℕ → ℕ
 recordLength s = bodyLength s + 6
 
+-- whether all of it is there; fewer than six bytes are no record
 abbrev pub whole : List ℕ → Bool
 whole s = leb (recordLength s) (length s)
 

@@ -4,7 +4,7 @@ ghost use mathlib.Core.Path.{_≡_};
 ghost use Prim.Native.Nat.{_+_, _*_, _≤_, _<_};
 ghost use lib.ListN.{length, drop};
 ghost use Rattle.draft.specs.Bytes.{unsignedAt};
-ghost use Rattle.job.specs.Job.{refusalNumber, kindAt, bodyLength, recordLength, endsWith, pickRefusal, lookAt, find as findFrom, bodyOf};
+ghost use Rattle.job.specs.Job.{refusalNumber, kindAt, recordLength, endsWith, pickRefusal, lookAt, find as findFrom, bodyOf};
 ghost use Rattle.job.specs.Cards.{located, Reads};
 
 // The kinds of records.
