@@ -1,5 +1,5 @@
 /*
- * Reading and writing Binmode RPC messages: the functions that libinterface.a exports (x86-64, C's calling convention).
+ * Reading and writing Binmode RPC messages, and reading the cards of job files: the functions that libinterface.a exports (x86-64, C's calling convention).
  *
  * No memory is allocated, nothing is kept from call to call, and of the C library only memset and its like are used,
  * so calls may run at the same time as long as each has its own buffers.
@@ -25,7 +25,7 @@
 extern "C" {
 #endif
 
-/* The answers: 0, or the number of a refusal. 4 is not used. */
+/* The answers: 0, or the number of a refusal. 4 and those not named are not used. */
 #define BINMODE_ACCEPTED 0
 #define BINMODE_ENDED 1             /* read: the bytes end inside or before a needed item */
 #define BINMODE_WRONG_PREFIX 2      /* read: the first bytes differ from "binmode-rpc:" */
@@ -40,6 +40,9 @@ extern "C" {
 #define BINMODE_FORM_TOO_LONG 12    /* write: the written form is over 65,536 bytes */
 #define BINMODE_OUTPUT_TOO_SHORT 13 /* write: the output is shorter than the written form */
 #define BINMODE_BAD_FAULT 14        /* read: a fault's Struct without exactly faultCode (Integer) and faultString (String) */
+#define BINMODE_FILE_ENDED 15       /* job file: it ends before or inside a record, with no kind 2 yet */
+#define BINMODE_WRONG_END 16        /* job file: a kind 2 body of wrong length or number */
+#define BINMODE_NO_CARD 26          /* job file: a sound job ends before the card asked for */
 
 /* The limits. */
 #define BINMODE_MOST_BYTES 65536 /* of a message, and of a writer's text bytes */
@@ -103,6 +106,46 @@ uint8_t binmode_read(const uint8_t *message, size_t message_len, uint32_t *table
  */
 uint8_t binmode_write(const uint32_t *table, size_t table_words, size_t rows, const uint8_t *text, size_t text_len,
                       uint8_t *output, size_t output_len, uint64_t *length);
+
+/*
+ * Job files. A job file is a row of records: a four-byte body length and a two-byte kind, both least significant byte first,
+ * then the body. Kind 1 is one card, a message; kind 2 ends the job, and its body is four bytes, the number of kind 1
+ * records before it; other kinds are stepped over, and bytes after kind 2 are ignored. A file may have any length.
+ *
+ * Reads a card into a table, as binmode_read would read its body alone.
+ *
+ *   file, file_len        the bytes of the job file
+ *   number                the card's number, counted from 0
+ *   table, table_words    the table, as for binmode_read; offsets in its rows count from the card's first byte
+ *   rows                  is set to the number of rows; 0 on a refusal
+ *   used                  is set to the number of the body's bytes used; 0 on a refusal
+ *   place                 is set to 0 on acceptance; on a refusal that is the card's own (1 to 10) to its place, counted from
+ *                         the card's first byte; on BINMODE_FILE_ENDED, BINMODE_WRONG_END and BINMODE_NO_CARD to the first
+ *                         byte in the file of the record that gives it (file_len, if none begins there)
+ *   body                  is set to the first byte of the card's body in the file; 0 on a refusal
+ *
+ * Gives BINMODE_ACCEPTED, and the table has the rows and then zeros; or a refusal's number, and the whole table is zeros. A
+ * card whose record stands whole before a fault still reads. The records before the card are stepped over in each call: to
+ * read all cards of a job, use binmode_next_card.
+ */
+uint8_t binmode_read_card(const uint8_t *file, size_t file_len, size_t number, uint32_t *table, size_t table_words,
+                          uint64_t *rows, uint64_t *used, uint64_t *place, uint64_t *body);
+
+/*
+ * Finds the next card of a job file, for one who goes from card to card. Begin with number 0 and from 0; after a card, go on
+ * with the next number and with from = *start + *length. What is found so is what binmode_read_card reads.
+ *
+ *   file, file_len        the bytes of the job file
+ *   number                how many cards stand before `from`, which is the number of the card that is looked for
+ *   from                  where the next record begins
+ *   start, length         are set to where the card's body lies in the file; 0 if there is none
+ *   place                 is set to 0, or to the place of the refusal
+ *
+ * Gives BINMODE_ACCEPTED, or BINMODE_FILE_ENDED, BINMODE_WRONG_END or BINMODE_NO_CARD, placed as by binmode_read_card. A
+ * sound job ends with BINMODE_NO_CARD.
+ */
+uint8_t binmode_next_card(const uint8_t *file, size_t file_len, size_t number, size_t from, uint64_t *start,
+                          uint64_t *length, uint64_t *place);
 
 #ifdef __cplusplus
 }

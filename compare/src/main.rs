@@ -1,10 +1,11 @@
 //! Compares the proved library with the second implementation on generated
-//! messages and tables: `compare SEED CALLS`. Ends with 1 where they differ.
+//! messages, tables and job files: `compare SEED CALLS`. Ends with 1 where they differ.
 
 mod change;
 #[cfg(feature = "writer")]
 mod edges;
 mod gather;
+mod job;
 mod lent;
 mod reading;
 #[cfg(feature = "writer")]
@@ -13,6 +14,7 @@ mod tally;
 #[cfg(feature = "writer")]
 mod writing;
 
+use job::Jobs;
 use reading::{Compared, Reading};
 use second::generate::Random;
 use std::process::ExitCode;
@@ -50,10 +52,15 @@ fn main() -> ExitCode {
 #[cfg(not(feature = "writer"))]
 fn compare(run: &mut Run) -> Compared {
     let mut reading = Reading::new();
+    let mut jobs = Jobs::new();
     reading.papers(run)?;
     reading.edges(run)?;
+    jobs.edges(run)?;
     while !run.tally.is_over() {
         reading.round(run)?;
+        if run.random.one_in(4) {
+            jobs.round(run)?;
+        }
     }
     Ok(())
 }
@@ -62,12 +69,17 @@ fn compare(run: &mut Run) -> Compared {
 fn compare(run: &mut Run) -> Compared {
     let mut reading = Reading::new();
     let mut writing = writing::Writing::new();
+    let mut jobs = Jobs::new();
     shortest::tried(&mut run.random)?;
     reading.papers(run)?;
     reading.edges(run)?;
+    jobs.edges(run)?;
     while !run.tally.is_over() {
         reading.round(run)?;
         writing.round(run)?;
+        if run.random.one_in(4) {
+            jobs.round(run)?;
+        }
     }
     Ok(())
 }

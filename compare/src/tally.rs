@@ -2,8 +2,8 @@
 
 use second::generate::Random;
 
-/// The answers are numbered 0 to 14.
-const NUMBERS: usize = 15;
+/// The answers are numbered 0 to 26.
+const NUMBERS: usize = 27;
 
 const MEANINGS: [&str; NUMBERS] = [
     "accepted",
@@ -21,6 +21,18 @@ const MEANINGS: [&str; NUMBERS] = [
     "written form too long",
     "output too short",
     "other fault members",
+    "job file ends",
+    "wrong end of the job",
+    "",
+    "",
+    "",
+    "",
+    "",
+    "",
+    "",
+    "",
+    "",
+    "no such card",
 ];
 
 /// What every comparison goes on with.
@@ -33,6 +45,7 @@ pub struct Tally {
     left: usize,
     pub reading: [usize; NUMBERS],
     pub writing: [usize; NUMBERS],
+    pub cards: [usize; NUMBERS],
 }
 
 impl Tally {
@@ -41,6 +54,7 @@ impl Tally {
             left: calls,
             reading: [0; NUMBERS],
             writing: [0; NUMBERS],
+            cards: [0; NUMBERS],
         }
     }
 
@@ -61,19 +75,25 @@ impl Tally {
         self.writing[usize::from(number)] += 1;
     }
 
+    /// Notes a call of the reader of job files.
+    pub fn read_card(&mut self, number: u8) {
+        self.left -= 1;
+        self.cards[usize::from(number)] += 1;
+    }
+
     pub fn print(&self) {
+        let columns = [&self.reading, &self.writing, &self.cards];
         println!(
-            "{:>3} {:22} {:>10} {:>10}",
-            "no.", "answer", "reading", "writing"
+            "{:>3} {:22} {:>10} {:>10} {:>10}",
+            "no.", "answer", "reading", "writing", "cards"
         );
         for (number, meaning) in MEANINGS.iter().enumerate() {
-            let (reading, writing) = (self.reading[number], self.writing[number]);
+            let [reading, writing, cards] = columns.map(|column| column[number]);
             if !meaning.is_empty() {
-                println!("{number:>3} {meaning:22} {reading:>10} {writing:>10}");
+                println!("{number:>3} {meaning:22} {reading:>10} {writing:>10} {cards:>10}");
             }
         }
-        let (reading, writing) = (self.reading.iter(), self.writing.iter());
-        let (reading, writing) = (reading.sum::<usize>(), writing.sum::<usize>());
-        println!("    {:22} {reading:>10} {writing:>10}", "calls");
+        let [reading, writing, cards] = columns.map(|column| column.iter().sum::<usize>());
+        println!("    {:22} {reading:>10} {writing:>10} {cards:>10}", "calls");
     }
 }

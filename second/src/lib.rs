@@ -4,6 +4,7 @@
 pub mod corpus;
 pub mod generate;
 pub mod hex;
+pub mod job;
 pub mod meaning;
 pub mod papers;
 pub mod reader;

@@ -1,4 +1,4 @@
-// Standard input and output for the programs: a message read to its end, and a listing.
+// Standard input and output for the programs: an input read to its end, the listing of a message, and the lines of a job file's.
 use draft::Row;
 use libc::STDOUT_FILENO;
 use reader::Answer;
@@ -122,14 +122,18 @@ fn write_line(line: &mut [u8], at: usize) {
     }
 }
 
+// A word, with a number behind it.
+fn put_pair(line: &mut [u8], at: usize, word: &[u8], n: u64) -> usize {
+    let end = put_text(line, at, word);
+    put_number(line, end, n)
+}
+
 // Two words, each with a number behind it.
 fn write_pair(first: &[u8], x: u64, second: &[u8], y: u64) {
     let mut space = [0u8; 64];
     let line: &mut [u8] = &mut space;
-    let mut at = put_text(line, 0, first);
-    at = put_number(line, at, x);
-    at = put_text(line, at, second);
-    at = put_number(line, at, y);
+    let mut at = put_pair(line, 0, first, x);
+    at = put_pair(line, at, second, y);
     write_line(line, at);
 }
 
@@ -181,4 +185,43 @@ pub fn list(message: &[u8], table: &mut [u32]) -> Answer
         }
     }
     answer
+}
+
+// A card of a job file: `card N at P bytes B`, with `rows R used U` or `refused N at P` behind it.
+pub fn write_card(number: usize, start: usize, size: usize, answer: Answer) {
+    let mut space = [0u8; 160];
+    let line: &mut [u8] = &mut space;
+    let mut at = put_pair(line, 0, b"card ", number as u64);
+    at = put_pair(line, at, b" at ", start as u64);
+    at = put_pair(line, at, b" bytes ", size as u64);
+    match answer {
+        Answer::Accepted { rows, used } => {
+            at = put_pair(line, at, b" rows ", rows as u64);
+            at = put_pair(line, at, b" used ", used as u64);
+        }
+        Answer::Refused { refusal, place } => {
+            at = put_pair(line, at, b" refused ", draft::number(refusal) as u64);
+            at = put_pair(line, at, b" at ", place as u64);
+        }
+    }
+    write_line(line, at);
+}
+
+// `cards N`
+pub fn write_count(cards: usize) {
+    let mut space = [0u8; 64];
+    let line: &mut [u8] = &mut space;
+    let at = put_pair(line, 0, b"cards ", cards as u64);
+    write_line(line, at);
+}
+
+// A card that was read: `rows R used U body B`, and a line for each row.
+pub fn write_rows_of_card(table: &[u32], rows: usize, used: usize, body: usize) {
+    let mut space = [0u8; 96];
+    let line: &mut [u8] = &mut space;
+    let mut at = put_pair(line, 0, b"rows ", rows as u64);
+    at = put_pair(line, at, b" used ", used as u64);
+    at = put_pair(line, at, b" body ", body as u64);
+    write_line(line, at);
+    write_rows(table, rows);
 }

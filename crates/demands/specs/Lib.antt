@@ -1,5 +1,6 @@
 pub mod Accepting
 pub mod Cases
+pub mod Jobs
 pub mod Reading
 pub mod Settled
 pub mod Writing

@@ -8,6 +8,10 @@
 #[cfg(not(all(target_arch = "x86_64", target_os = "linux")))]
 compile_error!("the proved library is built for x86-64 Linux");
 
+mod job;
+
+pub use job::{CardAnswer, CardFound, next_card, read_card};
+
 /// Most bytes in a message, and in the bytes a writer's texts lie in.
 pub const MOST_BYTES: usize = 65_536;
 /// Most rows in a table.
@@ -44,6 +48,12 @@ pub mod number {
     pub const OUTPUT_TOO_SHORT: u8 = 13;
     /// A fault whose Struct holds anything but faultCode, an Integer, and faultString, a String.
     pub const BAD_FAULT: u8 = 14;
+    /// A job file ends before or inside a record, with no kind 2 yet.
+    pub const FILE_ENDED: u8 = 15;
+    /// A kind 2 body of wrong length or number.
+    pub const WRONG_END: u8 = 16;
+    /// A sound job ends before the card asked for.
+    pub const NO_CARD: u8 = 26;
 }
 
 /// What reading a message answers.
