@@ -9,20 +9,20 @@ ghost use Rattle.text.specs.Utf8.{begins, width, wellFormed};
 ghost use Rattle.text.specs.Classes.{classOf, classTable, classes, tails, UpToTails};
 ghost use Rattle.text.specs.Texts.{ascii, same, standardName};
 
-mod table;
+mod byte_classes;
 
-use table::CLASSES;
-use table::HIGH_TAIL;
-use table::LEAD_FOUR;
-use table::LEAD_FOUR_LEAST;
-use table::LEAD_FOUR_MOST;
-use table::LEAD_THREE;
-use table::LEAD_THREE_LEAST;
-use table::LEAD_THREE_SURROGATE;
-use table::LEAD_TWO;
-use table::LOW_TAIL;
-use table::MIDDLE_TAIL;
-use table::SINGLE;
+use byte_classes::CLASSES;
+use byte_classes::HIGH_TAIL;
+use byte_classes::LEAD_FOUR;
+use byte_classes::LEAD_FOUR_LEAST;
+use byte_classes::LEAD_FOUR_MOST;
+use byte_classes::LEAD_THREE;
+use byte_classes::LEAD_THREE_LEAST;
+use byte_classes::LEAD_THREE_SURROGATE;
+use byte_classes::LEAD_TWO;
+use byte_classes::LOW_TAIL;
+use byte_classes::MIDDLE_TAIL;
+use byte_classes::SINGLE;
 
 // The class of a byte, in the table. What reads many bytes lends the table on, so that it is laid out once.
 fn class_in(table: &[u8; 256], b: u8) -> u8
