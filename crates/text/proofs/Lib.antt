@@ -4,3 +4,4 @@ pub mod Comparing
 pub mod Walking
 pub mod Grammar
 pub mod Cases
+pub mod Passing

@@ -18,10 +18,10 @@ use Rattle.text.proofs.Bytewise.{due-single, dueOf, due-by-class, withi
 use Rattle.text.proofs.Comparing.{clash, both, ended, Left}
 
 -- what a slice of bytes holds
-abbrev Bytes : List ℕ → Type 0
+abbrev pub Bytes : List ℕ → Type 0
 Bytes s = (i : ℕ) → Fits w8 (getD s i 0)
 
-byte : (s : List ℕ) → Bytes s → (i : ℕ) → getD s i 0 < 256
+pub byte : (s : List ℕ) → Bytes s → (i : ℕ) → getD s i 0 < 256
 byte s bytes i = omega (arith, bytes i)
 
 and-true : (b : Bool) → (b && true) ≡ b
@@ -140,7 +140,7 @@ unfolding width wellFormed octets step
 pass [] n = absurd (n refl)
 pass (x ∷ t) n = on-by x t (dueAfter x) n
 
-pass-single : (x : ℕ) (t : List ℕ) → x < 128 → wellFormed (x ∷ t) ≡ wellFormed t
+pub pass-single : (x : ℕ) (t : List ℕ) → x < 128 → wellFormed (x ∷ t) ≡ wellFormed t
 unfolding wellFormed octets step
 pass-single x t h = ap (λ d. octets d t) (due-single x h)
 

@@ -3,3 +3,4 @@ pub mod Rfc3629
 pub mod Utf8
 pub mod Classes
 pub mod Texts
+pub mod Runs

@@ -1,6 +1,6 @@
 // Texts: well-formed UTF-8 by RFC 3629, driven by a table of byte classes; ASCII; equal bytes; the names of the standard types.
 ghost use mathlib.Core.Path.{_≡_};
-ghost use mathlib.Core.Bool.{cond};
+ghost use mathlib.Core.Bool.{true, cond};
 ghost use mathlib.Core.List.{[], _∷_};
 ghost use Prim.Native.Nat.{_<_};
 ghost use lib.ListN.{length, drop};
@@ -9,20 +9,23 @@ ghost use Rattle.text.specs.Utf8.{begins, width, wellFormed};
 ghost use Rattle.text.specs.Classes.{classOf, classTable, classes, tails, UpToTails};
 ghost use Rattle.text.specs.Texts.{ascii, same, standardName};
 
-mod table;
+mod byte_classes;
+mod runs;
 
-use table::CLASSES;
-use table::HIGH_TAIL;
-use table::LEAD_FOUR;
-use table::LEAD_FOUR_LEAST;
-use table::LEAD_FOUR_MOST;
-use table::LEAD_THREE;
-use table::LEAD_THREE_LEAST;
-use table::LEAD_THREE_SURROGATE;
-use table::LEAD_TWO;
-use table::LOW_TAIL;
-use table::MIDDLE_TAIL;
-use table::SINGLE;
+use byte_classes::CLASSES;
+use byte_classes::HIGH_TAIL;
+use byte_classes::LEAD_FOUR;
+use byte_classes::LEAD_FOUR_LEAST;
+use byte_classes::LEAD_FOUR_MOST;
+use byte_classes::LEAD_THREE;
+use byte_classes::LEAD_THREE_LEAST;
+use byte_classes::LEAD_THREE_SURROGATE;
+use byte_classes::LEAD_TWO;
+use byte_classes::LOW_TAIL;
+use byte_classes::MIDDLE_TAIL;
+use byte_classes::SINGLE;
+use runs::past_front;
+use runs::past_more;
 
 // The class of a byte, in the table. What reads many bytes lends the table on, so that it is laid out once.
 fn class_in(table: &[u8; 256], b: u8) -> u8
@@ -128,11 +131,57 @@ fn walk(table: &[u8; 256], s: &[u8]) -> bool
     true
 }
 
+// Whether the bytes are well-formed UTF-8, byte by byte.
+pub fn is_utf8_bytewise(s: &[u8]) -> bool
+    ensures { λ r. ⌜ r ≡ wellFormed (now (s .entry)) ⌝ }
+{
+    walk(&CLASSES, s)
+}
+
+// Whether the bytes are well-formed UTF-8, where those before `from` are characters. Runs of bytes below 128 are passed at once.
+fn walk_runs(table: &[u8; 256], s: &[u8], from: usize) -> bool
+    requires { ⌜ (now table ≡ classTable) × (wellFormed (now s) ≡ wellFormed (drop from (now s))) ⌝ }
+    ensures { λ r. ⌜ r ≡ wellFormed (now (s .entry)) ⌝ }
+{
+    let mut at = from;
+    while at < s.len() {
+        if is_single(s[at]) {
+            at = past_more(s, at + 1);
+        } else {
+            let width = width_at(table, s, at);
+            if width == 0 {
+                return false;
+            }
+            at += width;
+        }
+    }
+    true
+}
+
+// The same, with the table laid out here, so that it is only for texts that have a byte from 128 on.
+fn walk_from(s: &[u8], from: usize) -> bool
+    requires { ⌜ wellFormed (now s) ≡ wellFormed (drop from (now s)) ⌝ }
+    ensures { λ r. ⌜ r ≡ wellFormed (now (s .entry)) ⌝ }
+{
+    walk_runs(&CLASSES, s, from)
+}
+
 // Whether the bytes are well-formed UTF-8.
 pub fn is_utf8(s: &[u8]) -> bool
     ensures { λ r. ⌜ r ≡ wellFormed (now (s .entry)) ⌝ }
 {
-    walk(&CLASSES, s)
+    let at = past_front(s);
+    if at < s.len() {
+        return walk_from(s, at);
+    }
+    true
+}
+
+// Whether the two checks answer the same. They do, whatever the bytes.
+pub fn checks_agree(s: &[u8]) -> bool
+    ensures { λ r. ⌜ r ≡ true ⌝ }
+{
+    is_utf8(s) == is_utf8_bytewise(s)
 }
 
 // Whether every byte is below 128.

@@ -1,16 +1,12 @@
--- `text::is_utf8` meets its contract: the code's table is the table that the rule fills, entry by entry, which antt computes. Assumes nothing.
-use mathlib.Core.Path.{refl}
-use Rattle.text.specs.Utf8.{within}
-use Rattle.text.specs.Classes.{classBy, classOf, classTable}
+-- `text::is_utf8` meets its contract: bytes below 128 are characters, so what comes after them decides. Assumes nothing.
+use Rattle.text.proofs.Passing.{running}
 use borrow.Author.Needs.{needs}
 use Rattle.text.proofs.is_utf8.Statement.{statement}
 use Rattle.text.proofs.is_utf8.Tie as tie
 
-walk-requires : tie.Need-walk-requires
-unfolding classTable classOf classBy within
-walk-requires c κs = refl
-
 pub is-utf8-spec : {M : Type 1} → statement M
 is-utf8-spec = tie.close (tie.spec
-    walk-requires
-    (λ c. search needs))  -- returns
+    (λ c κs. search needs)  -- past-front-requires
+    (λ c κs. search running)  -- walk-from-requires
+    (λ c. search needs)  -- returns
+    (λ c. search running))  -- returns-2
