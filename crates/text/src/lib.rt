@@ -170,9 +170,9 @@ fn walk_from(s: &[u8], from: usize) -> bool
 pub fn is_utf8(s: &[u8]) -> bool
     ensures { λ r. ⌜ r ≡ wellFormed (now (s .entry)) ⌝ }
 {
-    let at = past_front(s);
-    if at < s.len() {
-        return walk_from(s, at);
+    let front = past_front(s);
+    if front < s.len() {
+        return walk_from(s, front);
     }
     true
 }
