@@ -6,6 +6,7 @@ pub mod generate;
 pub mod hex;
 pub mod meaning;
 pub mod papers;
+pub mod questions;
 pub mod reader;
 pub mod rules;
 pub mod shortest;
