@@ -52,10 +52,7 @@ pub fn message_line_again(line: &str) -> Option<String> {
 /// The line with its answer worked out anew, if it is well-formed.
 pub fn table_line_again(line: &str) -> Option<String> {
     let mut fields = line.split(' ');
-    let words = match fields.next()? {
-        "-" => Some(Vec::new()),
-        list => list.split(',').map(|word| word.parse().ok()).collect(),
-    }?;
+    let words = words(fields.next()?)?;
     let rows = fields.next()?.parse().ok()?;
     let text = hex::decode(fields.next()?)?;
     let room = fields.next()?.parse().ok()?;
@@ -91,10 +88,18 @@ pub fn generated_table_line(random: &mut Random) -> String {
     table_line(&table.words, table.rows, &table.text, room)
 }
 
-fn list(words: &[u32]) -> String {
+pub fn list(words: &[u32]) -> String {
     if words.is_empty() {
         return "-".into();
     }
     let words: Vec<String> = words.iter().map(u32::to_string).collect();
     words.join(",")
+}
+
+/// The words of such a list, if it is well-formed.
+pub fn words(list: &str) -> Option<Vec<u32>> {
+    if list == "-" {
+        return Some(Vec::new());
+    }
+    list.split(',').map(|word| word.parse().ok()).collect()
 }

@@ -7,6 +7,7 @@ pub mod hex;
 pub mod job;
 pub mod meaning;
 pub mod papers;
+pub mod questions;
 pub mod reader;
 pub mod rules;
 pub mod shortest;

@@ -1,12 +1,15 @@
 //! Prints messages or tables with the answers to them, one a line: the stored
 //! ones, the papers' or generated ones. `src/corpus.rs` has the form of a line.
+//! Or prints the stored ones as questions, or the answers to these, by
+//! `src/questions.rs`.
 
 use second::corpus::*;
 use second::generate::Random;
+use second::questions::{answer, questions};
 use std::io::{BufWriter, Write as _};
 use std::process::ExitCode;
 
-const USAGE: &str = "usage: corpus read|write [SEED COUNT], or corpus papers";
+const USAGE: &str = "usage: corpus read|write [SEED COUNT], or corpus papers|questions|answers";
 
 fn main() -> ExitCode {
     let words: Vec<String> = std::env::args().skip(1).collect();
@@ -38,6 +41,8 @@ fn lines(words: &[&str]) -> Option<Lines> {
         ["read"] => Box::new(MESSAGES.lines().map(message_line_again)),
         ["write"] => Box::new(TABLES.lines().map(table_line_again)),
         ["papers"] => Box::new(papers_lines().into_iter().map(Some)),
+        ["questions"] => Box::new(questions().map(Some)),
+        ["answers"] => Box::new(questions().map(|question| Some(answer(&question)))),
         ["read", seed, count] => generated(seed, count, generated_message_line)?,
         ["write", seed, count] => generated(seed, count, generated_table_line)?,
         _ => return None,
