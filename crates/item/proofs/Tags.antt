@@ -60,5 +60,3 @@ module _ (b : ℕ) where
   unfolding tagOf
   tag-unknown c d e f g h i j k l m n =
       rw (ne-eqb _ _ c, ne-eqb _ _ d, ne-eqb _ _ e, ne-eqb _ _ f, ne-eqb _ _ g, ne-eqb _ _ h, ne-eqb _ _ i, ne-eqb _ _ j, ne-eqb _ _ k, ne-eqb _ _ l, ne-eqb _ _ m, ne-eqb _ _ n)
-
-pub ruleset tags = (tag-integer, tag-true, tag-false, tag-double, tag-date, tag-binary, tag-array, tag-struct, tag-other, tag-regular, tag-recorded, tag-recalled, tag-unknown)
