@@ -3,7 +3,6 @@ use draft::Refusal;
 ghost use mathlib.Core.Path.{_≡_};
 ghost use Prim.Native.Nat.{_+_, _*_, _≤_, _<_};
 ghost use lib.ListN.{length, drop};
-ghost use Rattle.draft.specs.Bytes.{unsignedAt};
 ghost use Rattle.job.specs.Job.{refusalNumber, kindAt, recordLength, endsWith, pickRefusal, lookAt, find as findFrom, bodyOf};
 ghost use Rattle.job.specs.Cards.{located, Reads};
 
@@ -70,18 +69,6 @@ fn wide(x: u8) -> usize
     x as usize
 }
 
-// The four bytes at i, least significant first.
-fn unsigned(s: &[u8], i: usize) -> usize
-    requires { ⌜ i + 4 ≤ length (now s) ⌝ }
-    ensures { λ r. ⌜ (r ≡ unsignedAt (now (s .entry)) i) × (r < 4294967296) ⌝ }
-{
-    let a = wide(s[i]);
-    let b = wide(s[i + 1]);
-    let c = wide(s[i + 2]);
-    let d = wide(s[i + 3]);
-    a + 256 * (b + 256 * (c + 256 * d))
-}
-
 // The kind of the record that s begins with.
 fn kind_at(s: &[u8]) -> Kind
     requires { ⌜ 6 ≤ length (now s) ⌝ }
@@ -100,8 +87,8 @@ fn end_says(s: &[u8], cards: usize) -> JobRefusal
     requires { ⌜ recordLength (now s) ≤ length (now s) ⌝ }
     ensures { λ r. ⌜ r ≡ pickRefusal (endsWith (now (s .entry)) cards) JobRefusal.NoCard JobRefusal.WrongEnd ⌝ }
 {
-    if unsigned(s, 0) == 4 {
-        let counted = unsigned(s, HEAD);
+    if item::unsigned(s, 0) == 4 {
+        let counted = item::unsigned(s, HEAD);
         if counted == cards {
             return JobRefusal::NoCard;
         }
@@ -123,7 +110,7 @@ fn look_at(s: &[u8], number: usize, cards: usize, at: usize) -> Look
     if s.len() < HEAD {
         return missing(JobRefusal::FileEnded, at);
     }
-    let length = unsigned(s, 0);
+    let length = item::unsigned(s, 0);
     if s.len() - HEAD < length {
         return missing(JobRefusal::FileEnded, at);
     }
