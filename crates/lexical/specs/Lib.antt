@@ -1,0 +1,5 @@
+pub mod Ascii
+pub mod Digits
+pub mod Double
+pub mod DateTime
+pub mod Grammar

@@ -1,0 +1,1 @@
+// No code: specs/ says how a rule fills a table.
