@@ -52,6 +52,8 @@ pub mod number {
     pub const FILE_ENDED: u8 = 15;
     /// A kind 2 body of wrong length or number.
     pub const WRONG_END: u8 = 16;
+    /// A Double or DateTime in ASCII that is no such text, as `5.` or 30 February.
+    pub const BAD_VALUE: u8 = 17;
     /// A sound job ends before the card asked for.
     pub const NO_CARD: u8 = 26;
 }
