@@ -1,6 +1,6 @@
 -- The months' days: the rule at each entry of the table, and what answers the returns of the functions that use it. Assumes nothing.
 use mathlib.Core.Path.{_≡_, refl, sym, ap, _∙_}
-use mathlib.Core.Bool.{Bool, true, false, cond, _&&_}
+use mathlib.Core.Bool.{Bool, true, false, cond, _&&_, _||_, and-true}
 use mathlib.Core.List.{List, []}
 use Prim.Native.Nat.{ℕ, suc, _-_, _≤_, _<_}
 use native.Mathlib.Omega.{arith}
@@ -26,6 +26,17 @@ days-at year month {row} {long} e f l h =
 
 pub ruleset tabled = (days-at)
 
+-- each month has 28 days
+least : (inLeap : Bool) (month : ℕ) → 28 ≤ monthDays inLeap month
+unfolding monthDays
+least inLeap month = go (eqb month 2) inLeap (eqb month 4 || eqb month 6 || eqb month 9 || eqb month 11)
+  where
+    go : (a b c : Bool) → 28 ≤ cond a (cond b 29 28) (cond c 30 31)
+    go true true c = omega arith
+    go true false c = omega arith
+    go false b true = omega arith
+    go false b false = omega arith
+
 module _ (year month d : ℕ) where
   pub month-zero : month < 1 → false ≡ isDay year month d
   unfolding isDay
@@ -39,8 +50,13 @@ module _ (year month d : ℕ) where
       none true = refl
       none false = refl
 
-  pub in-month : {n : ℕ} → 1 ≤ month → month ≤ 12 → n ≡ monthDays (leap year) month → (leb 1 d && leb d n) ≡ isDay year month d
-  unfolding isDay
-  in-month h l e = rw (le-leb _ _ h, le-leb _ _ l, e)
+  module _ (h : 1 ≤ month) (l : month ≤ 12) where
+    pub early-day : d ≤ 28 → leb 1 d ≡ isDay year month d
+    unfolding isDay
+    early-day k = rw (le-leb _ _ h, le-leb _ _ l, le-leb d (monthDays (leap year) month) (omega (arith, least (leap year) month))) (sym (and-true (leb 1 d)))
 
-pub ruleset dating = (month-zero, month-over, in-month)
+    pub late-day : {n : ℕ} → 28 < d → n ≡ monthDays (leap year) month → leb d n ≡ isDay year month d
+    unfolding isDay
+    late-day k e = rw (le-leb _ _ h, le-leb _ _ l, le-leb 1 d (omega arith), e)
+
+pub ruleset dating = (month-zero, month-over, early-day, late-day)

@@ -1,88 +1,56 @@
--- What answers the returns and turns of the functions that hold bytes against a picture. Assumes nothing.
-use mathlib.Core.Path.{_≡_, refl, sym, ap, _∙_}
-use mathlib.Core.Bool.{Bool, true, false, cond, _&&_, true≢false}
-use mathlib.Core.List.{List, [], _∷_}
-use Prim.Native.Nat.{ℕ, zero, suc, _+_, _-_, _*_, _≤_, _<_}
-use native.Mathlib.Omega.{arith}
-use native.Mathlib.Numerals.{add-one}
-use lib.ListN.{length, getD, drop}
-use lib.Seq.{drop-cons}
+-- What answers the returns of the functions that look at a date's digits and at what stands between them. Assumes nothing.
+use mathlib.Core.Path.{_≡_, refl}
+use mathlib.Core.Bool.{Bool, true, false, _&&_}
+use mathlib.Core.List.{List}
+use Prim.Native.Nat.{ℕ, _+_, _-_, _*_, _<_}
+use lib.ListN.{length, getD}
 use lib.Dec.{leb, eqb}
 use borrow.Author.Tests.{eq-eqb, ne-eqb}
-use Rattle.lexical.specs.Digits.{digit, two}
-use Rattle.text.proofs.Comparing.{ended}
-use Rattle.lexical.specs.DateTime.{fitting, shaped, picture, isDay, isDateTime}
+use Rattle.lexical.specs.Digits.{digit, pair, two}
+use Rattle.lexical.specs.DateTime.{isDay, isDate, pairTo, isTime, parted, isDateTime}
 
--- ---- one byte
+module _ (s : List ℕ) (at : ℕ) where
+  pub pair-is : {a b : Bool} → a ≡ digit (getD s at 0) → b ≡ digit (getD s (at + 1) 0) → (a && b) ≡ pair s at
+  unfolding pair
+  pair-is e f = rw (e, f)
 
-pub fits-digit : (p b : ℕ) {is : Bool} → p ≡ 48 → is ≡ digit b → is ≡ fitting p b
-unfolding fitting
-fits-digit p b e f = rw (eq-eqb _ _ e) f
+  pub two-is : {a b : ℕ} → (a ≡ getD s at 0 - 48) × (a < 256) → (b ≡ getD s (at + 1) 0 - 48) × (b < 256) → 10 * a + b ≡ two s at
+  unfolding two
+  two-is e f = rw (e .0, f .0)
 
-pub fits-same : (p b : ℕ) → (p ≡ 48 → ⊥) → eqb b p ≡ fitting p b
-unfolding fitting
-fits-same p b d = rw (ne-eqb _ _ d)
+  pub pair-to-is : {a : Bool} {n : ℕ} (most : ℕ) → a ≡ pair s at → (n ≡ two s at) × (n < 2816) → (a && leb n most) ≡ pairTo s at most
+  unfolding pairTo
+  pair-to-is most e f = rw (e, f .0)
 
--- ---- all bytes
+module _ (s : List ℕ) where
+  pub parted-is : (eqb (getD s 8 0) 84 && eqb (getD s 11 0) 58 && eqb (getD s 14 0) 58) ≡ parted s
+  unfolding parted
+  parted-is = refl
 
-pub record Left (p s : List ℕ) (i : ℕ) : Type 0 where
-  pub rest : shaped p s ≡ shaped (drop i p) (drop i s)
+  pub time-is : {a b c : Bool} → a ≡ pairTo s 9 23 → b ≡ pairTo s 12 59 → c ≡ pairTo s 15 59 → (a && b && c) ≡ isTime s
+  unfolding isTime
+  time-is e f g = rw (e, f, g)
 
-shaped-length : (p s : List ℕ) → shaped p s ≡ true → length p ≡ length s
-unfolding shaped
-shaped-length [] [] e = refl
-shaped-length [] (b ∷ s) e = absurd (true≢false (sym e))
-shaped-length (p ∷ ps) [] e = absurd (true≢false (sym e))
-shaped-length (p ∷ ps) (b ∷ s) e = ap suc (shaped-length ps s (and-right (fitting p b) e))
-  where
-    and-right : (t : Bool) {u : Bool} → (t && u) ≡ true → u ≡ true
-    and-right true f = f
-    and-right false f = absurd (true≢false (sym f))
+  module _ {a b c d : Bool} (e : a ≡ pair s 0) (f : b ≡ pair s 2) (g : c ≡ pair s 4) (h : d ≡ pair s 6) where
+    pub no-digits : (a && b && c && d) ≡ false → false ≡ isDate s
+    unfolding isDate
+    no-digits i = rw (← e, ← f, ← g, ← h, i)
 
-pub lengths : (p s : List ℕ) → (length p ≡ length s → ⊥) → false ≡ shaped p s
-lengths p s d = go (shaped p s) refl
-  where
-    go : (t : Bool) → shaped p s ≡ t → false ≡ t
-    go true e = absurd (d (shaped-length p s e))
-    go false e = refl
+    pub date-is : {good : Bool} {k l m n : ℕ} → (a && b && c && d) ≡ true → (k ≡ two s 0) × (k < 2816) → (l ≡ two s 2) × (l < 2816) → (m ≡ two s 4) × (m < 2816) → (n ≡ two s 6) × (n < 2816) → good ≡ isDay (100 * k + l) m n → good ≡ isDate s
+    unfolding isDate
+    date-is i p q r t u = rw (← e, ← f, ← g, ← h, i, u, p .0, q .0, r .0, t .0)
 
-pub left-none : {p s : List ℕ} → Left p s 0
-left-none = record { rest = refl }
+  pub other-length : (length s ≡ 17 → ⊥) → false ≡ isDateTime s
+  unfolding isDateTime
+  other-length d = rw (ne-eqb _ _ d)
 
-module _ {p s : List ℕ} {i : ℕ} (l : Left p s i) (n : length p ≡ length s) where
-  pub left-end : length s ≤ i → true ≡ shaped p s
-  unfolding shaped
-  left-end h = sym (l .rest ∙ rw (ended s i h, ended p i (omega arith)))
+  module _ {a b : Bool} (l : length s ≡ 17) (e : a ≡ parted s) (f : b ≡ isTime s) where
+    pub no-time : (a && b) ≡ false → false ≡ isDateTime s
+    unfolding isDateTime
+    no-time i = rw (eq-eqb _ _ l, ← e, ← f, i)
 
-  module _ {is : Bool} (h : i < length s) (e : is ≡ fitting (getD p i 0) (getD s i 0)) where
-    pub left-more : is ≡ true → Left p s (i + 1)
-    unfolding shaped
-    left-more f = record { rest = l .rest ∙ rw (add-one, drop-cons p i 0 (omega arith), drop-cons s i 0 h, ← e, f) }
+    pub datetime-is : {good : Bool} → (a && b) ≡ true → good ≡ isDate s → good ≡ isDateTime s
+    unfolding isDateTime
+    datetime-is i g = rw (eq-eqb _ _ l, ← e, ← f, i, g)
 
-    pub left-no : is ≡ false → false ≡ shaped p s
-    unfolding shaped
-    left-no f = sym (l .rest ∙ rw (drop-cons p i 0 (omega arith), drop-cons s i 0 h, ← e, f))
-
-pub ruleset shaping = (fits-digit, fits-same, lengths, left-none, left-end, left-more, left-no)
-
--- ---- the whole
-
-pub not-long : (s : List ℕ) → (length s ≡ 17 → ⊥) → false ≡ isDateTime s
-unfolding isDateTime
-not-long s d = rw (← lengths picture s (λ e. d (sym e)))
-
-pub not-shaped : (s : List ℕ) {is : Bool} → is ≡ shaped picture s → is ≡ false → false ≡ isDateTime s
-unfolding isDateTime
-not-shaped s e f = rw (← e, f)
-
-pub all-good : (s : List ℕ) {is good : Bool} {a b c d h m n : ℕ} → is ≡ shaped picture s → is ≡ true → a ≡ two s 0 → b ≡ two s 2 → c ≡ two s 4 → d ≡ two s 6 → good ≡ isDay (100 * a + b) c d → h ≡ two s 9 → m ≡ two s 12 → n ≡ two s 15 → (good && leb h 23 && leb m 59 && leb n 59) ≡ isDateTime s
-unfolding isDateTime
-all-good s e f ea eb ec ed eg eh em en = rw (← e, f, eg, ea, eb, ec, ed, eh, em, en)
-
-pub ruleset whole = (not-long, not-shaped, all-good)
-
-pub two-is : (s : List ℕ) (at : ℕ) {a b : ℕ} → (a ≡ getD s at 0 - 48) × (a < 256) → (b ≡ getD s (at + 1) 0 - 48) × (b < 256) → 10 * a + b ≡ two s at
-unfolding two
-two-is s at e f = rw (e .0, f .0)
-
-pub ruleset twos = (two-is)
+pub ruleset shaping = (pair-is, two-is, pair-to-is, parted-is, time-is, no-digits, date-is, other-length, no-time, datetime-is)

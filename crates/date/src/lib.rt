@@ -5,8 +5,8 @@ ghost use mathlib.Core.Path.{_≡_};
 ghost use mathlib.Core.Bool.{cond};
 ghost use Prim.Native.Nat.{_+_, _≤_, _<_};
 ghost use lib.ListN.{length};
-ghost use Rattle.lexical.specs.Digits.{two};
-ghost use Rattle.lexical.specs.DateTime.{fitting, shaped, leap, monthDays, isDay, isDateTime};
+ghost use Rattle.lexical.specs.Digits.{pair, two};
+ghost use Rattle.lexical.specs.DateTime.{leap, monthDays, isDay, isDate, pairTo, isTime, parted, isDateTime};
 
 // The days of the months: of a year that is no leap year, and of one that is.
 const DAYS: [[u8; 12]; 2] = [
@@ -37,7 +37,7 @@ fn month_days(year: usize, month: usize) -> u8
     DAYS[row][month - 1]
 }
 
-// Whether there is such a day.
+// Whether there is such a day. Every month has 28 days, so the table is looked at only for the last ones.
 fn is_day(year: usize, month: usize, day: usize) -> bool
     ensures { λ r. ⌜ r ≡ isDay year month day ⌝ }
 {
@@ -47,36 +47,18 @@ fn is_day(year: usize, month: usize, day: usize) -> bool
     if 12 < month {
         return false;
     }
-    (1 <= day) & (day <= month_days(year, month) as usize)
+    if day <= 28 {
+        return 1 <= day;
+    }
+    day <= month_days(year, month) as usize
 }
 
-// Whether a byte is as the picture has it: a digit where that has `0`, else the same byte.
-fn fits(picture: u8, b: u8) -> bool
-    ensures { λ r. ⌜ r ≡ fitting picture b ⌝ }
+// Whether the bytes at `at` and behind it are digits.
+fn is_pair(s: &[u8], at: usize) -> bool
+    requires { ⌜ at + 1 < length (now s) ⌝ }
+    ensures { λ r. ⌜ r ≡ pair (now (s .entry)) at ⌝ }
 {
-    if picture == b'0' {
-        is_digit(b)
-    } else {
-        b == picture
-    }
-}
-
-// Whether bytes are as a picture has them.
-fn has_shape(picture: &[u8], s: &[u8]) -> bool
-    ensures { λ r. ⌜ r ≡ shaped (now (picture .entry)) (now (s .entry)) ⌝ }
-{
-    if picture.len() != s.len() {
-        return false;
-    }
-    let mut i = 0;
-    while i < s.len() {
-        if fits(picture[i], s[i]) {
-            i += 1;
-        } else {
-            return false;
-        }
-    }
-    true
+    is_digit(s[at]) & is_digit(s[at + 1])
 }
 
 // The number that two digits write.
@@ -87,19 +69,49 @@ fn two_digits(s: &[u8], at: usize) -> usize
     10 * value_of(s[at]) + value_of(s[at + 1])
 }
 
+// Whether they are digits that write at most a number.
+fn is_pair_to(s: &[u8], at: usize, most: usize) -> bool
+    requires { ⌜ at + 1 < length (now s) ⌝ }
+    ensures { λ r. ⌜ r ≡ pairTo (now (s .entry)) at most ⌝ }
+{
+    is_pair(s, at) & (two_digits(s, at) <= most)
+}
+
+// Whether 17 bytes have a `T` and each `:` in their places.
+fn is_parted(s: &[u8]) -> bool
+    requires { ⌜ length (now s) ≡ 17 ⌝ }
+    ensures { λ r. ⌜ r ≡ parted (now (s .entry)) ⌝ }
+{
+    (s[8] == b'T') & (s[11] == b':') & (s[14] == b':')
+}
+
+// Whether 17 bytes have a time.
+fn is_time(s: &[u8]) -> bool
+    requires { ⌜ length (now s) ≡ 17 ⌝ }
+    ensures { λ r. ⌜ r ≡ isTime (now (s .entry)) ⌝ }
+{
+    is_pair_to(s, 9, 23) & is_pair_to(s, 12, 59) & is_pair_to(s, 15, 59)
+}
+
+// Whether 17 bytes have the date of a day that there is.
+fn is_date(s: &[u8]) -> bool
+    requires { ⌜ length (now s) ≡ 17 ⌝ }
+    ensures { λ r. ⌜ r ≡ isDate (now (s .entry)) ⌝ }
+{
+    if is_pair(s, 0) & is_pair(s, 2) & is_pair(s, 4) & is_pair(s, 6) {
+        let year = 100 * two_digits(s, 0) + two_digits(s, 2);
+        return is_day(year, two_digits(s, 4), two_digits(s, 6));
+    }
+    false
+}
+
 pub fn is_datetime(s: &[u8]) -> bool
     ensures { λ r. ⌜ r ≡ isDateTime (now (s .entry)) ⌝ }
 {
-    if s.len() != 17 {
-        return false;
-    }
-    if has_shape(b"00000000T00:00:00", s) {
-        let year = 100 * two_digits(s, 0) + two_digits(s, 2);
-        let day = is_day(year, two_digits(s, 4), two_digits(s, 6));
-        return day
-            & (two_digits(s, 9) <= 23)
-            & (two_digits(s, 12) <= 59)
-            & (two_digits(s, 15) <= 59);
+    if s.len() == 17 {
+        if is_parted(s) & is_time(s) {
+            return is_date(s);
+        }
     }
     false
 }

@@ -1,8 +1,14 @@
 -- Bytes of a message: an ASCII text's, one, four as a number, and a part; and that they are bytes. Assumes nothing.
 use Prim.Native.Nat.{ℕ, _+_, _*_, _<_}
+use Prim.Native.Char.{code}
+use Prim.Native.String.{String, [] as empty, _∷_ as first}
 use mathlib.Core.List.{List, [], _∷_}
 use lib.ListN.{getD, take, drop}
-pub use Rattle.lexical.specs.Ascii.{bytes}
+
+-- the bytes of an ASCII text
+abbrev pub bytes : String → List ℕ
+bytes empty = []
+bytes (first c s) = code c ∷ bytes s
 
 -- the byte at i
 abbrev pub byteAt : List ℕ → ℕ → ℕ

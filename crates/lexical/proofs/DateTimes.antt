@@ -6,12 +6,13 @@ use mathlib.Core.Logic.{_↔_, _≢_}
 use Prim.Native.Nat.{ℕ, zero, suc, _+_, _*_, _%_, _≤_, _<_}
 use Prim.Native.Char.{code}
 use native.Mathlib.Omega.{arith}
+use lib.ListN.{length, getD}
 use lib.Dec.{leb, ltb, eqb}
 use borrow.Author.Tests.{leb-true, le-leb, eqb-true, eqb-false, eq-eqb, ne-eqb, not-true}
 use Rattle.text.specs.Texts.{ascii}
 use Rattle.text.proofs.Comparing.{both, clash}
-use Rattle.lexical.specs.Digits.{digit, two as twoAt}
-use Rattle.lexical.specs.DateTime.{fitting, shaped, picture, leap, monthDays, isDay, isDateTime}
+use Rattle.lexical.specs.Digits.{digit, pair, two as twoAt}
+use Rattle.lexical.specs.DateTime.{leap, monthDays, isDay, isDate, pairTo, isTime, parted, isDateTime}
 use Rattle.lexical.specs.Grammar.{Digit, Leap, fourth, four-hundredth, Month, january, february, leap-february, march, april, may, june, july, august, september, october, november, december, Day, Two, two, DateTime, datetime}
 use Rattle.lexical.proofs.Doubles.{digit-in, digit-is, digit-below}
 
@@ -133,102 +134,113 @@ day-is year month day e =
       last = leb-true _ _ (d .1);
     }
 
--- ---- the picture
+-- ---- the bytes
 
--- bytes that are as a picture has them
-data Fits : List ℕ → List ℕ → Type 0 where
-  end : Fits [] []
-  next : {p b : ℕ} {ps s : List ℕ} → fitting p b ≡ true → Fits ps s → Fits (p ∷ ps) (b ∷ s)
+-- n bytes
+data Long : ℕ → List ℕ → Type 0 where
+  none : Long 0 []
+  more : {b n : ℕ} {s : List ℕ} → Long n s → Long (suc n) (b ∷ s)
 
-fits-is : (p s : List ℕ) → shaped p s ≡ true → Fits p s
-unfolding shaped
-fits-is [] [] e = end
-fits-is [] (b ∷ s) e = clash e refl
-fits-is (p ∷ ps) [] e = clash e refl
-fits-is (p ∷ ps) (b ∷ s) e = let h = both (fitting p b) (shaped ps s) e in next (h .0) (fits-is ps s (h .1))
+long : (s : List ℕ) → Long (length s) s
+long [] = none
+long (b ∷ s) = more (long s)
 
-fits-digit : (b : ℕ) → fitting (code "0") b ≡ true → Digit b
-unfolding fitting
-fits-digit b e = digit-is b e
+-- ---- what passes, the grammar derives
 
-fits-T : (b : ℕ) → fitting (code "T") b ≡ true → b ≡ code "T"
-unfolding fitting
-fits-T b e = eqb-true b (code "T") e
+two-is : (s : List ℕ) (i : ℕ) → pair s i ≡ true → Two (getD s i 0 ∷ getD s (i + 1) 0 ∷ []) (twoAt s i)
+unfolding pair twoAt
+two-is s i e =
+    let h = both (digit (getD s i 0)) (digit (getD s (i + 1) 0)) e in
+    two (digit-is _ (h .0)) (digit-is _ (h .1)) refl
 
-fits-colon : (b : ℕ) → fitting (code ":") b ≡ true → b ≡ code ":"
-unfolding fitting
-fits-colon b e = eqb-true b (code ":") e
+-- two digits, and that they write at most a number
+record UpTo (s : List ℕ) (i most : ℕ) : Type 0 where
+  digits : Two (getD s i 0 ∷ getD s (i + 1) 0 ∷ []) (twoAt s i)
+  number : twoAt s i ≤ most
 
--- what is asked of the numbers, as a test and as facts
-numbers : List ℕ → Bool
-numbers s = isDay (100 * twoAt s 0 + twoAt s 2) (twoAt s 4) (twoAt s 6) && leb (twoAt s 9) 23 && leb (twoAt s 12) 59 && leb (twoAt s 15) 59
+up-to : (s : List ℕ) (i most : ℕ) → pairTo s i most ≡ true → UpTo s i most
+unfolding pairTo
+up-to s i most e = let h = both (pair s i) (leb (twoAt s i) most) e in record { digits = two-is s i (h .0); number = leb-true _ _ (h .1) }
 
-record Numbers (s : List ℕ) : Type 0 where
-  day : Day (100 * twoAt s 0 + twoAt s 2) (twoAt s 4) (twoAt s 6)
-  hour : twoAt s 9 ≤ 23
-  minute : twoAt s 12 ≤ 59
-  second : twoAt s 15 ≤ 59
+record Time (s : List ℕ) : Type 0 where
+  hour : UpTo s 9 23
+  minute : UpTo s 12 59
+  second : UpTo s 15 59
 
-numbers-is : (s : List ℕ) → numbers s ≡ true → Numbers s
-unfolding numbers
-numbers-is s q =
-    let day = isDay (100 * twoAt s 0 + twoAt s 2) (twoAt s 4) (twoAt s 6) in
-    let seconds = both (day && leb (twoAt s 9) 23 && leb (twoAt s 12) 59) (leb (twoAt s 15) 59) q in
-    let minutes = both (day && leb (twoAt s 9) 23) (leb (twoAt s 12) 59) (seconds .0) in
-    let hours = both day (leb (twoAt s 9) 23) (minutes .0) in
-    record { day = day-is _ _ _ (hours .0); hour = leb-true _ _ (hours .1); minute = leb-true _ _ (minutes .1); second = leb-true _ _ (seconds .1) }
+time-is : (s : List ℕ) → isTime s ≡ true → Time s
+unfolding isTime
+time-is s e =
+    let h = both (pairTo s 9 23 && pairTo s 12 59) (pairTo s 15 59) e in
+    let k = both (pairTo s 9 23) (pairTo s 12 59) (h .0) in
+    record { hour = up-to s 9 23 (k .0); minute = up-to s 12 59 (k .1); second = up-to s 15 59 (h .1) }
 
-from-picture : {s : List ℕ} → Fits picture s → Numbers s → DateTime s
-unfolding twoAt
-from-picture (next {b = a} fa (next {b = b} fb (next {b = c} fc (next {b = d} fd (next {b = e} fe (next {b = f} ff (next {b = g} fg (next {b = h} fh (next {b = t} ft (next {b = i} fi (next {b = j} fj (next {b = u} fu (next {b = k} fk (next {b = l} fl (next {b = v} fv (next {b = m} fm (next {b = n} fn end))))))))))))))))) q =
-    rw (fits-T t ft, fits-colon u fu, fits-colon v fv)
-    (datetime
-    (two (fits-digit a fa) (fits-digit b fb) refl)
-    (two (fits-digit c fc) (fits-digit d fd) refl)
-    (two (fits-digit e fe) (fits-digit f ff) refl)
-    (two (fits-digit g fg) (fits-digit h fh) refl)
-    (q .day)
-    (two (fits-digit i fi) (fits-digit j fj) refl)
-    (q .hour)
-    (two (fits-digit k fk) (fits-digit l fl) refl)
-    (q .minute)
-    (two (fits-digit m fm) (fits-digit n fn) refl)
-    (q .second)
-    refl)
+record Date (s : List ℕ) : Type 0 where
+  hundred : Two (getD s 0 0 ∷ getD s 1 0 ∷ []) (twoAt s 0)
+  year : Two (getD s 2 0 ∷ getD s 3 0 ∷ []) (twoAt s 2)
+  month : Two (getD s 4 0 ∷ getD s 5 0 ∷ []) (twoAt s 4)
+  day : Two (getD s 6 0 ∷ getD s 7 0 ∷ []) (twoAt s 6)
+  is : Day (100 * twoAt s 0 + twoAt s 2) (twoAt s 4) (twoAt s 6)
+
+date-is : (s : List ℕ) → isDate s ≡ true → Date s
+unfolding isDate
+date-is s e =
+    let h = both (pair s 0 && pair s 2 && pair s 4 && pair s 6) (isDay (100 * twoAt s 0 + twoAt s 2) (twoAt s 4) (twoAt s 6)) e in
+    let d = both (pair s 0 && pair s 2 && pair s 4) (pair s 6) (h .0) in
+    let m = both (pair s 0 && pair s 2) (pair s 4) (d .0) in
+    let y = both (pair s 0) (pair s 2) (m .0) in
+    record {
+      hundred = two-is s 0 (y .0);
+      year = two-is s 2 (y .1);
+      month = two-is s 4 (m .1);
+      day = two-is s 6 (d .1);
+      is = day-is _ _ _ (h .1);
+    }
+
+record Parted (s : List ℕ) : Type 0 where
+  t : getD s 8 0 ≡ code "T"
+  first : getD s 11 0 ≡ code ":"
+  second : getD s 14 0 ≡ code ":"
+
+parted-is : (s : List ℕ) → parted s ≡ true → Parted s
+unfolding parted
+parted-is s e =
+    let h = both (eqb (getD s 8 0) (code "T") && eqb (getD s 11 0) (code ":")) (eqb (getD s 14 0) (code ":")) e in
+    let k = both (eqb (getD s 8 0) (code "T")) (eqb (getD s 11 0) (code ":")) (h .0) in
+    record { t = eqb-true _ _ (k .0); first = eqb-true _ _ (k .1); second = eqb-true _ _ (h .1) }
+
+-- a text of 17 bytes, taken apart
+from-parts : {s : List ℕ} → Long 17 s → Parted s → Time s → Date s → DateTime s
+from-parts (more {b = a} (more {b = b} (more {b = c} (more {b = d} (more {b = e} (more {b = f} (more {b = g} (more {b = h} (more {b = i} (more {b = j} (more {b = k} (more {b = l} (more {b = m} (more {b = n} (more {b = o} (more {b = p} (more {b = q} none))))))))))))))))) apart time date =
+    let at-t : i ≡ code "T" = apart .t in
+    let at-first : l ≡ code ":" = apart .first in
+    let at-second : o ≡ code ":" = apart .second in
+    rw (at-t, at-first, at-second)
+    (datetime (date .hundred) (date .year) (date .month) (date .day) (date .is) (time .hour .digits) (time .hour .number) (time .minute .digits) (time .minute .number) (time .second .digits) (time .second .number) refl)
 
 derived : (s : List ℕ) → isDateTime s ≡ true → DateTime s
-unfolding isDateTime numbers
-derived s e = let h = both (shaped picture s) (numbers s) e in from-picture (fits-is picture s (h .0)) (numbers-is s (h .1))
+unfolding isDateTime
+derived s e =
+    let h = both (eqb (length s) 17) (parted s && isTime s && isDate s) e in
+    let k = both (parted s && isTime s) (isDate s) (h .1) in
+    let m = both (parted s) (isTime s) (k .0) in
+    from-parts (rw (eqb-true (length s) 17 (h .0)) at (long s)) (parted-is s (m .0)) (time-is s (m .1)) (date-is s (k .1))
+
+-- ---- what the grammar derives passes
 
 accepted : {s : List ℕ} → DateTime s → isDateTime s ≡ true
-unfolding isDateTime shaped fitting twoAt
+unfolding isDateTime parted isTime pairTo isDate pair twoAt
 accepted (datetime (two a b c) (two d e f) (two g h i) (two j k l) day (two m n o) p (two q r s) t (two u v w) x z) =
-    rw (z, digit-in a, digit-in b, digit-in d, digit-in e, digit-in g, digit-in h, digit-in j, digit-in k, digit-in m, digit-in n, digit-in q, digit-in r, digit-in u, digit-in v, ← c, ← f, ← i, ← l, ← o, ← s, ← w, day-in day, le-leb _ _ p, le-leb _ _ t, le-leb _ _ x)
+    rw (z, digit-in m, digit-in n, digit-in q, digit-in r, digit-in u, digit-in v, digit-in a, digit-in b, digit-in d, digit-in e, digit-in g, digit-in h, digit-in j, digit-in k, ← c, ← f, ← i, ← l, ← o, ← s, ← w, day-in day, le-leb _ _ p, le-leb _ _ t, le-leb _ _ x)
 
 -- THE AGREEMENT
 pub datetime-exactly : (s : List ℕ) → (isDateTime s ≡ true) ↔ DateTime s
 datetime-exactly s = (derived s, accepted)
 
--- ---- what passes is ASCII
-
-fits-below : (p b : ℕ) → ltb p 128 ≡ true → fitting p b ≡ true → ltb b 128 ≡ true
-unfolding fitting
-fits-below p b l f = go (eqb p (code "0")) f
-  where
-    go : (t : Bool) → cond t (digit b) (eqb b p) ≡ true → ltb b 128 ≡ true
-    go true g = digit-below (digit-is b g)
-    go false g = rw (eqb-true b p g) l
-
-shaped-ascii : (p s : List ℕ) → ascii p ≡ true → shaped p s ≡ true → ascii s ≡ true
-unfolding shaped ascii
-shaped-ascii [] [] a e = refl
-shaped-ascii [] (b ∷ s) a e = clash e refl
-shaped-ascii (p ∷ ps) [] a e = clash e refl
-shaped-ascii (p ∷ ps) (b ∷ s) a e =
-    let h = both (fitting p b) (shaped ps s) e in
-    let k = both (ltb p 128) (ascii ps) a in
-    rw (fits-below p b (k .0) (h .0)) (shaped-ascii ps s (k .1) (h .1))
-
+-- what passes is ASCII
 pub datetime-ascii : (s : List ℕ) → isDateTime s ≡ true → ascii s ≡ true
-unfolding isDateTime numbers ascii
-datetime-ascii s e = shaped-ascii picture s refl (both (shaped picture s) (numbers s) e .0)
+unfolding ascii
+datetime-ascii s e = of (derived s e)
+  where
+    of : {s : List ℕ} → DateTime s → ascii s ≡ true
+    of (datetime (two a b c) (two d e f) (two g h i) (two j k l) day (two m n o) p (two q r s) t (two u v w) x z) =
+        rw (z, digit-below a, digit-below b, digit-below d, digit-below e, digit-below g, digit-below h, digit-below j, digit-below k, digit-below m, digit-below n, digit-below q, digit-below r, digit-below u, digit-below v)

@@ -1,24 +1,11 @@
 -- Whether bytes are a DateTime of document 02: 17 bytes as in `19980717T14:08:55`, of a day that there is. Assumes nothing.
 use mathlib.Core.Bool.{Bool, true, false, cond, not, _&&_, _||_}
-use mathlib.Core.List.{List, [], _∷_}
+use mathlib.Core.List.{List}
 use Prim.Native.Nat.{ℕ, _+_, _*_, _%_}
 use Prim.Native.Char.{code}
+use lib.ListN.{length, getD}
 use lib.Dec.{leb, eqb}
-use Rattle.lexical.specs.Ascii.{bytes}
-use Rattle.lexical.specs.Digits.{digit, two}
-
--- a byte as a picture has it: a digit where the picture has `0`, else the same byte
-unfoldable pub fitting : ℕ → ℕ → Bool
-fitting p b = cond (eqb p (code "0")) (digit b) (eqb b p)
-
-unfoldable pub shaped : List ℕ → List ℕ → Bool
-shaped [] [] = true
-shaped [] (b ∷ s) = false
-shaped (p ∷ ps) [] = false
-shaped (p ∷ ps) (b ∷ s) = fitting p b && shaped ps s
-
-abbrev pub picture : List ℕ
-picture = bytes "00000000T00:00:00"
+use Rattle.lexical.specs.Digits.{pair, two}
 
 -- 'by the Gregorian rule': 4 divides a leap year and 100 does not, or 400 does
 unfoldable pub leap : ℕ → Bool
@@ -33,8 +20,21 @@ monthDays inLeap month =
 unfoldable pub isDay : ℕ → ℕ → ℕ → Bool
 isDay year month day = (leb 1 month && leb month 12) && (leb 1 day && leb day (monthDays (leap year) month))
 
--- year, month and day, `T`, 'hour to 23, minute and second to 59'
+-- a year of four digits, a month and a day of two
+unfoldable pub isDate : List ℕ → Bool
+isDate s = (pair s 0 && pair s 2 && pair s 4 && pair s 6) && isDay (100 * two s 0 + two s 2) (two s 4) (two s 6)
+
+-- two digits that write at most a number
+unfoldable pub pairTo : List ℕ → ℕ → ℕ → Bool
+pairTo s i most = pair s i && leb (two s i) most
+
+-- 'hour to 23, minute and second to 59'
+unfoldable pub isTime : List ℕ → Bool
+isTime s = pairTo s 9 23 && pairTo s 12 59 && pairTo s 15 59
+
+-- the `T` and each `:` in their places
+unfoldable pub parted : List ℕ → Bool
+parted s = eqb (getD s 8 0) (code "T") && eqb (getD s 11 0) (code ":") && eqb (getD s 14 0) (code ":")
+
 unfoldable pub isDateTime : List ℕ → Bool
-isDateTime s =
-    shaped picture s
-    && (isDay (100 * two s 0 + two s 2) (two s 4) (two s 6) && leb (two s 9) 23 && leb (two s 12) 59 && leb (two s 15) 59)
+isDateTime s = eqb (length s) 17 && (parted s && isTime s && isDate s)

@@ -19,6 +19,10 @@ unfoldable pub digits : List ℕ → Bool
 digits [] = true
 digits (b ∷ s) = digit b && digits s
 
--- the number that the two digits at i write
+-- two digits at i
+unfoldable pub pair : List ℕ → ℕ → Bool
+pair s i = digit (getD s i 0) && digit (getD s (i + 1) 0)
+
+-- the number that they write
 unfoldable pub two : List ℕ → ℕ → ℕ
 two s i = 10 * digitValue (getD s i 0) + digitValue (getD s (i + 1) 0)

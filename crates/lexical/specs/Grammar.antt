@@ -23,6 +23,7 @@ pub data Sign : List ℕ → Type 0 where
   plus : Sign (code "+" ∷ [])
   minus : Sign (code "-" ∷ [])
 
+-- 'A Double is now an optional sign, one digit or more, a point, one digit or more.'
 -- Double := Sign Digits '.' Digits
 pub data Double : List ℕ → Type 0 where
   double :
@@ -33,7 +34,7 @@ pub data Double : List ℕ → Type 0 where
       → s ≡ sign ++ (whole ++ (code "." ∷ fraction))
       → Double s
 
--- 'the Gregorian rule': 4 divides a leap year and 100 does not, or 400 does
+-- '.. leap years, by the Gregorian rule': 4 divides a leap year and 100 does not, or 400 does
 pub data Leap (year : ℕ) : Type 0 where
   fourth : year % 4 ≡ 0 → year % 100 ≢ 0 → Leap year
   four-hundredth : year % 400 ≡ 0 → Leap year
@@ -65,7 +66,8 @@ pub record Day (year month day : ℕ) : Type 0 where
 pub data Two : List ℕ → ℕ → Type 0 where
   two : {a b n : ℕ} → Digit a → Digit b → n ≡ 10 * digitValue a + digitValue b → Two (a ∷ b ∷ []) n
 
--- DateTime := Year Month Day 'T' Hour ':' Minute ':' Second, a Year of four digits and the others of two: '17 bytes as in 19980717T14:08:55'
+-- 'A DateTime is 17 bytes as in 19980717T14:08:55: month 1 to 12, a day that the month has, hour to 23, minute and second to 59.'
+-- DateTime := Year Month Day 'T' Hour ':' Minute ':' Second, a Year of four digits and each of the others of two
 pub data DateTime : List ℕ → Type 0 where
   datetime :
       {hundreds years months days hours minutes seconds s : List ℕ} {hundred year month day hour minute second : ℕ}

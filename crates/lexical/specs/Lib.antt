@@ -1,4 +1,3 @@
-pub mod Ascii
 pub mod Digits
 pub mod Double
 pub mod DateTime
