@@ -302,7 +302,10 @@ fn dated_card(members: usize) -> Vec<u8> {
         let turn = member / 6;
         let (name, item) = match member % 6 {
             0 => ("holder", string(&format!("HOLDER {turn}"))),
-            1 => ("issued", date(&format!("199807{:02}T14:08:55", 1 + turn % 31))),
+            1 => (
+                "issued",
+                date(&format!("199807{:02}T14:08:55", 1 + turn % 31)),
+            ),
             2 => ("serial", integer(turn)),
             3 => ("limit", double(&format!("{turn}.750"))),
             4 => ("active", b"t".to_vec()),
