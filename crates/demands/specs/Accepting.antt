@@ -19,8 +19,10 @@ use Rattle.draft.specs.Codebook.{Book}
 use Rattle.draft.specs.Read.{got}
 use Rattle.draft.specs.Strings.{repeated, textsOf}
 use Rattle.draft.specs.Written.{written, rowsOf}
-use Rattle.reader.specs.Answers.{reading, tableOf}
+use Rattle.reader.specs.declared.Answer.the-variants.{Accepted}
+use Rattle.reader.specs.Answers.{reading, tableOf, Answers}
 use Rattle.text.proofs.Comparing.{clash}
+use Rattle.demands.specs.Settled.{accepted-read}
 use Rattle.demands.specs.Writing.{Octets, read-writable, read-short}
 use Rattle.writer.specs.declared.Answer.{Answer}
 use Rattle.writer.specs.declared.Answer.the-variants.{Written, Refused}
@@ -137,19 +139,30 @@ written-whole T rows s out₀ out {n} d =
     omega (arith, h .long, h .fits, length-replicate {A = ℕ} (length out₀ - n) 0) in
     (d .leaves, ap length (d .leaves) ∙ length-append (written s (rowsOf 4096 T rows)) (replicate (length out₀ - n) 0) ∙ l)
 
--- FROM THE READER: a table made by the reader, with its message as text bytes, is never refused with 11; and if at most 256 texts repeat, not with
--- 12 either
+-- a refusal that is not 11, and not 12 either if at most 256 texts of so many rows repeat
+abbrev Spares : List ℕ → List Row → Refusal → Type 0
+Spares s rows m = (numberOf m ≡ 11 → ⊥) × (length (repeated (textsOf s rows)) ≤ 256 → numberOf m ≡ 12 → ⊥)
+
+-- why a table is refused that holds the rows that were read, with their message as text bytes
+read-refused :
+    (s : List ℕ) (words room : ℕ) {T : List ℕ} {n used : ℕ} {rows : List Row} {book : Book} {m : Refusal} → Octets s
+    → (e : reading s words ≡ got rows used book) → T ≡ tableOf words (got rows used book) → length rows ≡ n → RefusedFor T n s room m
+    → Spares s (rowsOf 4096 T n) m
+read-refused s words room o e t l (long-text a) = (λ z. omega arith, λ few z. omega arith)
+read-refused s words room o e t l (not-writable a b) = (λ z. clash (rw (t, sym l) (read-writable s words e o)) b, λ few z. omega arith)
+read-refused s words room o e t l (long-form a b c) = (
+  λ z. omega arith,
+  λ few z. let k = read-short s words e (rw (t, sym l) at few) in let h = rw (t, sym l) at c in omega (arith, h, k .0, k .1, k .2),
+)
+read-refused s words room o e t l (short-output a b c d) = (λ z. omega arith, λ few z. omega arith)
+
+-- FROM THE READER: a table that `reader::read` made, with the rows that it reports and its message as text bytes, is never refused with 11; and if
+-- at most 256 texts repeat, not with 12 either
 pub from-the-reader :
-    (s : List ℕ) (words room : ℕ) {rows : List Row} {used : ℕ} {book : Book} {m : Refusal} → Octets s → (e : reading s words ≡ got rows used book)
-    → answerOf (tableOf words (got rows used book)) (length rows) s room ≡ Refused m
-    → (numberOf m ≡ 11 → ⊥) × (length (repeated (textsOf s (rowsOf 4096 (tableOf words (got rows used book)) (length rows)))) ≤ 256 → numberOf m ≡ 12 → ⊥)
-from-the-reader s words room {rows} {used} {book} o e f =
-    go (refused-exactly (tableOf words (got rows used book)) (length rows) s room .0 f)
-  where
-    go :
-        {m : Refusal} → RefusedFor (tableOf words (got rows used book)) (length rows) s room m
-        → (numberOf m ≡ 11 → ⊥) × (length (repeated (textsOf s (rowsOf 4096 (tableOf words (got rows used book)) (length rows)))) ≤ 256 → numberOf m ≡ 12 → ⊥)
-    go (long-text a) = (λ z. omega arith, λ few z. omega arith)
-    go (not-writable a b) = (λ z. clash (read-writable s words e o) b, λ few z. omega arith)
-    go (long-form a b c) = (λ z. omega arith, λ few z. let k = read-short s words e few in omega (arith, k .0, k .1, k .2))
-    go (short-output a b c d) = (λ z. omega arith, λ few z. omega arith)
+    (s : List ℕ) (words : ℕ) {T : List ℕ} {n used : ℕ} (out₀ out : List ℕ) {m : Refusal} → Octets s
+    → Answers (reading s words) words T (Accepted n used) → Did T n s out₀ out (Refused m)
+    → (numberOf m ≡ 11 → ⊥) × (length (repeated (textsOf s (rowsOf 4096 T n))) ≤ 256 → numberOf m ≡ 12 → ⊥)
+from-the-reader s words {T} {n} out₀ out o c d =
+    let g = accepted-read s words c in
+    read-refused s words (length out₀) o (g .is) (c .leaves ∙ ap (tableOf words) (g .is)) (g .count)
+    (refused-exactly T n s (length out₀) .0 (sym (d .says)))
