@@ -6,9 +6,9 @@ use crate::lent::{Lent, rubbish};
 use crate::reading::Compared;
 use crate::tally::Run;
 use binmode::Written;
-use second::generate::{Random, Table, few_strings, output_length, table};
+use second::generate::{Random, Table, few_strings, output_length, read_table, table};
 use second::rules::{BYTE_LIMIT, ROW_LIMIT, ROW_WORDS, kind};
-use second::{Write, hex};
+use second::{Write, hex, papers};
 
 pub struct Writing {
     words: Lent<u32>,
@@ -82,6 +82,19 @@ impl Writing {
             return Some("the library wrote to the table or the text".into());
         }
         None
+    }
+
+    /// Messages with positions used again, written: the last one's form is too
+    /// long.
+    pub fn papers(&mut self, run: &mut Run) -> Compared {
+        for (texts, length) in papers::USED_AGAIN {
+            let table = read_table(papers::positions_used_again(texts, length));
+            let need = self.need(&mut run.random, &table);
+            for room in [need, need.saturating_sub(1), 2 * BYTE_LIMIT] {
+                self.call(run, &table, room)?;
+            }
+        }
+        Ok(())
     }
 
     /// A generated table, good or not, with several outputs.
