@@ -23,10 +23,10 @@ use Rattle.reader.specs.Answers.{reading, tableOf}
 use Rattle.exact.proofs.Realising.{counts, same-meaning}
 use Rattle.written.specs.Occurring.{bit, times}
 use Rattle.written.specs.Derivable.{DerivesRows, Within}
-use Rattle.written.proofs.Sending.{position-below}
 use Rattle.written.proofs.Repeating.{repeated-once}
 use Rattle.written.proofs.Concluding as conclude
 use Rattle.written.proofs.Returning as return
+use Rattle.written.proofs.Sending.{position-below}
 use Rattle.demands.specs.Reading.{complete}
 
 -- a table is words of 32 bits, and text bytes are bytes
