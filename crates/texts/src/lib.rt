@@ -53,7 +53,7 @@ fn equal_texts(strings: &[u32], text: &[u8], j: usize, k: usize) -> bool
             return true;
         }
     }
-    text::equal(text_of(strings, text, j), text_of(strings, text, k))
+    names::equal(text_of(strings, text, j), text_of(strings, text, k))
 }
 
 // Some bytes, mixed into a number below 4,096.
