@@ -6,9 +6,9 @@ use crate::lent::{Lent, rubbish};
 use crate::reading::Compared;
 use crate::tally::Run;
 use binmode::Written;
-use second::generate::{Random, Table, few_strings, output_length, read_table, table};
+use second::generate::{Random, Table, few_strings, output_length, table};
 use second::rules::{BYTE_LIMIT, ROW_LIMIT, ROW_WORDS, kind};
-use second::{Write, hex, papers};
+use second::{Read, Write, hex, papers};
 
 pub struct Writing {
     words: Lent<u32>,
@@ -169,6 +169,17 @@ impl Writing {
         }
         Ok(())
     }
+}
+
+/// The table that reading a message gives, with the message as text bytes.
+fn read_table(text: Vec<u8>) -> Table {
+    let mut words = vec![0; ROW_LIMIT * ROW_WORDS];
+    let rows = match second::read(&text, &mut words) {
+        Read::Accepted { rows, .. } => rows,
+        Read::Refused { .. } => 0,
+    };
+    words.truncate(rows * ROW_WORDS);
+    Table { words, rows, text }
 }
 
 /// Many long texts that lie in the same bytes and begin alike.

@@ -4,7 +4,7 @@ mod messages;
 mod tables;
 
 pub use messages::{BAD_TEXTS, beyond, damaged, message, valid};
-pub use tables::{Table, few_strings, output_length, read_table, table, writable};
+pub use tables::{Table, few_strings, output_length, table, writable};
 
 /// A small seeded source of numbers (splitmix64).
 pub struct Random(u64);

@@ -42,19 +42,12 @@ pub writable-derivable :
     (bytes most deep : ℕ) {T s : List ℕ} (rows : ℕ) → Words T → Octets s
     → (writableWithin bytes most deep T rows s ≡ true)
     ↔ (Within bytes most T rows s × ((xs : List ℕ) × Octets xs × DerivesRows deep xs s (rowsOf most T rows)))
-writable-derivable bytes most deep {T} {s} rows w o = (there, back)
-  where
-    there :
-        writableWithin bytes most deep T rows s ≡ true
-        → Within bytes most T rows s × ((xs : List ℕ) × Octets xs × DerivesRows deep xs s (rowsOf most T rows))
-    there e =
-        let g = conclude.writable-derived bytes most deep T rows s w e in
-        (conclude.within bytes most deep T rows s e, (written s (rowsOf most T rows), conclude.written-below o (g .meaning), g))
-
-    back :
-        Within bytes most T rows s × ((xs : List ℕ) × Octets xs × DerivesRows deep xs s (rowsOf most T rows))
-        → writableWithin bytes most deep T rows s ≡ true
-    back (h, (xs, b, g)) = conclude.derived-writable bytes most deep T rows s h g b
+writable-derivable bytes most deep {T} {s} rows w o = (
+  λ e.
+      let g = conclude.writable-derived bytes most deep T rows s w e in
+      (conclude.within bytes most deep T rows s e, (written s (rowsOf most T rows), conclude.written-below o (g .meaning), g)),
+  λ h. conclude.derived-writable bytes most deep T rows s (h .0) (h .1 .2) (h .1 .1),
+)
 
 -- an answer accepts the bytes t with so many bytes used and so many rows, which mean the same as those of s
 pub record ReadsBack (answer : Reading) (t : List ℕ) (used rows : ℕ) (s : List ℕ) (others : List Row) : Type 0 where

@@ -42,7 +42,7 @@ pub fn writable(random: &mut Random) -> Table {
             let strings = random.between(0, 12);
             few_strings(random, strings)
         }
-        _ => read_table(valid(random)),
+        _ => from_message(random),
     };
     // Spare words, which the writer doesn't look at.
     for _ in 0..random.below(9) {
@@ -62,8 +62,8 @@ pub fn output_length(random: &mut Random, need: usize) -> usize {
     }
 }
 
-/// The table that reading a message gives, with the message as text bytes.
-pub fn read_table(text: Vec<u8>) -> Table {
+fn from_message(random: &mut Random) -> Table {
+    let text = valid(random);
     let mut words = vec![0; ROW_LIMIT * ROW_WORDS];
     let rows = match read(&text, &mut words) {
         Read::Accepted { rows, .. } => rows,
