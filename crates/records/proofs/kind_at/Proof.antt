@@ -1,7 +1,7 @@
-use Rattle.job.proofs.Looking.{records}
+use Rattle.records.proofs.Looking.{records}
 use borrow.Author.Needs.{needs}
-use Rattle.job.proofs.kind_at.Statement.{statement}
-use Rattle.job.proofs.kind_at.Tie as tie
+use Rattle.records.proofs.kind_at.Statement.{statement}
+use Rattle.records.proofs.kind_at.Tie as tie
 
 pub kind-at-spec : {M : Type 1} → statement M
 kind-at-spec = tie.close (tie.spec

@@ -7,13 +7,13 @@ use native.Mathlib.Omega.{arith}
 use lib.ListN.{drop}
 use lib.Dec.{eqb}
 use borrow.Author.Tests.{eqb-true, eqb-false}
-use Rattle.job.specs.declared.JobRefusal.the-variants.{NoCard}
-use Rattle.job.specs.declared.Found.{Found}
-use Rattle.job.specs.declared.Found.the-variants.{Body, Missing}
-use Rattle.job.specs.Job.{bodyLength, recordLength, find, bodyOf, refusalNumber}
-use Rattle.job.specs.Sound.{SoundFrom, Sound}
-use Rattle.job.specs.Sound as sound
-use Rattle.job.proofs.Trails.{Trail, cut, asked, ended, wrong, passed, other, trail, step-asked, step-passed, step-other, step-ended}
+use Rattle.records.specs.declared.JobRefusal.the-variants.{NoCard}
+use Rattle.records.specs.declared.Found.{Found}
+use Rattle.records.specs.declared.Found.the-variants.{Body, Missing}
+use Rattle.records.specs.Job.{bodyLength, recordLength, find, bodyOf, refusalNumber}
+use Rattle.records.specs.Sound.{SoundFrom, Sound}
+use Rattle.records.specs.Sound as sound
+use Rattle.records.proofs.Trails.{Trail, cut, asked, ended, wrong, passed, other, trail, step-asked, step-passed, step-other, step-ended}
 
 pub record IsBody (f : Found) : Type 0 where
   pub start : ℕ

@@ -6,14 +6,14 @@ use mathlib.Core.List.{List, [], _∷_}
 use lib.ListN.{length}
 use lib.Dec.{leb, eqb}
 use Rattle.draft.specs.Bytes.{byteAt, unsignedAt}
-use Rattle.job.specs.declared.Kind.{Kind}
-use Rattle.job.specs.declared.Kind.the-variants.{Card, End, Other}
-use Rattle.job.specs.declared.JobRefusal.{JobRefusal}
-use Rattle.job.specs.declared.JobRefusal.the-variants.{FileEnded, WrongEnd, NoCard}
-use Rattle.job.specs.declared.Found.{Found}
-use Rattle.job.specs.declared.Found.the-variants.{Body, Missing}
-use Rattle.job.specs.declared.Look.{Look}
-use Rattle.job.specs.declared.Look.the-variants.{Settled, Onward}
+use Rattle.records.specs.declared.Kind.{Kind}
+use Rattle.records.specs.declared.Kind.the-variants.{Card, End, Other}
+use Rattle.records.specs.declared.JobRefusal.{JobRefusal}
+use Rattle.records.specs.declared.JobRefusal.the-variants.{FileEnded, WrongEnd, NoCard}
+use Rattle.records.specs.declared.Found.{Found}
+use Rattle.records.specs.declared.Found.the-variants.{Body, Missing}
+use Rattle.records.specs.declared.Look.{Look}
+use Rattle.records.specs.declared.Look.the-variants.{Settled, Onward}
 
 abbrev pub refusalNumber : JobRefusal → ℕ
 -- the file ends before or inside a record with no kind 2 yet

@@ -7,11 +7,11 @@ use native.Mathlib.Nat.{sub-zero}
 use lib.ListN.{length, getD, take, drop, length-append, length-drop, List·getD-append}
 use lib.Seq.{drop-append-le, take-append-le, drop-drop}
 use Rattle.draft.specs.Bytes.{byteAt, part}
-use Rattle.job.specs.declared.Kind.the-variants.{Card, Other}
-use Rattle.job.specs.declared.Found.{Found}
-use Rattle.job.specs.declared.Found.the-variants.{Body}
-use Rattle.job.specs.Job.{kindAt, bodyLength, recordLength, find, bodyOf}
-use Rattle.job.proofs.Trails.{Trail, cut, asked, ended, wrong, passed, other, trail, step-asked, step-passed, step-other}
+use Rattle.records.specs.declared.Kind.the-variants.{Card, Other}
+use Rattle.records.specs.declared.Found.{Found}
+use Rattle.records.specs.declared.Found.the-variants.{Body}
+use Rattle.records.specs.Job.{kindAt, bodyLength, recordLength, find, bodyOf}
+use Rattle.records.proofs.Trails.{Trail, cut, asked, ended, wrong, passed, other, trail, step-asked, step-passed, step-other}
 
 -- a body lies behind its record's first six bytes, and in the file
 pub record Lies (at start size : ℕ) (s : List ℕ) : Type 0 where

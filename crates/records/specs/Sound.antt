@@ -4,8 +4,8 @@ use mathlib.Core.Bool.{true}
 use mathlib.Core.List.{List}
 use Prim.Native.Nat.{ℕ, _+_, _≤_}
 use lib.ListN.{length, drop}
-use Rattle.job.specs.declared.Kind.the-variants.{Card, End, Other}
-use Rattle.job.specs.Job.{kindAt, recordLength, endsWith}
+use Rattle.records.specs.declared.Kind.the-variants.{Card, End, Other}
+use Rattle.records.specs.Job.{kindAt, recordLength, endsWith}
 
 -- bytes at a place of the file, with so many cards before them, go on as a sound job, with so many cards in all and its kind 2 record at a place
 pub data SoundFrom : ℕ → ℕ → List ℕ → ℕ → ℕ → Type 0 where

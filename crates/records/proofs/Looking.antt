@@ -6,14 +6,14 @@ use native.Mathlib.Omega.{arith}
 use lib.ListN.{length, getD}
 use borrow.Author.Tests.{le-leb, lt-leb, eq-eqb, ne-eqb}
 use Rattle.draft.specs.Bytes.{unsignedAt}
-use Rattle.job.specs.declared.Kind.{Kind}
-use Rattle.job.specs.declared.Kind.the-variants.{Card, End, Other}
-use Rattle.job.specs.declared.JobRefusal.{JobRefusal}
-use Rattle.job.specs.declared.JobRefusal.the-variants.{FileEnded, WrongEnd, NoCard}
-use Rattle.job.specs.declared.Found.the-variants.{Body, Missing}
-use Rattle.job.specs.declared.Look.{Look}
-use Rattle.job.specs.declared.Look.the-variants.{Settled, Onward}
-use Rattle.job.specs.Job.{kindAt, recordLength, endsWith, pickRefusal, lookAt}
+use Rattle.records.specs.declared.Kind.{Kind}
+use Rattle.records.specs.declared.Kind.the-variants.{Card, End, Other}
+use Rattle.records.specs.declared.JobRefusal.{JobRefusal}
+use Rattle.records.specs.declared.JobRefusal.the-variants.{FileEnded, WrongEnd, NoCard}
+use Rattle.records.specs.declared.Found.the-variants.{Body, Missing}
+use Rattle.records.specs.declared.Look.{Look}
+use Rattle.records.specs.declared.Look.the-variants.{Settled, Onward}
+use Rattle.records.specs.Job.{kindAt, recordLength, endsWith, pickRefusal, lookAt}
 
 -- the kind, from its two bytes
 module _ (s : List ℕ) {a b : ℕ} (p : a ≡ getD s 4 0) (q : b ≡ getD s 5 0) where

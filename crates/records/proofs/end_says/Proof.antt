@@ -1,7 +1,7 @@
-use Rattle.job.proofs.Looking.{records}
+use Rattle.records.proofs.Looking.{records}
 use borrow.Author.Needs.{needs}
-use Rattle.job.proofs.end_says.Statement.{statement}
-use Rattle.job.proofs.end_says.Tie as tie
+use Rattle.records.proofs.end_says.Statement.{statement}
+use Rattle.records.proofs.end_says.Tie as tie
 
 pub end-says-spec : {M : Type 1} → statement M
 end-says-spec = tie.close (tie.spec

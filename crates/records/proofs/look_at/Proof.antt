@@ -1,7 +1,7 @@
-use Rattle.job.proofs.Looking.{looking}
+use Rattle.records.proofs.Looking.{looking}
 use borrow.Author.Needs.{needs}
-use Rattle.job.proofs.look_at.Statement.{statement}
-use Rattle.job.proofs.look_at.Tie as tie
+use Rattle.records.proofs.look_at.Statement.{statement}
+use Rattle.records.proofs.look_at.Tie as tie
 
 pub look-at-spec : {M : Type 1} → statement M
 look-at-spec = tie.close (tie.spec

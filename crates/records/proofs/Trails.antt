@@ -6,14 +6,14 @@ use Prim.Native.Nat.{ℕ, zero, suc, _+_, _-_, _≤_, _<_}
 use native.Mathlib.Omega.{arith}
 use lib.ListN.{length, drop, length-drop}
 use borrow.Author.Tests.{le-leb, eq-eqb, ne-eqb}
-use Rattle.job.specs.declared.Kind.the-variants.{Card, End, Other}
-use Rattle.job.specs.declared.JobRefusal.the-variants.{FileEnded, WrongEnd, NoCard}
-use Rattle.job.specs.declared.Found.{Found}
-use Rattle.job.specs.declared.Found.the-variants.{Body, Missing}
-use Rattle.job.specs.declared.Look.{Look}
-use Rattle.job.specs.Job.{kindAt, bodyLength, recordLength, endsWith, lookAt, onward, find}
-use Rattle.job.proofs.Finding.{Looked, looked, find-step}
-use Rattle.job.proofs.Finding as look
+use Rattle.records.specs.declared.Kind.the-variants.{Card, End, Other}
+use Rattle.records.specs.declared.JobRefusal.the-variants.{FileEnded, WrongEnd, NoCard}
+use Rattle.records.specs.declared.Found.{Found}
+use Rattle.records.specs.declared.Found.the-variants.{Body, Missing}
+use Rattle.records.specs.declared.Look.{Look}
+use Rattle.records.specs.Job.{kindAt, bodyLength, recordLength, endsWith, lookAt, onward, find}
+use Rattle.records.proofs.Finding.{Looked, looked, find-step}
+use Rattle.records.proofs.Finding as look
 
 -- asking for card n, from the record at a place on, with so many cards before it
 pub data Trail (n : ℕ) : ℕ → ℕ → List ℕ → Found → Type 0 where

@@ -10,14 +10,14 @@ use lib.Dec.{leb, eqb}
 use borrow.Author.Tests.{leb-true, eqb-true, eqb-false}
 use mir.Syntax.{w64}
 use mir.Val.{Fits}
-use Rattle.job.specs.declared.Kind.{Kind}
-use Rattle.job.specs.declared.Kind.the-variants.{Card, End, Other}
-use Rattle.job.specs.declared.JobRefusal.the-variants.{FileEnded, WrongEnd, NoCard}
-use Rattle.job.specs.declared.Found.{Found}
-use Rattle.job.specs.declared.Found.the-variants.{Body, Missing}
-use Rattle.job.specs.declared.Look.{Look}
-use Rattle.job.specs.declared.Look.the-variants.{Settled, Onward}
-use Rattle.job.specs.Job.{kindAt, bodyLength, recordLength, endsWith, whole, pickRefusal, pickLook, recordSays, lookAt, onward, find}
+use Rattle.records.specs.declared.Kind.{Kind}
+use Rattle.records.specs.declared.Kind.the-variants.{Card, End, Other}
+use Rattle.records.specs.declared.JobRefusal.the-variants.{FileEnded, WrongEnd, NoCard}
+use Rattle.records.specs.declared.Found.{Found}
+use Rattle.records.specs.declared.Found.the-variants.{Body, Missing}
+use Rattle.records.specs.declared.Look.{Look}
+use Rattle.records.specs.declared.Look.the-variants.{Settled, Onward}
+use Rattle.records.specs.Job.{kindAt, bodyLength, recordLength, endsWith, whole, pickRefusal, pickLook, recordSays, lookAt, onward, find}
 
 pub find-ends : (n cards at skip : ℕ) → find n cards at skip [] ≡ Missing FileEnded at
 unfolding find
