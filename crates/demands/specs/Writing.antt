@@ -21,9 +21,9 @@ use Rattle.draft.specs.Writable.{writableWithin, writable}
 use Rattle.draft.specs.Written.{written, rowsOf}
 use Rattle.reader.specs.Answers.{reading, tableOf}
 use Rattle.exact.proofs.Realising.{counts, same-meaning}
-use Rattle.written.specs.Occurring.{bit, times}
+use Rattle.occurring.specs.Occurring.{bit, times}
 use Rattle.written.specs.Derivable.{DerivesRows, Within}
-use Rattle.written.proofs.Repeating.{repeated-once}
+use Rattle.occurring.proofs.Repeating.{repeated-once}
 use Rattle.written.proofs.Concluding as conclude
 use Rattle.written.proofs.Returning as return
 use Rattle.written.proofs.Sending.{position-below}
