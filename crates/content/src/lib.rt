@@ -30,7 +30,7 @@ pub fn judge(content: Content, s: &[u8]) -> Verdict
         Content::Double => judge_value(double::is_double(s), s),
         Content::DateTime => judge_value(date::is_datetime(s), s),
         Content::Binary => Verdict::Fine,
-        Content::Text => fine_if(text::is_utf8(s)),
+        Content::Text => fine_if(text_check::is_utf8(s)),
     }
 }
 
@@ -41,7 +41,7 @@ fn judge_value(good: bool, s: &[u8]) -> Verdict
     if good {
         return Verdict::Fine;
     }
-    if text::is_ascii(s) {
+    if ascii::is_ascii(s) {
         Verdict::Bad(Refusal::BadValue)
     } else {
         Verdict::Bad(Refusal::BadText)
@@ -75,7 +75,7 @@ pub fn inspect(content: Content, s: &[u8], o: usize, n: usize) -> Verdict
 pub fn judge_name(s: &[u8]) -> Verdict
     ensures { λ r. ⌜ r ≡ nameRule (now (s .entry)) ⌝ }
 {
-    if text::is_standard_name(s) {
+    if names::is_standard_name(s) {
         Verdict::Bad(Refusal::StandardName)
     } else {
         Verdict::Fine

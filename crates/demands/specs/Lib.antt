@@ -3,4 +3,5 @@ pub mod Cases
 pub mod Jobs
 pub mod Reading
 pub mod Settled
+pub mod Writer
 pub mod Writing
