@@ -1,0 +1,4 @@
+pub mod Putting
+pub mod Parsing
+pub mod Room
+pub mod Printed

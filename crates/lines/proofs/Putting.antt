@@ -1,0 +1,135 @@
+-- What answers each return and turn of the functions that put bytes into a line. Assumes nothing.
+use mathlib.Core.Path.{_≡_, refl, sym, ap, _∙_}
+use mathlib.Core.List.{List, [], _∷_, _++_}
+use Prim.Native.Nat.{ℕ, zero, suc, _+_, _-_, _*_, _/_, _%_, _≤_, _<_, min}
+use native.Mathlib.Nat.{sub-zero}
+use native.Mathlib.Omega.{arith}
+use native.Mathlib.Numerals.{add-one, sub-one}
+use borrow.Author.Tests.{lt-ltb, le-ltb}
+use lib.ListN.{length, getD, set, drop, drop-of-length-le}
+use lib.Seq.{drop-cons}
+use Rattle.draft.specs.declared.Row.{Row}
+use Rattle.draft.specs.declared.Refusal.{Refusal}
+use Rattle.draft.specs.Refusals.{numberOf}
+use Rattle.draft.specs.Table.{roomOf, rowAt}
+use Rattle.reader.specs.declared.Answer.{Answer}
+use Rattle.reader.specs.declared.Answer.the-variants.{Accepted, Refused}
+use Rattle.reader.specs.Answers.{reading, Answers}
+use Rattle.lines.specs.Lines.{rows, used, refused, refusalLine, acceptedLine, rowLine, rowLines, tableLines, listing, cardAnswer, Lists}
+use Rattle.lines.specs.Lines as Lines
+use Rattle.lines.specs.Line.{Line, line, put, putByte, Puts, digits, pairs}
+
+-- one byte
+module _ (b : ℕ) {o : List ℕ} {at : ℕ} where
+  pub puts-byte : at < length o → Puts (b ∷ []) o at (set o at b) (at + 1)
+  unfolding put
+  puts-byte h = record { is = rw (lt-ltb at (length o) h) }
+
+  pub puts-no-byte : length o ≤ at → Puts (b ∷ []) o at o at
+  unfolding put
+  puts-no-byte h = record { is = rw (le-ltb at (length o) h) }
+
+-- one after the other
+put-append : (l : Line) (s t : List ℕ) → put l (s ++ t) ≡ put (put l s) t
+unfolding put
+put-append l [] t = refl
+put-append l (b ∷ s) t = put-append (putByte l b) s t
+
+module _ {s t o o₁ o₂ : List ℕ} {at m n : ℕ} (p : Puts s o at o₁ m) where
+  pub puts-both : Puts t o₁ m o₂ n → Puts (s ++ t) o at o₂ n
+  puts-both q = record { is = q .is ∙ rw (p .is, put-append (line o at) s t) }
+
+module _ {s t u o o₁ o₂ o₃ : List ℕ} {at m n k : ℕ} (p : Puts s o at o₁ m) (q : Puts t o₁ m o₂ n) where
+  pub puts-three : Puts u o₂ n o₃ k → Puts (s ++ (t ++ u)) o at o₃ k
+  puts-three r = puts-both p (puts-both q r)
+
+module _ {s t u v o o₁ o₂ o₃ o₄ : List ℕ} {at m n k i : ℕ} (p : Puts s o at o₁ m) (q : Puts t o₁ m o₂ n) (r : Puts u o₂ n o₃ k) where
+  pub puts-four : Puts v o₃ k o₄ i → Puts (s ++ (t ++ (u ++ v))) o at o₄ i
+  puts-four w = puts-both p (puts-three q r w)
+
+-- i bytes of a text are put
+pub record Putting (text o : List ℕ) (from i : ℕ) (bytes : List ℕ) (at : ℕ) : Type 0 where
+  pub left : put (line o from) text ≡ put (line bytes at) (drop i text)
+  pub within : i ≤ length text
+
+pub text-first : (text o : List ℕ) (from : ℕ) → Putting text o from 0 o from
+text-first text o from = record { left = refl; within = omega arith }
+
+module _ {text o bytes : List ℕ} {from i at : ℕ} (p : Putting text o from i bytes at) where
+  pub text-again : {bytes′ : List ℕ} {n : ℕ} → i < length text → Puts (getD text i 0 ∷ []) bytes at bytes′ n → Putting text o from (i + 1) bytes′ n
+  unfolding put
+  text-again h q = record { left = p .left ∙ rw (drop-cons text i 0 h, add-one) (rw (q .is) refl); within = omega arith }
+
+  pub text-done : length text ≤ i → Puts text o from bytes at
+  unfolding put
+  text-done h = record { is = sym (p .left ∙ rw (drop-of-length-le text {i = i} h)) }
+
+-- digits
+module _ {o : List ℕ} {at : ℕ} (n : ℕ) where
+  pub puts-no-digit : (most : ℕ) → most ≡ 0 → Puts (digits most n) o at o at
+  unfolding digits put
+  puts-no-digit most e = record { is = rw e }
+
+  pub puts-last-digit : (most : ℕ) {o′ : List ℕ} {m : ℕ} → (most ≡ 0 → ⊥) → n < 10 → Puts ((48 + n) ∷ []) o at o′ m → Puts (digits most n) o at o′ m
+  unfolding digits
+  puts-last-digit zero e h p = absurd (e refl)
+  puts-last-digit (suc k) e h p = rw (lt-ltb n 10 h) p
+
+  pub puts-digits : (most : ℕ) {o₁ o₂ : List ℕ} {m k : ℕ} → (most ≡ 0 → ⊥) → 10 ≤ n → Puts (digits (most - 1) (n / 10)) o at o₁ m → Puts ((48 + n % 10) ∷ []) o₁ m o₂ k → Puts (digits most n) o at o₂ k
+  unfolding digits
+  puts-digits zero e h p q = absurd (e refl)
+  puts-digits (suc k) e h p q = rw (le-ltb n 10 h) (puts-both (rw (sub-one (suc k)) at p) q)
+
+-- r of n rows are put
+pub record Listing (c : ℕ) (T : List ℕ) (n : ℕ) (o : List ℕ) (from r : ℕ) (bytes : List ℕ) (at : ℕ) : Type 0 where
+  pub left : put (line o from) (rowLines c T 0 n) ≡ put (line bytes at) (rowLines c T r (n - r))
+  pub within : r ≤ n
+
+pub rows-first : (c : ℕ) (T : List ℕ) (n : ℕ) (o : List ℕ) (from : ℕ) → Listing c T n o from 0 o from
+rows-first c T n o from = record { left = rw (sub-zero n); within = omega arith }
+
+next-row : (c : ℕ) (T : List ℕ) (r n : ℕ) → r < n → rowLines c T r (n - r) ≡ rowLine r (rowAt c T r) ++ rowLines c T (r + 1) (n - (r + 1))
+unfolding rowLines
+next-row c T r n h =
+    let e : n - r ≡ suc (n - (r + 1)) = omega arith in
+    ap (rowLines c T r) e ∙ rw add-one
+
+module _ {c n : ℕ} {T o bytes : List ℕ} {from r at : ℕ} (p : Listing c T n o from r bytes at) where
+  pub rows-again : {x : Row} {bytes′ : List ℕ} {m : ℕ} → r < n → x ≡ rowAt c T r → Puts (rowLine r x) bytes at bytes′ m → Listing c T n o from (r + 1) bytes′ m
+  rows-again {bytes′ = bytes′} {m = m} h e q =
+      let k : Puts (rowLine r (rowAt c T r)) bytes at bytes′ m = rw e at q in
+      record {
+        left = p .left ∙ rw (next-row c T r n h, put-append (line bytes at) (rowLine r (rowAt c T r)), ← (k .is));
+        within = omega arith;
+      }
+
+  pub rows-done : n ≤ r → Puts (rowLines c T 0 n) o from bytes at
+  unfolding rowLines put
+  rows-done h =
+      let e : n - r ≡ 0 = omega arith in
+      record { is = sym (p .left ∙ rw e) }
+
+pub row-in : (room last n : ℕ) {r : ℕ} → last ≡ min n room → r < last → r < room
+row-in room last n e h = omega arith
+
+pub table-done : (T : List ℕ) (n : ℕ) {room last : ℕ} {o o′ : List ℕ} {from at : ℕ} → room ≡ roomOf 4096 (length T) → last ≡ min n room → Puts (rowLines room T 0 last) o from o′ at → Puts (tableLines T n) o from o′ at
+table-done T n e f p = rw (f, e) at p
+
+-- by the answer
+module _ {a : Answer} {o o′ : List ℕ} {from at : ℕ} where
+  pub lists-acceptance : {n m : ℕ} (T : List ℕ) → a ≡ Accepted n m → Puts (acceptedLine n m ++ tableLines T n) o from o′ at → Puts (listing a T) o from o′ at
+  lists-acceptance T e p = rw e p
+
+  pub lists-refusal : {r : Refusal} {k p : ℕ} (T : List ℕ) → a ≡ Refused r p → k ≡ numberOf r → Puts (refusalLine k p) o from o′ at → Puts (listing a T) o from o′ at
+  lists-refusal T e f q = rw e (rw f at q)
+
+  pub answers-acceptance : {n m : ℕ} → a ≡ Accepted n m → Puts (pairs (32 ∷ rows) n used m) o from o′ at → Puts (cardAnswer a) o from o′ at
+  answers-acceptance e p = rw e p
+
+  pub answers-refusal : {r : Refusal} {k p : ℕ} → a ≡ Refused r p → k ≡ numberOf r → Puts (pairs (32 ∷ refused) k Lines.at p) o from o′ at → Puts (cardAnswer a) o from o′ at
+  answers-refusal e f q = rw e (rw f at q)
+
+pub lists-message : (message : List ℕ) (words : ℕ) {T line line′ : List ℕ} {a : Answer} {n : ℕ} → Answers (reading message words) words T a → Puts (listing a T) line 0 line′ n → Lists message words T line line′ n
+lists-message message words {T} {a = a} d p = record { table = d .leaves; lists = rw (d .says) at p }
+
+pub ruleset putting = (puts-byte, puts-no-byte, puts-both, puts-three, puts-four, text-first, text-again, text-done, puts-no-digit, puts-last-digit, puts-digits, rows-first, rows-again, rows-done, row-in, table-done, lists-acceptance, lists-refusal, answers-acceptance, answers-refusal, lists-message)

@@ -1,0 +1,12 @@
+use Rattle.lines.proofs.Putting.{putting}
+use borrow.Author.Needs.{needs}
+use Rattle.lines.proofs.put_byte.Statement.{statement}
+use Rattle.lines.proofs.put_byte.Tie as tie
+
+pub put-byte-spec : {M : Type 1} → statement M
+put-byte-spec = tie.close (tie.spec
+    (λ c. search needs)  -- slice-write-line
+    (λ c. search needs)  -- add-result
+    (λ c. search needs)  -- same-length
+    (λ c. search putting)  -- returns
+    (λ c. search putting))  -- returns-2
