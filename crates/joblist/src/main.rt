@@ -3,7 +3,7 @@
 use console::Input;
 use job::Found;
 use job::JobRefusal;
-use lines::Number;
+use spelling::Number;
 
 // The most bytes of a job file that the program takes.
 const MOST: usize = 4194304;
@@ -71,7 +71,7 @@ fn list_all(file: &[u8], table: &mut [u32]) {
 fn write_rows(rows: usize, used: usize, body: usize, table: &[u32]) {
     let mut space = [0u8; 430158];
     let listing: &mut [u8] = &mut space;
-    let n = lines::put_card_rows(listing, rows, used, body, table);
+    let n = listings::put_card_rows(listing, rows, used, body, table);
     console::write(content::part(listing, 0, n));
 }
 
@@ -99,7 +99,7 @@ fn list(file: &[u8], table: &mut [u32]) {
     }
     let mut word = io::buffer();
     let n = os::arg(2, &mut word);
-    let number = lines::parse(&word[..n]);
+    let number = spelling::parse(&word[..n]);
     match number {
         Number::Is(k) => list_one(file, k, table),
         Number::Bad => console::complain(b"joblist: NUMBER is not a number, or too large\n"),

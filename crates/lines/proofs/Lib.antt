@@ -1,4 +1,1 @@
-pub mod Putting
-pub mod Parsing
-pub mod Room
-pub mod Printed
+pub mod Answering

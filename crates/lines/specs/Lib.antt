@@ -1,3 +1,1 @@
-pub mod Line
 pub mod Lines
-pub mod Number

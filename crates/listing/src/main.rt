@@ -5,7 +5,7 @@ fn list_input(message: &mut [u8], table: &mut [u32], listing: &mut [u8]) {
     let input = console::read_input(b"usage: listing [FILE]\n", message);
     match input {
         Input::Bytes(n) => {
-            let size = lines::list(content::part(message, 0, n), table, listing);
+            let size = listings::list(content::part(message, 0, n), table, listing);
             console::write(content::part(listing, 0, size));
         }
         Input::Failed => {}
@@ -13,7 +13,7 @@ fn list_input(message: &mut [u8], table: &mut [u32], listing: &mut [u8]) {
 }
 
 // The table has room for 4,096 rows. A message over 65,536 bytes is refused, so no more than one byte past that is kept of it. No listing
-// of 4,096 rows is longer than the buffer for it (`lines/proofs/Room.antt`).
+// of 4,096 rows is longer than the buffer for it (`listings/proofs/Room.antt`).
 fn main() {
     let mut message = [0u8; 65537];
     let mut table = [0u32; 16384];

@@ -1,4 +1,4 @@
-use Rattle.lines.proofs.Putting.{putting}
+use Rattle.spelling.proofs.Putting.{joining}
 use borrow.Author.Needs.{needs}
 use Rattle.lines.proofs.put_accepted.Statement.{statement}
 use Rattle.lines.proofs.put_accepted.Tie as tie
@@ -10,4 +10,4 @@ put-accepted-spec = tie.close (tie.spec
     (λ c κs. search needs)  -- put-pairs-requires
     (λ c κs. search needs)  -- put-byte-requires
     (λ c. search needs)  -- same-length
-    (λ c. search putting))  -- returns
+    (λ c. search joining))  -- returns

@@ -1,4 +1,4 @@
-use Rattle.lines.proofs.Putting.{putting}
+use Rattle.lines.proofs.Answering.{answering}
 use borrow.Author.Needs.{needs}
 use Rattle.lines.proofs.put_card_answer.Statement.{statement}
 use Rattle.lines.proofs.put_card_answer.Tie as tie
@@ -16,6 +16,6 @@ put-card-answer-spec = tie.close (tie.spec
     (λ c. search needs)  -- slice-aggregate-put-pairs-4
     (λ c κs. search needs)  -- put-pairs-requires-2
     (λ c. search needs)  -- same-length
-    (λ c. search putting)  -- returns
+    (λ c. search answering)  -- returns
     (λ c. search needs)  -- same-length-2
-    (λ c. search putting))  -- returns-2
+    (λ c. search answering))  -- returns-2
