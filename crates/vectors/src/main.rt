@@ -2,20 +2,23 @@
 // lists each.
 
 fn run(name: &[u8], message: &[u8], table: &mut [u32]) {
+    let mut space = [0u8; 430158];
+    let listing: &mut [u8] = &mut space;
     console::write(name);
     console::write(b"\n");
-    console::list(message, table);
+    let n = listings::list(message, table, listing);
+    console::write(content::part(listing, 0, n));
 }
 
 // A Response with so many nested Arrays, the innermost empty.
 fn nest(message: &mut [u8], arrays: usize) -> usize {
-    let mut at = console::put_text(message, 0, b"binmode-rpc:R");
+    let mut at = spelling::put_text(message, 0, b"binmode-rpc:R");
     let mut i = 1;
     while i < arrays {
-        at = console::put_text(message, at, b"A\x01\0\0\0");
+        at = spelling::put_text(message, at, b"A\x01\0\0\0");
         i += 1;
     }
-    console::put_text(message, at, b"A\0\0\0\0")
+    spelling::put_text(message, at, b"A\0\0\0\0")
 }
 
 fn run_nested(name: &[u8], arrays: usize, message: &mut [u8], table: &mut [u32]) {
