@@ -25,14 +25,11 @@ fn main() {
         .iter()
         .for_each(|line| line.print(line.time_reading()));
     growth("reading", Line::time_reading);
-    #[cfg(feature = "writer")]
-    {
-        println!("\n{:34} {}", "writing", heading());
-        lines
-            .iter()
-            .for_each(|line| line.print(line.time_writing()));
-        growth("writing", Line::time_writing);
-    }
+    println!("\n{:34} {}", "writing", heading());
+    lines
+        .iter()
+        .for_each(|line| line.print(line.time_writing()));
+    growth("writing", Line::time_writing);
 }
 
 fn heading() -> String {
@@ -87,7 +84,6 @@ fn grown(name: &str, members: usize, message: Vec<u8>, time: fn(&Line) -> Times)
 struct Line {
     name: String,
     message: Vec<u8>,
-    #[cfg_attr(not(feature = "writer"), expect(dead_code))]
     table: Vec<u32>,
     rows: usize,
 }
@@ -130,7 +126,6 @@ impl Line {
         times(buffer, library, second)
     }
 
-    #[cfg(feature = "writer")]
     fn time_writing(&self) -> Times {
         let output = &mut vec![0; BYTE_LIMIT];
         let (table, rows, text) = (&self.table[..], self.rows, &self.message[..]);

@@ -2,20 +2,23 @@
 // document 02's rules, and lists each.
 
 fn run(name: &[u8], message: &[u8], table: &mut [u32]) {
+    let mut space = [0u8; 430158];
+    let listing: &mut [u8] = &mut space;
     console::write(name);
     console::write(b"\n");
-    console::list(message, table);
+    let n = listings::list(message, table, listing);
+    console::write(content::part(listing, 0, n));
 }
 
 // A Response with so many nested Arrays, the innermost empty.
 fn nest(message: &mut [u8], arrays: usize) -> usize {
-    let mut at = console::put_text(message, 0, b"binmode-rpc:R");
+    let mut at = spelling::put_text(message, 0, b"binmode-rpc:R");
     let mut i = 1;
     while i < arrays {
-        at = console::put_text(message, at, b"A\x01\0\0\0");
+        at = spelling::put_text(message, at, b"A\x01\0\0\0");
         i += 1;
     }
-    console::put_text(message, at, b"A\0\0\0\0")
+    spelling::put_text(message, at, b"A\0\0\0\0")
 }
 
 fn run_nested(name: &[u8], arrays: usize, message: &mut [u8], table: &mut [u32]) {
@@ -153,11 +156,11 @@ fn run_other_faults(table: &mut [u32]) {
 
 // Responses with an item each: of some items one after the other, each with a tag, a size and a text. A text stands for its name.
 fn run_items(name: &[u8], items: &[u8], message: &mut [u8], table: &mut [u32]) {
-    let start = console::put_text(message, 0, b"binmode-rpc:R");
+    let start = spelling::put_text(message, 0, b"binmode-rpc:R");
     let mut at = 0;
     while at + 1 < items.len() {
         let size = items[at + 1] as usize;
-        let end = console::put_text(message, start, content::part(items, at, size + 2));
+        let end = spelling::put_text(message, start, content::part(items, at, size + 2));
         console::write(name);
         run(
             content::part(items, at + 2, size),

@@ -78,7 +78,6 @@ impl Answer {
 }
 
 /// What writing a table answers.
-#[cfg(feature = "writer")]
 #[derive(Clone, Copy, Debug, PartialEq, Eq)]
 pub struct Written {
     /// 0 if the table is accepted, else the number of the refusal.
@@ -87,7 +86,6 @@ pub struct Written {
     pub length: usize,
 }
 
-#[cfg(feature = "writer")]
 impl Written {
     pub fn is_accepted(&self) -> bool {
         self.number == number::ACCEPTED
@@ -105,7 +103,6 @@ unsafe extern "C" {
         place: *mut u64,
     ) -> u8;
 
-    #[cfg(feature = "writer")]
     fn binmode_write(
         table: *const u32,
         table_words: usize,
@@ -150,7 +147,6 @@ pub fn read(message: &[u8], table: &mut [u32]) -> Answer {
 /// Writes the first `rows` rows of a table, whose contents lie in `text`, as a
 /// message. Every byte of the output is settled: the message, and zeros behind
 /// it; on a refusal, zeros.
-#[cfg(feature = "writer")]
 pub fn write(table: &[u32], rows: usize, text: &[u8], output: &mut [u8]) -> Written {
     let mut length = NOT_REPORTED;
     // SAFETY: the slices and the number are valid for the call, and those that
