@@ -2,6 +2,7 @@
 //! messages, tables and job files: `compare SEED CALLS`. Ends with 1 where they differ.
 
 mod change;
+mod doubles_and_dates;
 #[cfg(feature = "writer")]
 mod edges;
 mod gather;
@@ -53,6 +54,7 @@ fn main() -> ExitCode {
 fn compare(run: &mut Run) -> Compared {
     let mut reading = Reading::new();
     let mut jobs = Jobs::new();
+    doubles_and_dates::read(&mut run.random, &mut reading)?;
     reading.papers(run)?;
     reading.edges(run)?;
     jobs.edges(run)?;
@@ -71,6 +73,8 @@ fn compare(run: &mut Run) -> Compared {
     let mut writing = writing::Writing::new();
     let mut jobs = Jobs::new();
     shortest::tried(&mut run.random)?;
+    doubles_and_dates::read(&mut run.random, &mut reading)?;
+    doubles_and_dates::written(&mut run.random, &mut writing)?;
     reading.papers(run)?;
     reading.edges(run)?;
     jobs.edges(run)?;

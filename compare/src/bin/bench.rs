@@ -270,7 +270,7 @@ fn card(members: usize) -> Vec<u8> {
             0 => ("holder", string(&format!("HOLDER {turn}"))),
             1 => ("number", string(&format!("5{turn:07}"))),
             2 => ("issuer", string("First Bank")),
-            3 => ("expires", b"8\x0819991231".to_vec()),
+            3 => ("expires", b"8\x1119991231T23:59:59".to_vec()),
             4 => ("serial", integer(turn)),
             5 => ("active", b"t".to_vec()),
             6 => ("limit", b"D\x052.750".to_vec()),
