@@ -2,6 +2,7 @@
 //! messages, tables and job files: `compare SEED CALLS`. Ends with 1 where they differ.
 
 mod change;
+mod doubles_and_dates;
 mod edges;
 mod gather;
 mod job;
@@ -52,6 +53,8 @@ fn compare(run: &mut Run) -> Compared {
     let mut writing = Writing::new();
     let mut jobs = Jobs::new();
     shortest::tried(&mut run.random)?;
+    doubles_and_dates::read(&mut run.random, &mut reading)?;
+    doubles_and_dates::written(&mut run.random, &mut writing)?;
     reading.papers(run)?;
     writing.papers(run)?;
     reading.edges(run)?;

@@ -23,7 +23,7 @@ const MEANINGS: [&str; NUMBERS] = [
     "other fault members",
     "job file ends",
     "wrong end of the job",
-    "",
+    "no such Double or date",
     "",
     "",
     "",

@@ -1,8 +1,10 @@
 //! Seeded makers of messages and tables, good and damaged, for comparisons.
 
+mod ascii;
 mod messages;
 mod tables;
 
+pub use ascii::{doubtful, good};
 pub use messages::{BAD_TEXTS, beyond, damaged, message, valid};
 pub use tables::{Table, few_strings, output_length, table, writable};
 

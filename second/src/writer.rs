@@ -207,8 +207,11 @@ impl Checker<'_> {
         let next = match kind {
             kind::INTEGER if b == 0 => at + 1,
             kind::BOOLEAN if a <= 1 && b == 0 => at + 1,
-            kind::DOUBLE | kind::DATE_TIME if b <= SIZE_LIMIT => {
-                content(self.text, a, b)?.is_ascii().then_some(at + 1)?
+            kind::DOUBLE if b <= SIZE_LIMIT => {
+                is_double(content(self.text, a, b)?).then_some(at + 1)?
+            }
+            kind::DATE_TIME if b <= SIZE_LIMIT => {
+                is_date_time(content(self.text, a, b)?).then_some(at + 1)?
             }
             kind::BINARY => {
                 content(self.text, a, b)?;
