@@ -2,13 +2,10 @@
 //! library and by the second implementation.
 
 use crate::reading::{Compared, Reading};
-#[cfg(feature = "writer")]
 use crate::writing::Writing;
 use second::generate::Random;
-#[cfg(feature = "writer")]
 use second::generate::Table;
 use second::rules::PREFIX;
-#[cfg(feature = "writer")]
 use second::rules::kind;
 
 /// What a Gregorian calendar has in 400 years, after which it repeats.
@@ -65,7 +62,6 @@ pub fn read(random: &mut Random, reading: &mut Reading) -> Compared {
 }
 
 /// Writes the dates of 400 years, which have every length of every month.
-#[cfg(feature = "writer")]
 pub fn written(random: &mut Random, writing: &mut Writing) -> Compared {
     let mut table = Table {
         words: vec![kind::RESPONSE, 0, 1, 2, kind::DATE_TIME, TEXT as u32, 17, 2],
