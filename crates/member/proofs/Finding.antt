@@ -106,3 +106,28 @@ module _ (row : ℕ → Row) (rows r : ℕ) {b : Bool} (e : b ≡ isStruct row r
   struct-next h k = record { fits = omega (arith, struct-inside row rows r e f) }
 
 pub ruleset entering = (no-struct, in-struct, struct-in-room, struct-next)
+
+-- ---- what is found is among the stated rows
+
+module _ (row : ℕ → Row) (rows : ℕ) (s key : List ℕ) where
+  from-inside : (n r : ℕ) {m : Member} → find row s key (membersFrom row rows n r) ≡ At m → m .value < rows
+  unfolding membersFrom find
+  from-inside zero r e = let z : _≡_ {A = ℕ} 0 1 = cc in absurd (omega arith)
+  from-inside (suc n) r {m} e = go (ltb (r + 1) rows) refl (hasKey row s key r) refl (λ i. from-inside n (row (r + 1) .end) i)
+    where
+      go : (b : Bool) → ltb (r + 1) rows ≡ b → (c : Bool) → hasKey row s key r ≡ c
+          → (find row s key (membersFrom row rows n (row (r + 1) .end)) ≡ At m → m .value < rows) → m .value < rows
+      go false h c k more = let i : Absent ≡ At m = rw h at e in let z : _≡_ {A = ℕ} 0 1 = cc in absurd (omega arith)
+      go true h true k more = let i : At (memberOf r (r + 1)) ≡ At m = rw (h, k) at e in let j : memberOf r (r + 1) ≡ m = cc in rw (← j) (ltb-true (r + 1) rows h)
+      go true h false k more = more (rw (h, k) at e)
+
+  in-members : (r : ℕ) {m : Member} → find row s key (members row rows r) ≡ At m → m .value < rows
+  unfolding members find
+  in-members r {m} e = go (isStruct row rows r) refl
+    where
+      go : (b : Bool) → isStruct row rows r ≡ b → m .value < rows
+      go true h = from-inside (row r .b) (r + 1) (rw h at e)
+      go false h = let i : Absent ≡ At m = rw h at e in let z : _≡_ {A = ℕ} 0 1 = cc in absurd (omega arith)
+
+  pub found-inside : (r : ℕ) {f : Found} {m : Member} {room : ℕ} → f ≡ find row s key (members row rows r) → f ≡ At m → rows ≤ room → m .value < room
+  found-inside r e g h = omega (arith, in-members r (sym e ∙ g))
