@@ -1,0 +1,2 @@
+-- The laws of `position`.
+pub mod Settling
