@@ -37,7 +37,7 @@ use Rattle.lookup.specs.Answers.{signed, decimalAnswer, contentAnswer, i
 -- ---- 32 bits as a signed number
 
 module _ (n : ℕ) (f : Fits w32 n) where
-  wide : toZ w64 n ≡ pos n
+  pub wide : toZ w64 n ≡ pos n
   wide = rw (lt-ltb n 9223372036854775808 (omega arith))
 
   below : pos n -ℤ pos 4294967296 ≡ negsuc (4294967296 - suc n)

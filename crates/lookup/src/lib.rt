@@ -9,6 +9,7 @@ ghost use mathlib.Core.Path.{_≡_};
 ghost use Prim.Native.Nat.{_*_, _≤_, _<_};
 ghost use lib.ListN.{length};
 ghost use Rattle.draft.specs.Table.{rowAt};
+ghost use Rattle.lookup.specs.Reports.{plusZero, reported, reportOf};
 ghost use Rattle.lookup.specs.Answers.{numberOf, signed as signedOf, decimalAnswer, contentAnswer, itemAnswer, answerAt, look as lookIn, lookup as lookupIn};
 
 // Why nothing is answered: the table is not writable; the row is no Struct, or has no such member, or it is of the wrong sort; too many digits.
@@ -26,6 +27,17 @@ pub enum Answer {
     Text { offset: u32, length: u32 },
     Row(u32),
     Refused(Refusal),
+}
+
+// An answer in numbers, for programs in C and Rust. The sort is 1 for a whole number, 2 for a decimal, 3 for a yes or no, 4 for a text, 5 for another
+// item's row, and 0 for a refusal; `number` is 0 then or the refusal's, and what is not the answer's is 0.
+pub struct Report {
+    pub number: u8,
+    pub sort: u8,
+    pub whole: i64,
+    pub decimal: f64,
+    pub offset: u64,
+    pub length: u64,
 }
 
 // The papers' number of a refusal.
@@ -126,4 +138,58 @@ pub fn lookup(table: &[u32], rows: usize, text: &[u8], r: usize, key: &[u8]) -> 
         return look(table, room, rows, text, r, key);
     }
     Answer::Refused(Refusal::NotWritable)
+}
+
+fn with_whole(sort: u8, whole: i64) -> Report
+    ensures { λ r. ⌜ r ≡ reported 0 sort whole plusZero 0 0 ⌝ }
+{
+    Report {
+        number: 0,
+        sort,
+        whole,
+        decimal: 0.0,
+        offset: 0,
+        length: 0,
+    }
+}
+
+// An answer in numbers.
+pub fn report_of(answer: Answer) -> Report
+    ensures { λ r. ⌜ r ≡ reportOf answer ⌝ }
+{
+    match answer {
+        Answer::Whole(n) => with_whole(1, n),
+        Answer::Decimal(x) => Report {
+            number: 0,
+            sort: 2,
+            whole: 0,
+            decimal: x,
+            offset: 0,
+            length: 0,
+        },
+        Answer::Truth(b) => {
+            if b {
+                with_whole(3, 1)
+            } else {
+                with_whole(3, 0)
+            }
+        }
+        Answer::Text { offset, length } => Report {
+            number: 0,
+            sort: 4,
+            whole: 0,
+            decimal: 0.0,
+            offset: offset as u64,
+            length: length as u64,
+        },
+        Answer::Row(r) => with_whole(5, r as i64),
+        Answer::Refused(refusal) => Report {
+            number: number(refusal),
+            sort: 0,
+            whole: 0,
+            decimal: 0.0,
+            offset: 0,
+            length: 0,
+        },
+    }
 }

@@ -3,14 +3,15 @@ use mathlib.Core.Bool.{Bool, true, false, _||_}
 use mathlib.Core.List.{List}
 use Prim.Native.Nat.{ℕ}
 use lib.Dec.{eqb}
-use lib.IntN.{pos}
-use lib.Ieee.{Float, fin}
+use lib.Ieee.{Float}
 use Rattle.draft.specs.Bytes.{bytes}
 use Rattle.lookup.specs.declared.Refusal as Why
 use Rattle.lookup.specs.declared.Refusal.the-variants.{NotWritable, NoMember, TooManyDigits}
 use Rattle.lookup.specs.declared.Answer.{Answer}
 use Rattle.lookup.specs.declared.Answer.the-variants.{Whole, Decimal, Truth, Text, Row, Refused}
 use Rattle.lookup.specs.Answers.{numberOf, lookup}
+use Rattle.lookup.specs.Reports.{plusZero}
+use Rattle.position.specs.declared.Outcome.{Outcome}
 use Rattle.position.specs.declared.Outcome.the-variants as outcome
 use Rattle.position.specs.declared.Position.{Position}
 use Rattle.position.specs.declared.Placed.{Placed}
@@ -24,10 +25,6 @@ coordinateNumber (Text o n) = 18
 coordinateNumber (Row r) = 18
 coordinateNumber (Refused why) = numberOf why
 
--- +0.0
-abbrev pub plusZero : Float
-plusZero = fin false 0 (pos 0)
-
 abbrev pub coordinateValue : Answer → Float
 coordinateValue (Decimal x) = x
 coordinateValue (Whole n) = plusZero
@@ -35,6 +32,11 @@ coordinateValue (Truth b) = plusZero
 coordinateValue (Text o n) = plusZero
 coordinateValue (Row r) = plusZero
 coordinateValue (Refused why) = plusZero
+
+-- 0, or the refusal's number
+abbrev pub outcomeNumber : Outcome → ℕ
+outcomeNumber outcome.Accepted = 0
+outcomeNumber (outcome.Refused why) = numberOf why
 
 abbrev pub at : Float → Float → Float → Position
 at x y turn = record { x = x; y = y; turn = turn }

@@ -5,7 +5,7 @@ use lookup::Refusal;
 ghost use mathlib.Core.Path.{_≡_};
 ghost use mathlib.Core.Bool.{_||_};
 ghost use lib.Dec.{eqb};
-ghost use Rattle.position.specs.Placing.{coordinateNumber, coordinateValue, isAny, acceptedAt, refusedWith, settled, position as positionIn};
+ghost use Rattle.position.specs.Placing.{outcomeNumber, coordinateNumber, coordinateValue, isAny, acceptedAt, refusedWith, settled, position as positionIn};
 
 // Where the laser goes.
 pub struct Position {
@@ -24,6 +24,16 @@ pub enum Outcome {
 pub struct Placed {
     pub outcome: Outcome,
     pub position: Position,
+}
+
+// The papers' number of an outcome: 0, or the refusal's.
+pub fn number(outcome: Outcome) -> u8
+    ensures { λ n. ⌜ n ≡ outcomeNumber outcome ⌝ }
+{
+    match outcome {
+        Outcome::Accepted => 0,
+        Outcome::Refused(refusal) => lookup::number(refusal),
+    }
 }
 
 // The number of the refusal of an answer as a coordinate, or 0: a coordinate comes from a Double.
