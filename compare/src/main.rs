@@ -72,6 +72,7 @@ fn compare(run: &mut Run) -> Compared {
     let mut jobs = Jobs::new();
     shortest::tried(&mut run.random)?;
     reading.papers(run)?;
+    writing.papers(run)?;
     reading.edges(run)?;
     jobs.edges(run)?;
     while !run.tally.is_over() {

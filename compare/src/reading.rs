@@ -83,7 +83,10 @@ impl Reading {
         let edges = papers::EDGES
             .iter()
             .map(|(rest, ..)| [PREFIX, *rest].concat());
-        for message in whole.chain(edges) {
+        let again = papers::USED_AGAIN
+            .iter()
+            .map(|&(texts, length)| papers::positions_used_again(texts, length));
+        for message in whole.chain(edges).chain(again) {
             for words in (0..=60).chain([16_383, 16_384, 20_000]) {
                 self.call(run, &message, words)?;
             }

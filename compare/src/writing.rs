@@ -8,7 +8,7 @@ use crate::tally::Run;
 use binmode::Written;
 use second::generate::{Random, Table, few_strings, output_length, table};
 use second::rules::{BYTE_LIMIT, ROW_LIMIT, ROW_WORDS, kind};
-use second::{Write, hex};
+use second::{Read, Write, hex, papers};
 
 pub struct Writing {
     words: Lent<u32>,
@@ -84,6 +84,19 @@ impl Writing {
         None
     }
 
+    /// Messages with positions used again, written: the last one's form is too
+    /// long.
+    pub fn papers(&mut self, run: &mut Run) -> Compared {
+        for (texts, length) in papers::USED_AGAIN {
+            let table = read_table(papers::positions_used_again(texts, length));
+            let need = self.need(&mut run.random, &table);
+            for room in [need, need.saturating_sub(1), 2 * BYTE_LIMIT] {
+                self.call(run, &table, room)?;
+            }
+        }
+        Ok(())
+    }
+
     /// A generated table, good or not, with several outputs.
     pub fn round(&mut self, run: &mut Run) -> Compared {
         let table = match run.random.below(4_000) {
@@ -156,6 +169,17 @@ impl Writing {
         }
         Ok(())
     }
+}
+
+/// The table that reading a message gives, with the message as text bytes.
+fn read_table(text: Vec<u8>) -> Table {
+    let mut words = vec![0; ROW_LIMIT * ROW_WORDS];
+    let rows = match second::read(&text, &mut words) {
+        Read::Accepted { rows, .. } => rows,
+        Read::Refused { .. } => 0,
+    };
+    words.truncate(rows * ROW_WORDS);
+    Table { words, rows, text }
 }
 
 /// Many long texts that lie in the same bytes and begin alike.

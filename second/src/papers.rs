@@ -1,6 +1,8 @@
 //! The messages of documents 01 and 002, and of document 02's faults, as byte
 //! strings with names.
 
+use crate::rules::{POSITIONS, PREFIX};
+
 /// The bytes of a line written as 002 writes them: octal as in C strings, and
 /// a blank with a trailing `\` where the next line is joined on.
 pub fn bytes_of(line: &str) -> Vec<u8> {
@@ -81,6 +83,26 @@ pub const EMPTY_RECORDED: &str = r"binmode-rpc:RA\002\0\0\0>\0\0\0\0\0<\0";
 pub const HUGE_COUNT: &str = r"binmode-rpc:RA\377\377\377\377";
 
 pub const HUGE_COUNT_WITH_ITEM: &str = r"binmode-rpc:RA\377\377\377\377t";
+
+/// Document 01's sender who uses a position again: an Array of so many texts,
+/// each recorded and recalled at once, at positions 0 to 255 and from 0 again.
+pub fn positions_used_again(texts: usize, length: usize) -> Vec<u8> {
+    let strings = (2 * texts as u32).to_le_bytes();
+    let mut message = [PREFIX, &b"RA"[..], &strings].concat();
+    for number in 0..texts {
+        let text = format!("{number:0length$}");
+        let position = (number % POSITIONS) as u8;
+        message.extend([b'>', position]);
+        message.extend((text.len() as u32).to_le_bytes());
+        message.extend(text.bytes());
+        message.extend([b'<', position]);
+    }
+    message
+}
+
+/// How many texts, and of how many bytes: as many as there are positions; more,
+/// with a written form that fits; and more, with one that is too long.
+pub const USED_AGAIN: [(usize, usize); 3] = [(256, 200), (300, 100), (300, 200)];
 
 /// All of them, in the papers' order, each with a table's number of words.
 pub const ALL: [(&str, usize); 17] = [

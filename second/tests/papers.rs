@@ -503,3 +503,23 @@ fn past_all_positions() {
     );
     assert!(same_meaning((&table, 602, &text), (&back, 602, &written)));
 }
+
+#[test]
+fn positions_again() {
+    let [every, fits, too_long] = USED_AGAIN;
+    // A message with as many texts as positions is its own written form; with
+    // more texts the form is longer, and refused where it is over the limit.
+    let message = positions_used_again(every.0, every.1);
+    assert_eq!(rewritten(&message), message);
+    let message = positions_used_again(fits.0, fits.1);
+    assert_eq!(
+        rewritten(&message).len(),
+        18 + 256 * (106 + 2) + 44 * 2 * 105
+    );
+    let message = positions_used_again(too_long.0, too_long.1);
+    let (answer, table) = read_wide(&message);
+    let used = 18 + 300 * (206 + 2);
+    assert_eq!(answer, Read::Accepted { rows: 602, used });
+    let (answer, _) = write_into(&table, 602, &message, 2 * BYTE_LIMIT);
+    assert_eq!(answer, Write::Refused { number: 12 });
+}

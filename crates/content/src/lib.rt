@@ -25,10 +25,10 @@ pub fn judge(content: Content, s: &[u8]) -> Verdict
     ensures { λ r. ⌜ r ≡ contentRule content (now (s .entry)) ⌝ }
 {
     match content {
-        Content::Double => fine_if(text::is_ascii(s)),
-        Content::DateTime => fine_if(text::is_ascii(s)),
+        Content::Double => fine_if(ascii::is_ascii(s)),
+        Content::DateTime => fine_if(ascii::is_ascii(s)),
         Content::Binary => Verdict::Fine,
-        Content::Text => fine_if(text::is_utf8(s)),
+        Content::Text => fine_if(text_check::is_utf8(s)),
     }
 }
 
@@ -59,7 +59,7 @@ pub fn inspect(content: Content, s: &[u8], o: usize, n: usize) -> Verdict
 pub fn judge_name(s: &[u8]) -> Verdict
     ensures { λ r. ⌜ r ≡ nameRule (now (s .entry)) ⌝ }
 {
-    if text::is_standard_name(s) {
+    if names::is_standard_name(s) {
         Verdict::Bad(Refusal::StandardName)
     } else {
         Verdict::Fine

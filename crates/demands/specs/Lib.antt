@@ -4,4 +4,5 @@ pub mod Jobs
 pub mod Lookups
 pub mod Reading
 pub mod Settled
+pub mod Writer
 pub mod Writing

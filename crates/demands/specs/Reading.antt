@@ -70,13 +70,13 @@ pub exactly :
     (s : List ℕ) (words used : ℕ) (cells : List Cell)
     → Accepts (reading s words) s used cells ↔ ((length s ≤ 65536) × (length cells ≤ roomOf 4096 words) × Begins s used 32 cells)
 unfolding reading
-exactly s words used cells = (there, λ h. complete 65536 s (roomOf 4096 words) 32 (h .2) (h .0) (h .1) (omega arith))
-  where
-    there : Accepts (reading s words) s used cells → (length s ≤ 65536) × (length cells ≤ roomOf 4096 words) × Begins s used 32 cells
-    there a =
-        let d = sound 65536 s (roomOf 4096 words) 32 (a .is) in
-        let e : d .cells ≡ cells = one-list (d .meaning) (a .meaning) in
-        (d .bytes, omega (arith, counts (a .meaning), d .fits), rw e at (d .begins))
+exactly s words used cells = (
+  λ a.
+      let d = sound 65536 s (roomOf 4096 words) 32 (a .is) in
+      let e : d .cells ≡ cells = one-list (d .meaning) (a .meaning) in
+      (d .bytes, omega (arith, counts (a .meaning), d .fits), rw e at (d .begins)),
+  λ h. complete 65536 s (roomOf 4096 words) 32 (h .2) (h .0) (h .1) (omega arith),
+)
 
 -- NESTING is spoken of by a bound: what nests to a depth of at most d nests to at most any greater one.
 pub nesting-bound : {s : List ℕ} {used d e : ℕ} {cells : List Cell} → Begins s used d cells → d ≤ e → Begins s used e cells
@@ -147,35 +147,25 @@ pub put-aside :
     (s : List ℕ) (used : ℕ)
     → ((room : ℕ) × (deep : ℕ) × (rows : List Row) × (book : Book) × (message s room deep ≡ got rows used book))
     ↔ ((nesting : ℕ) × (cells : List Cell) × Begins s used nesting cells)
-put-aside s used = (there, back)
-  where
-    there :
-        ((room : ℕ) × (deep : ℕ) × (rows : List Row) × (book : Book) × (message s room deep ≡ got rows used book))
-        → (nesting : ℕ) × (cells : List Cell) × Begins s used nesting cells
-    there (room, deep, rows, book, e) = let g = derived-from s room deep e in (deep, g .cells, begins s room deep g)
-
-    back :
-        ((nesting : ℕ) × (cells : List Cell) × Begins s used nesting cells)
-        → (room : ℕ) × (deep : ℕ) × (rows : List Row) × (book : Book) × (message s room deep ≡ got rows used book)
-    back (nesting, cells, b) =
-        let g = reads s (length cells) nesting b (omega arith) (omega arith) in
-        (length cells, nesting, g .rows, g .book, g .is)
+put-aside s used = (
+  λ h. let g = derived-from s (h .0) (h .1) (h .4) in (h .1, g .cells, begins s (h .0) (h .1) g),
+  λ h.
+      let g = reads s (length (h .1)) (h .0) (h .2) (omega arith) (omega arith) in
+      (length (h .1), h .0, g .rows, g .book, g .is),
+)
 
 pub put-aside-meaning :
     (s : List ℕ) (used : ℕ) (cells : List Cell)
     → ((room : ℕ) × (deep : ℕ) × Accepts (message s room deep) s used cells) ↔ ((nesting : ℕ) × Begins s used nesting cells)
-put-aside-meaning s used cells = (there, back)
-  where
-    there : ((room : ℕ) × (deep : ℕ) × Accepts (message s room deep) s used cells) → (nesting : ℕ) × Begins s used nesting cells
-    there (room, deep, a) =
-        let g = derived-from s room deep (a .is) in
-        let e : g .cells ≡ cells = one-list (g .realises) (a .meaning) in
-        (deep, rw e at (begins s room deep g))
-
-    back : ((nesting : ℕ) × Begins s used nesting cells) → (room : ℕ) × (deep : ℕ) × Accepts (message s room deep) s used cells
-    back (nesting, b) =
-        let g = reads s (length cells) nesting b (omega arith) (omega arith) in
-        (length cells, nesting, record { rows = g .rows; book = g .book; is = g .is; meaning = g .realises })
+put-aside-meaning s used cells = (
+  λ h.
+      let g = derived-from s (h .0) (h .1) (h .2 .is) in
+      let e : g .cells ≡ cells = one-list (g .realises) (h .2 .meaning) in
+      (h .1, rw e at (begins s (h .0) (h .1) g)),
+  λ h.
+      let g = reads s (length cells) (h .0) (h .1) (omega arith) (omega arith) in
+      (length cells, h .0, record { rows = g .rows; book = g .book; is = g .is; meaning = g .realises }),
+)
 
 -- GROWTH of the limits. With no less room and no less nesting, an answer other than 8 and 9 stays, with its place, rows and bytes used.
 pub growth-of-limits :

@@ -1,9 +1,9 @@
 // Lists a job file: `joblist FILE` has a line for each card, then how many there are, and what is wrong with the job if something is;
 // `joblist FILE NUMBER` has the rows of one card.
 use console::Input;
-use job::Found;
-use job::JobRefusal;
 use libc::STDERR_FILENO;
+use records::Found;
+use records::JobRefusal;
 
 // The most bytes of a job file that the program takes.
 const MOST: usize = 4194304;
@@ -22,8 +22,8 @@ fn write_end(cards: usize, refusal: JobRefusal, place: usize) {
     console::write_count(cards);
     match refusal {
         JobRefusal::NoCard => {}
-        JobRefusal::FileEnded => console::write_refusal(job::number(refusal), place),
-        JobRefusal::WrongEnd => console::write_refusal(job::number(refusal), place),
+        JobRefusal::FileEnded => console::write_refusal(records::number(refusal), place),
+        JobRefusal::WrongEnd => console::write_refusal(records::number(refusal), place),
     }
 }
 
@@ -32,7 +32,7 @@ fn list_all(file: &[u8], table: &mut [u32]) {
     let mut number = 0;
     let mut from = 0;
     while from <= file.len() {
-        let found = job::find_next(file, number, from);
+        let found = records::find_next(file, number, from);
         match found {
             Found::Missing { refusal, place } => {
                 write_end(number, refusal, place);
@@ -58,7 +58,7 @@ fn list_one(file: &[u8], number: usize, table: &mut [u32]) {
             console::write_refusal(draft::number(refusal), place);
         }
         job::Answer::Missing { refusal, place } => {
-            console::write_refusal(job::number(refusal), place);
+            console::write_refusal(records::number(refusal), place);
         }
     }
 }

@@ -39,7 +39,7 @@ fn has_key(table: &[u32], room: usize, text: &[u8], r: usize, key: &[u8]) -> boo
     ensures { λ b. ⌜ b ≡ hasKey (rowAt room (now (table .entry))) (now (text .entry)) (now (key .entry)) r ⌝ }
 {
     let row = table::get_row(table, room, r);
-    text::equal(content::part(text, row.a as usize, row.b as usize), key)
+    names::equal(content::part(text, row.a as usize, row.b as usize), key)
 }
 
 // Where the item of row r ends.
