@@ -3,21 +3,26 @@ use mathlib.Core.Path.{_≡_}
 use mathlib.Core.Bool.{Bool, true, false, cond, _&&_}
 use mathlib.Core.List.{List, [], _∷_}
 use Prim.Native.Nat.{ℕ, _+_, _-_, _*_}
+use Prim.Native.Char.{code}
 use lib.ListN.{length, drop}
 use lib.Dec.{leb, eqb}
 
 -- `0` to `9`
 unfoldable pub digit : ℕ → Bool
-digit b = leb 48 b && leb b 57
+digit b = leb (code "0") b && leb b (code "9")
+
+-- what a digit counts
+abbrev pub digitValue : ℕ → ℕ
+digitValue b = b - code "0"
 
 -- `1` to `9`
 unfoldable pub nonzero : ℕ → Bool
-nonzero b = leb 49 b && leb b 57
+nonzero b = leb (code "1") b && leb b (code "9")
 
 -- what the digits of a text count, in order
 unfoldable pub digitsOf : List ℕ → List ℕ
 digitsOf [] = []
-digitsOf (b ∷ s) = cond (digit b) ((b - 48) ∷ digitsOf s) (digitsOf s)
+digitsOf (b ∷ s) = cond (digit b) (digitValue b ∷ digitsOf s) (digitsOf s)
 
 -- 'after leading zeros are dropped'
 unfoldable pub significant : List ℕ → List ℕ
@@ -32,12 +37,12 @@ whole n (d ∷ ds) = whole (10 * n + d) ds
 -- how many digits stand 'after the point'
 unfoldable pub places : List ℕ → ℕ
 places [] = 0
-places (b ∷ s) = cond (eqb b 46) (length s) (places s)
+places (b ∷ s) = cond (eqb b (code ".")) (length s) (places s)
 
 -- 'if the sign is minus'
 unfoldable pub negative : List ℕ → Bool
 negative [] = false
-negative (b ∷ s) = eqb b 45
+negative (b ∷ s) = eqb b (code "-")
 
 -- the digits that count are those from a place on
 pub record Counting (s : List ℕ) (from : ℕ) : Type 0 where

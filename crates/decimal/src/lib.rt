@@ -3,7 +3,7 @@ ghost use mathlib.Core.Path.{_≡_};
 ghost use mathlib.Core.Bool.{true};
 ghost use Prim.Native.Nat.{_-_, _^_, _≤_, _<_};
 ghost use lib.ListN.{length, drop};
-ghost use Rattle.decimal.specs.Digits.{digit, nonzero, digitsOf, Counting, places as placesOf, negative};
+ghost use Rattle.decimal.specs.Digits.{digit, digitValue, nonzero, digitsOf, Counting, places as placesOf, negative};
 ghost use Rattle.decimal.specs.Decimal.{power as powerOf, quotient as quotientOf, signed as signedBy, gathered, decimalOf};
 
 // The value of a text, or that it has too many digits: more than 15 after leading zeros are dropped, or more than 22 after the point.
@@ -72,7 +72,7 @@ fn is_negative(s: &[u8]) -> bool
     ensures { λ r. ⌜ r ≡ negative (now (s .entry)) ⌝ }
 {
     if 0 < s.len() {
-        return s[0] == 45;
+        return s[0] == b'-';
     }
     false
 }
@@ -83,7 +83,7 @@ fn places(s: &[u8]) -> usize
 {
     let mut i = 0;
     while i < s.len() {
-        if s[i] == 46 {
+        if s[i] == b'.' {
             return s.len() - (i + 1);
         }
         i += 1;
@@ -95,14 +95,14 @@ fn places(s: &[u8]) -> usize
 fn is_digit(b: u8) -> bool
     ensures { λ r. ⌜ r ≡ digit b ⌝ }
 {
-    (48 <= b) & (b <= 57)
+    (b'0' <= b) & (b <= b'9')
 }
 
 // Whether a byte is one of `1` to `9`.
 fn is_nonzero(b: u8) -> bool
     ensures { λ r. ⌜ r ≡ nonzero b ⌝ }
 {
-    (49 <= b) & (b <= 57)
+    (b'1' <= b) & (b <= b'9')
 }
 
 // The place of the first digit that is no leading zero.
@@ -122,9 +122,9 @@ fn past_zeros(s: &[u8]) -> usize
 // What a digit counts.
 fn digit_value(b: u8) -> u64
     requires { ⌜ digit b ≡ true ⌝ }
-    ensures { λ r. ⌜ (r ≡ b - 48) × (r ≤ 9) ⌝ }
+    ensures { λ r. ⌜ (r ≡ digitValue b) × (r ≤ 9) ⌝ }
 {
-    (b - 48) as u64
+    (b - b'0') as u64
 }
 
 // The digits from a place on as a whole number.

@@ -4,7 +4,7 @@ use mathlib.Core.Path.{_≡_, refl, sym, ap, _∙_}
 use mathlib.Core.Bool.{Bool, true, false}
 use mathlib.Core.Logic.{_↔_, _⊎_, inl, inr}
 use mathlib.Core.List.{List, [], _∷_, _++_}
-use Prim.Native.Nat.{ℕ, _^_, _≤_, _<_}
+use Prim.Native.Nat.{ℕ, _+_, _^_, _≤_, _<_}
 use native.Mathlib.Omega.{arith}
 use lib.ListN.{length}
 use lib.Ieee.{Float}
@@ -38,8 +38,8 @@ use Rattle.lookup.specs.Reports.{plusZero}
 use Rattle.position.specs.declared.Outcome.the-variants as outcome
 use Rattle.position.specs.Placing.{at, acceptedAt, refusedWith, position, Lengthy}
 use Rattle.position.proofs.Together.{accepted-of, accepted-by, zeros-of, unwritable-of, long-of}
-use Rattle.meant.specs.Meant.{Answered}
-use Rattle.meant.proofs.Saying.{standing, answered}
+use Rattle.meant.specs.Meant.{membersOf, Said, StructAt, Answered}
+use Rattle.meant.proofs.Saying.{standing, struct-said, answered}
 use Rattle.demands.specs.Reading.{sound, one-meaning}
 use Rattle.demands.specs.Writing.{Octets, read-rows, read-writable}
 
@@ -61,6 +61,14 @@ module _ (T : List ℕ) (rows : ℕ) (s : List ℕ) (e : writable T rows s ≡ t
       rw e
       (answered (rowAt (roomOf 4096 (length T)) T) s (standing (rowAt (roomOf 4096 (length T)) T) s rows (g .meaning)) rows
       (sym (counts (g .meaning)) ∙ rows-length 4096 T rows) key (g .derived) r)
+
+  -- by whichever derivation of the Struct
+  pub struct-says : {r : ℕ} (st : StructAt (g .cells) r) (key : List ℕ) → Said s key (r + 1) (membersOf (st .pairs)) (lookup T rows s r key)
+  unfolding lookup rowsOf
+  struct-says st key =
+      rw e
+      (struct-said (rowAt (roomOf 4096 (length T)) T) s (standing (rowAt (roomOf 4096 (length T)) T) s rows (g .meaning)) rows
+      (sym (counts (g .meaning)) ∙ rows-length 4096 T rows) key st)
 
 -- WHAT A MESSAGE SAYS. Of a message that was read, a key looked up in the table that reading left is answered by what the draft derives: by the
 -- meaning of the first member with that key.
