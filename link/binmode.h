@@ -43,6 +43,7 @@ extern "C" {
 #define BINMODE_BAD_FAULT 14        /* read: a fault's Struct without exactly faultCode (Integer) and faultString (String) */
 #define BINMODE_FILE_ENDED 15       /* job file: it ends before or inside a record, with no kind 2 yet */
 #define BINMODE_WRONG_END 16        /* job file: a kind 2 body of wrong length or number */
+#define BINMODE_BAD_VALUE 17        /* read: a Double or DateTime in ASCII that is no such text, as "5." or 30 February */
 #define BINMODE_NO_MEMBER 18        /* lookup: the row is no Struct, or the member is absent or of the wrong sort */
 #define BINMODE_TOO_MANY_DIGITS 19  /* lookup: a Double of more than 15 digits, or of more than 22 after the point */
 #define BINMODE_NO_CARD 26          /* job file: a sound job ends before the card asked for */
@@ -87,7 +88,7 @@ extern "C" {
  *                            the others: the item's, which is 12 for the Call or Response, 13 for what follows `R` and 14
  *                            for what follows `RF`.
  *
- * Gives BINMODE_ACCEPTED, and the table has the rows and then zeros; or a refusal's number (1 to 10, or 14), and the whole table
+ * Gives BINMODE_ACCEPTED, and the table has the rows and then zeros; or a refusal's number (1 to 10, 14 or 17), and the whole table
  * is zeros. The first failure from left to right decides.
  */
 uint8_t binmode_read(const uint8_t *message, size_t message_len, uint32_t *table, size_t table_words, uint64_t *rows,
@@ -122,8 +123,8 @@ uint8_t binmode_write(const uint32_t *table, size_t table_words, size_t rows, co
  *   table, table_words    the table, as for binmode_read; offsets in its rows count from the card's first byte
  *   rows                  is set to the number of rows; 0 on a refusal
  *   used                  is set to the number of the body's bytes used; 0 on a refusal
- *   place                 is set to 0 on acceptance; on a refusal that is the card's own (1 to 10) to its place, counted from
- *                         the card's first byte; on BINMODE_FILE_ENDED, BINMODE_WRONG_END and BINMODE_NO_CARD to the first
+ *   place                 is set to 0 on acceptance; on a refusal that is the card's own (1 to 10, 14 or 17) to its place, counted
+ *                         from the card's first byte; on BINMODE_FILE_ENDED, BINMODE_WRONG_END and BINMODE_NO_CARD to the first
  *                         byte in the file of the record that gives it (file_len, if none begins there)
  *   body                  is set to the first byte of the card's body in the file; 0 on a refusal
  *
@@ -142,10 +143,11 @@ uint8_t binmode_read_card(const uint8_t *file, size_t file_len, size_t number, u
  *   number                how many cards stand before `from`, which is the number of the card that is looked for
  *   from                  where the next record begins
  *   start, length         are set to where the card's body lies in the file; 0 if there is none
- *   place                 is set to 0, or to the place of the refusal
+ *   place                 is set to 0, or to the place of the refusal: the first byte in the file of the record that gives it. If
+ *                         none begins at `from` (it is file_len or more), that is `from` itself, with BINMODE_FILE_ENDED
  *
- * Gives BINMODE_ACCEPTED, or BINMODE_FILE_ENDED, BINMODE_WRONG_END or BINMODE_NO_CARD, placed as by binmode_read_card. A
- * sound job ends with BINMODE_NO_CARD.
+ * Gives BINMODE_ACCEPTED, or BINMODE_FILE_ENDED, BINMODE_WRONG_END or BINMODE_NO_CARD. A sound job ends with
+ * BINMODE_NO_CARD.
  */
 uint8_t binmode_next_card(const uint8_t *file, size_t file_len, size_t number, size_t from, uint64_t *start,
                           uint64_t *length, uint64_t *place);

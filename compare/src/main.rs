@@ -2,16 +2,13 @@
 //! messages, tables and job files: `compare SEED CALLS`. Ends with 1 where they differ.
 
 mod change;
-#[cfg(feature = "writer")]
 mod edges;
 mod gather;
 mod job;
 mod lent;
 mod reading;
-#[cfg(feature = "writer")]
 mod shortest;
 mod tally;
-#[cfg(feature = "writer")]
 mod writing;
 
 use job::Jobs;
@@ -19,6 +16,7 @@ use reading::{Compared, Reading};
 use second::generate::Random;
 use std::process::ExitCode;
 use tally::{Run, Tally};
+use writing::Writing;
 
 fn main() -> ExitCode {
     let words: Vec<String> = std::env::args().skip(1).collect();
@@ -49,26 +47,9 @@ fn main() -> ExitCode {
     }
 }
 
-#[cfg(not(feature = "writer"))]
 fn compare(run: &mut Run) -> Compared {
     let mut reading = Reading::new();
-    let mut jobs = Jobs::new();
-    reading.papers(run)?;
-    reading.edges(run)?;
-    jobs.edges(run)?;
-    while !run.tally.is_over() {
-        reading.round(run)?;
-        if run.random.one_in(4) {
-            jobs.round(run)?;
-        }
-    }
-    Ok(())
-}
-
-#[cfg(feature = "writer")]
-fn compare(run: &mut Run) -> Compared {
-    let mut reading = Reading::new();
-    let mut writing = writing::Writing::new();
+    let mut writing = Writing::new();
     let mut jobs = Jobs::new();
     shortest::tried(&mut run.random)?;
     reading.papers(run)?;

@@ -69,7 +69,6 @@ impl Tally {
     }
 
     /// Notes a call of the writer.
-    #[cfg_attr(not(feature = "writer"), expect(dead_code))]
     pub fn wrote(&mut self, number: u8) {
         self.left -= 1;
         self.writing[usize::from(number)] += 1;

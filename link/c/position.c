@@ -89,8 +89,12 @@ static int of_card(const uint8_t *file, size_t length, size_t row, size_t card)
 int main(int count, char **words)
 {
     size_t length, row, card = 0;
-    if ((count != 3 && count != 4) || !parse(words[2], &row) || (count == 4 && !parse(words[3], &card))) {
+    if (count != 3 && count != 4) {
         fputs("usage: position FILE ROW [CARD]\n", stderr);
+        return 2;
+    }
+    if (!parse(words[2], &row) || (count == 4 && !parse(words[3], &card))) {
+        fputs("position: ROW or CARD is not a number, or too large\n", stderr);
         return 2;
     }
     uint8_t *file = read_file(words[1], &length);
@@ -99,5 +103,9 @@ int main(int count, char **words)
         return 2;
     }
     int status = count == 3 ? of_message(file, length, row) : of_card(file, length, row, card);
-    return fflush(stdout) == 0 ? status : 2;
+    if (fflush(stdout) != 0 || ferror(stdout)) {
+        perror("standard output");
+        return 2;
+    }
+    return status;
 }

@@ -25,14 +25,11 @@ fn main() {
         .iter()
         .for_each(|line| line.print(line.time_reading()));
     growth("reading", Line::time_reading);
-    #[cfg(feature = "writer")]
-    {
-        println!("\n{:34} {}", "writing", heading());
-        lines
-            .iter()
-            .for_each(|line| line.print(line.time_writing()));
-        growth("writing", Line::time_writing);
-    }
+    println!("\n{:34} {}", "writing", heading());
+    lines
+        .iter()
+        .for_each(|line| line.print(line.time_writing()));
+    growth("writing", Line::time_writing);
 }
 
 fn heading() -> String {
@@ -46,6 +43,7 @@ fn heading() -> String {
 fn lines() -> Vec<Line> {
     vec![
         Line::new("a  card of 300 members", card(300)),
+        Line::new("a  card with 50 dates and 50 Doubles", dated_card(300)),
         Line::new("b  text of 65,000 ASCII bytes", text(&"a".repeat(65_000))),
         Line::new("c  text of two to four byte forms", text(&mixed_text())),
         Line::new("d  4,000 Integers", array(4_000, integer)),
@@ -86,7 +84,6 @@ fn grown(name: &str, members: usize, message: Vec<u8>, time: fn(&Line) -> Times)
 struct Line {
     name: String,
     message: Vec<u8>,
-    #[cfg_attr(not(feature = "writer"), expect(dead_code))]
     table: Vec<u32>,
     rows: usize,
 }
@@ -129,7 +126,6 @@ impl Line {
         times(buffer, library, second)
     }
 
-    #[cfg(feature = "writer")]
     fn time_writing(&self) -> Times {
         let output = &mut vec![0; BYTE_LIMIT];
         let (table, rows, text) = (&self.table[..], self.rows, &self.message[..]);
@@ -224,6 +220,14 @@ fn string(text: &str) -> Vec<u8> {
     [field(b'U', text.len()), text.into()].concat()
 }
 
+fn date(text: &str) -> Vec<u8> {
+    [&[b'8', text.len() as u8], text.as_bytes()].concat()
+}
+
+fn double(text: &str) -> Vec<u8> {
+    [&[b'D', text.len() as u8], text.as_bytes()].concat()
+}
+
 fn text(text: &str) -> Vec<u8> {
     response(string(text))
 }
@@ -270,16 +274,37 @@ fn card(members: usize) -> Vec<u8> {
             0 => ("holder", string(&format!("HOLDER {turn}"))),
             1 => ("number", string(&format!("5{turn:07}"))),
             2 => ("issuer", string("First Bank")),
-            3 => ("expires", b"8\x0819991231".to_vec()),
+            3 => ("expires", date("19991231T23:59:59")),
             4 => ("serial", integer(turn)),
             5 => ("active", b"t".to_vec()),
-            6 => ("limit", b"D\x052.750".to_vec()),
+            6 => ("limit", double("2.750")),
             7 => (
                 "track",
                 [field(b'B', 4), b"\0\x01\xff\xfe".to_vec()].concat(),
             ),
             8 => ("currency", string("EUR")),
             _ => ("position", integer(turn * 40)),
+        };
+        value.extend([string(name), item].concat());
+    }
+    response(value)
+}
+
+/// A card of which each sixth member is a date, and each sixth a Double.
+fn dated_card(members: usize) -> Vec<u8> {
+    let mut value = field(b'S', members);
+    for member in 0..members {
+        let turn = member / 6;
+        let (name, item) = match member % 6 {
+            0 => ("holder", string(&format!("HOLDER {turn}"))),
+            1 => (
+                "issued",
+                date(&format!("199807{:02}T14:08:55", 1 + turn % 31)),
+            ),
+            2 => ("serial", integer(turn)),
+            3 => ("limit", double(&format!("{turn}.750"))),
+            4 => ("active", b"t".to_vec()),
+            _ => ("currency", string("EUR")),
         };
         value.extend([string(name), item].concat());
     }

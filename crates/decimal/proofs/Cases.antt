@@ -8,8 +8,9 @@ use Prim.Native.String.{String, [] as empty, _∷_ as first}
 use lib.Count.{trailingZeros}
 use lib.IntN.{pos}
 use lib.Ieee.{Float, fin, binary64, ofInt, ofBits, ofFields, div, neg, round, size, span, climb, units, odd}
+use Rattle.lexical.specs.Digits.{digit}
 use Rattle.decimal.specs.declared.Decimal.the-variants.{Value, TooManyDigits}
-use Rattle.decimal.specs.Digits.{digit, digitsOf, significant, whole, places, negative}
+use Rattle.decimal.specs.Digits.{digitsOf, significant, whole, places, negative}
 use Rattle.decimal.specs.Decimal.{power, quotient, signed, held, decimalOf}
 
 abbrev bytes : String → List ℕ

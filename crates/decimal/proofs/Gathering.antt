@@ -13,9 +13,10 @@ use mir.Syntax.{w64}
 use mir.Val.{Fits}
 use borrow.Author.Tests.{eq-eqb, ne-eqb, le-leb, lt-leb, leb-true, leb-false}
 use Rattle.text.proofs.Comparing.{both, clash, ended}
+use Rattle.lexical.specs.Digits.{digit}
 use Rattle.decimal.specs.declared.Gathered.{Gathered}
 use Rattle.decimal.specs.declared.Gathered.the-variants.{Number, TooMany}
-use Rattle.decimal.specs.Digits.{digit, nonzero, digitsOf, significant, whole, places, negative, Counting}
+use Rattle.decimal.specs.Digits.{nonzero, digitsOf, significant, whole, places, negative, Counting}
 use Rattle.decimal.specs.Decimal.{pickGathered, gathered}
 
 -- ---- the sign

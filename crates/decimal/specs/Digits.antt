@@ -2,18 +2,11 @@
 use mathlib.Core.Path.{_≡_}
 use mathlib.Core.Bool.{Bool, true, false, cond, _&&_}
 use mathlib.Core.List.{List, [], _∷_}
-use Prim.Native.Nat.{ℕ, _+_, _-_, _*_}
+use Prim.Native.Nat.{ℕ, _+_, _*_}
 use Prim.Native.Char.{code}
 use lib.ListN.{length, drop}
 use lib.Dec.{leb, eqb}
-
--- `0` to `9`
-unfoldable pub digit : ℕ → Bool
-digit b = leb (code "0") b && leb b (code "9")
-
--- what a digit counts
-abbrev pub digitValue : ℕ → ℕ
-digitValue b = b - code "0"
+use Rattle.lexical.specs.Digits.{digit, digitValue}
 
 -- `1` to `9`
 unfoldable pub nonzero : ℕ → Bool

@@ -3,7 +3,8 @@ ghost use mathlib.Core.Path.{_≡_};
 ghost use mathlib.Core.Bool.{true};
 ghost use Prim.Native.Nat.{_-_, _^_, _≤_, _<_};
 ghost use lib.ListN.{length, drop};
-ghost use Rattle.decimal.specs.Digits.{digit, digitValue, nonzero, digitsOf, Counting, places as placesOf, negative};
+ghost use Rattle.lexical.specs.Digits.{digit, digitValue};
+ghost use Rattle.decimal.specs.Digits.{nonzero, digitsOf, Counting, places as placesOf, negative};
 ghost use Rattle.decimal.specs.Decimal.{power as powerOf, quotient as quotientOf, signed as signedBy, gathered, decimalOf};
 
 // The value of a text, or that it has too many digits: more than 15 after leading zeros are dropped, or more than 22 after the point.
@@ -91,13 +92,6 @@ fn places(s: &[u8]) -> usize
     0
 }
 
-// Whether a byte is one of `0` to `9`.
-fn is_digit(b: u8) -> bool
-    ensures { λ r. ⌜ r ≡ digit b ⌝ }
-{
-    (b'0' <= b) & (b <= b'9')
-}
-
 // Whether a byte is one of `1` to `9`.
 fn is_nonzero(b: u8) -> bool
     ensures { λ r. ⌜ r ≡ nonzero b ⌝ }
@@ -135,7 +129,7 @@ fn gather(s: &[u8], from: usize) -> Gathered
     let mut count: usize = 0;
     let mut i = from;
     while i < s.len() {
-        if is_digit(s[i]) {
+        if digits::is_digit(s[i]) {
             if count == 15 {
                 return Gathered::TooMany;
             }
