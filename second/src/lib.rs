@@ -8,6 +8,7 @@ pub mod job;
 pub mod lookup;
 pub mod meaning;
 pub mod papers;
+pub mod pieces;
 pub mod questions;
 pub mod reader;
 pub mod rules;
