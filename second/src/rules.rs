@@ -143,6 +143,8 @@ pub mod refusal {
     pub const PREFIX: u8 = 2;
     /// A byte that begins nothing allowed there.
     pub const TAG: u8 = 3;
+    /// The room for pieces is too short.
+    pub const ROOM: u8 = 4;
     /// Bad UTF-8, or a byte of 128 or more in a Double or DateTime.
     pub const TEXT: u8 = 5;
     /// Recall of a position never set.

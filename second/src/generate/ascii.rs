@@ -51,6 +51,29 @@ fn double(random: &mut Random) -> Vec<u8> {
     [sign, &whole, b".", &fraction].concat()
 }
 
+/// A Double around the most digits that a decimal may have: leading zeros, then
+/// up to 17 digits, of which up to 24 stand after the point.
+pub fn decimal(random: &mut Random) -> Vec<u8> {
+    let sign = *random.pick(&[&b""[..], b"+", b"-"]);
+    let count = match random.below(3) {
+        0 => random.between(14, 17),
+        _ => random.between(0, 17),
+    };
+    let mut text = digits(random, count);
+    if !text.is_empty() && random.one_in(2) {
+        text[0] = b'1' + random.below(9) as u8;
+    }
+    let after_point = match random.below(3) {
+        0 => random.between(20, 24),
+        _ => random.between(1, 24),
+    };
+    let leading = (after_point + 1).saturating_sub(text.len());
+    let leading = leading + random.below(4) * random.below(2);
+    text.splice(0..0, vec![b'0'; leading]);
+    text.insert(text.len() - after_point, b'.');
+    [sign, &text].concat()
+}
+
 /// A Double with one thing wrong.
 fn near_double(random: &mut Random) -> Vec<u8> {
     const WRONG: [&[u8]; 17] = [

@@ -75,24 +75,24 @@ fn from_message(random: &mut Random) -> Table {
 }
 
 /// Rows put one after the other, with their ends set when they close.
-struct Rows(Vec<[u32; ROW_WORDS]>);
+pub(super) struct Rows(pub(super) Vec<[u32; ROW_WORDS]>);
 
 impl Rows {
-    fn leaf(&mut self, kind: u32, a: usize, b: usize) {
+    pub(super) fn leaf(&mut self, kind: u32, a: usize, b: usize) {
         let end = self.0.len() as u32 + 1;
         self.0.push([kind, a as u32, b as u32, end]);
     }
 
-    fn open(&mut self, kind: u32, b: usize) -> usize {
+    pub(super) fn open(&mut self, kind: u32, b: usize) -> usize {
         self.leaf(kind, 0, b);
         self.0.len() - 1
     }
 
-    fn close(&mut self, row: usize) {
+    pub(super) fn close(&mut self, row: usize) {
         self.0[row][3] = self.0.len() as u32;
     }
 
-    fn finish(self, text: Vec<u8>) -> Table {
+    pub(super) fn finish(self, text: Vec<u8>) -> Table {
         Table {
             rows: self.0.len(),
             words: self.0.into_iter().flatten().collect(),
@@ -315,7 +315,7 @@ fn near_the_limit(random: &mut Random) -> Table {
 
 /// Damages one word, the number of rows, the words or the text bytes, or the
 /// text of a Double or DateTime.
-pub(super) fn damage(random: &mut Random, table: &mut Table) {
+pub fn damage(random: &mut Random, table: &mut Table) {
     match random.below(24) {
         0 => {
             const FAR: [usize; 5] = [0, ROW_LIMIT, ROW_LIMIT + 1, usize::MAX, usize::MAX / 4 + 1];
