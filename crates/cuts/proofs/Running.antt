@@ -16,7 +16,7 @@ use Rattle.room.specs.Room.{roomAfter}
 use Rattle.pieces.specs.declared.PieceRefusal.the-variants.{Message}
 use Rattle.pieces.specs.declared.State.{State}
 use Rattle.pieces.specs.declared.State.the-variants.{More, Accepted, Refused}
-use Rattle.pieces.specs.Pieces.{refusedWithOne, outcome, wanting, through, roomWith, more, toldOf, soFar}
+use Rattle.pieces.specs.Pieces.{refusedWithOne, outcome, wanting, through, roomWith, more, refusal, pickTold, toldOf, soFar}
 use Rattle.pieces.specs.Steps.{told, pickState, pickList, stateWent, roomWent, tableWent, Went, stateClosed, tableClosed, Closed}
 use Rattle.pieces.specs.Runs.{begun, Runs, none, piece}
 use Rattle.cuts.proofs.Outcomes.{through-step}
@@ -143,3 +143,32 @@ past-stays state {p} {R} {T} {R′} {T′} {state′} w = by (ltb (length R) 655
     by : (b : Bool) → ltb (length R) 65536 ≡ b → drop 65536 R′ ≡ drop 65536 R
     by true e = let r : R′ ≡ R = w .room ∙ rw e in ap (drop 65536) r
     by false e = let r : R′ ≡ roomWent state p R = w .room ∙ rw e in ap (drop 65536) r ∙ went state (ltb-false (length R) 65536 e)
+
+-- ---- what is told
+-- more is told exactly of refusal 1
+pub more-told : (o : Reading) → soFar o ≡ more → refusedWithOne o ≡ true
+more-told o = by (refusedWithOne o) refl
+  where
+    never : (x : Reading) → toldOf x ≡ more → ⊥
+    never (got rows used book) e = let z : _≡_ {A = ℕ} 0 1 = cc in omega arith
+    never (refused m q) e = let z : _≡_ {A = ℕ} 0 1 = cc in omega arith
+
+    by : (b : Bool) → refusedWithOne o ≡ b → pickTold b more (toldOf o) ≡ more → refusedWithOne o ≡ true
+    by true f e = f
+    by false f e = absurd (never o e)
+
+pub told-more : (o : Reading) → refusedWithOne o ≡ true → soFar o ≡ more
+told-more o e = rw e
+
+-- a refusal told so far is that of the bytes so far
+pub refusal-told : (o : Reading) {n p : ℕ} → soFar o ≡ refusal n p → toldOf o ≡ refusal n p
+refusal-told o {n} {p} = by (refusedWithOne o)
+  where
+    by : (b : Bool) → pickTold b more (toldOf o) ≡ refusal n p → toldOf o ≡ refusal n p
+    by true e = let z : _≡_ {A = ℕ} 0 1 = cc in absurd (omega arith)
+    by false e = e
+
+-- refused, the table is zeros
+pub refused-table : (words : ℕ) (o : Reading) → refusedWithOne o ≡ true → tableOf words o ≡ replicate words 0
+refused-table words (got rows used book) e = clash e refl
+refused-table words (refused m q) e = refl
