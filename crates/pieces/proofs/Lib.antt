@@ -1,1 +1,2 @@
 pub mod Piecing
+pub mod Words

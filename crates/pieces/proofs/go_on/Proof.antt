@@ -10,10 +10,10 @@ go-on-spec = tie.close (tie.spec
     (λ c κs. search needs)  -- still-requires
     (λ c. search needs)  -- same-length
     (λ c. search piecing)  -- returns-2
-    (λ c. search needs)  -- sub-settle
-    (λ c. search needs)  -- part-settle-start
-    (λ c. search needs)  -- part-settle-end
-    (λ c κs. search needs)  -- settle-requires
+    (λ c. search needs)  -- sub-look
+    (λ c. search needs)  -- part-look-start
+    (λ c. search needs)  -- part-look-end
+    (λ c κs. search needs)  -- look-requires
     (λ c. search needs)  -- same-length-2
     (λ c. search needs)  -- same-length-3
     (λ c. search piecing))  -- returns-3
