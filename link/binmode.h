@@ -1,5 +1,6 @@
 /*
- * Reading and writing Binmode RPC messages, whole or in pieces, and reading the cards of job files: the functions that libinterface.a exports (x86-64, C's calling convention).
+ * Reading and writing Binmode RPC messages, whole or in pieces, reading the cards of job files, and looking up members: the
+ * functions that libinterface.a exports (x86-64, C's calling convention).
  *
  * No memory is allocated, nothing is kept from call to call but what the caller hands on, and of the C library only memset and its like are used,
  * so calls may run at the same time as long as each has its own buffers.
@@ -37,12 +38,15 @@ extern "C" {
 #define BINMODE_TOO_DEEP 8          /* read: an Array or Struct in more than 32, itself counted */
 #define BINMODE_NO_ROW 9            /* read: no row left in the table */
 #define BINMODE_TOO_LONG 10         /* both: message or text bytes over 65,536 */
-#define BINMODE_NOT_WRITABLE 11     /* write: the table is not writable */
+#define BINMODE_NOT_WRITABLE 11     /* write, lookup: the table is not writable */
 #define BINMODE_FORM_TOO_LONG 12    /* write: the written form is over 65,536 bytes */
 #define BINMODE_OUTPUT_TOO_SHORT 13 /* write: the output is shorter than the written form */
 #define BINMODE_BAD_FAULT 14        /* read: a fault's Struct without exactly faultCode (Integer) and faultString (String) */
 #define BINMODE_FILE_ENDED 15       /* job file: it ends before or inside a record, with no kind 2 yet */
 #define BINMODE_WRONG_END 16        /* job file: a kind 2 body of wrong length or number */
+#define BINMODE_BAD_VALUE 17        /* read: a Double or DateTime in ASCII that is no such text, as "5." or 30 February */
+#define BINMODE_NO_MEMBER 18        /* lookup: the row is no Struct, or the member is absent or of the wrong sort */
+#define BINMODE_TOO_MANY_DIGITS 19  /* lookup: a Double of more than 15 digits, or of more than 22 after the point */
 #define BINMODE_NO_CARD 26          /* job file: a sound job ends before the card asked for */
 #define BINMODE_MORE_WANTED 255     /* pieces: no answer yet */
 
@@ -86,7 +90,7 @@ extern "C" {
  *                            the others: the item's, which is 12 for the Call or Response, 13 for what follows `R` and 14
  *                            for what follows `RF`.
  *
- * Gives BINMODE_ACCEPTED, and the table has the rows and then zeros; or a refusal's number (1 to 10, or 14), and the whole table
+ * Gives BINMODE_ACCEPTED, and the table has the rows and then zeros; or a refusal's number (1 to 10, 14 or 17), and the whole table
  * is zeros. The first failure from left to right decides.
  */
 uint8_t binmode_read(const uint8_t *message, size_t message_len, uint32_t *table, size_t table_words, uint64_t *rows,
@@ -121,8 +125,8 @@ uint8_t binmode_write(const uint32_t *table, size_t table_words, size_t rows, co
  *   table, table_words    the table, as for binmode_read; offsets in its rows count from the card's first byte
  *   rows                  is set to the number of rows; 0 on a refusal
  *   used                  is set to the number of the body's bytes used; 0 on a refusal
- *   place                 is set to 0 on acceptance; on a refusal that is the card's own (1 to 10) to its place, counted from
- *                         the card's first byte; on BINMODE_FILE_ENDED, BINMODE_WRONG_END and BINMODE_NO_CARD to the first
+ *   place                 is set to 0 on acceptance; on a refusal that is the card's own (1 to 10, 14 or 17) to its place, counted
+ *                         from the card's first byte; on BINMODE_FILE_ENDED, BINMODE_WRONG_END and BINMODE_NO_CARD to the first
  *                         byte in the file of the record that gives it (file_len, if none begins there)
  *   body                  is set to the first byte of the card's body in the file; 0 on a refusal
  *
@@ -141,13 +145,60 @@ uint8_t binmode_read_card(const uint8_t *file, size_t file_len, size_t number, u
  *   number                how many cards stand before `from`, which is the number of the card that is looked for
  *   from                  where the next record begins
  *   start, length         are set to where the card's body lies in the file; 0 if there is none
- *   place                 is set to 0, or to the place of the refusal
+ *   place                 is set to 0, or to the place of the refusal: the first byte in the file of the record that gives it. If
+ *                         none begins at `from` (it is file_len or more), that is `from` itself, with BINMODE_FILE_ENDED
  *
- * Gives BINMODE_ACCEPTED, or BINMODE_FILE_ENDED, BINMODE_WRONG_END or BINMODE_NO_CARD, placed as by binmode_read_card. A
- * sound job ends with BINMODE_NO_CARD.
+ * Gives BINMODE_ACCEPTED, or BINMODE_FILE_ENDED, BINMODE_WRONG_END or BINMODE_NO_CARD. A sound job ends with
+ * BINMODE_NO_CARD.
  */
 uint8_t binmode_next_card(const uint8_t *file, size_t file_len, size_t number, size_t from, uint64_t *start,
                           uint64_t *length, uint64_t *place);
+
+/*
+ * Looking up. A member of a Struct is a key and a value; it is asked for by the bytes of its key, and of equal keys the first one
+ * answers. Both functions take any table, as binmode_write does, and judge it first: one that is not writable is refused, so
+ * nothing has to be tested before. For a table made by binmode_read, the text bytes are the message.
+ *
+ * The sorts of answers.
+ */
+#define BINMODE_WHOLE_NUMBER 1 /* an Integer, signed */
+#define BINMODE_DECIMAL 2      /* a Double */
+#define BINMODE_YES_OR_NO 3    /* a Boolean */
+#define BINMODE_TEXT 4         /* a String */
+#define BINMODE_ITEM 5         /* a DateTime, Binary, Array, Struct or Other, by its row */
+
+/*
+ * Looks up a member of a Struct.
+ *
+ *   table, table_words    the table; words after the stated rows are not looked at
+ *   rows                  the stated number of rows
+ *   text, text_len        the bytes in which the contents lie
+ *   row                   the Struct's row
+ *   key, key_len          the bytes of the key
+ *   sort                  is set to the sort of the answer; 0 on a refusal
+ *   number                is set to the whole number, to 1 or 0 for yes or no, or to the other item's row; else to 0
+ *   decimal               is set to the decimal; else to plus zero. Its value is the double nearest to the number that the text
+ *                         says, with its sign, so `-0.0` is minus zero
+ *   offset, length        are set to where the text lies in the text bytes; else to 0
+ *
+ * Gives BINMODE_ACCEPTED, or a refusal's number, tested in this order: BINMODE_NOT_WRITABLE, also for more than 65,536 text
+ * bytes; BINMODE_NO_MEMBER; BINMODE_TOO_MANY_DIGITS, where leading zeros are not counted. Each has place 0.
+ */
+uint8_t binmode_lookup(const uint32_t *table, size_t table_words, size_t rows, const uint8_t *text, size_t text_len,
+                       size_t row, const uint8_t *key, size_t key_len, uint8_t *sort, int64_t *number, double *decimal,
+                       uint64_t *offset, uint64_t *length);
+
+/*
+ * The position in a Struct: its members `x`, `y` and `turn`, each a Double, as three calls of binmode_lookup give them; the table
+ * is judged once. The parameters are those of binmode_lookup.
+ *
+ *   x, y, turn            are set to the position; to plus zero, all three, on a refusal
+ *
+ * Gives BINMODE_ACCEPTED, or BINMODE_NOT_WRITABLE; BINMODE_NO_MEMBER, if one of the three is absent or no Double, whatever the
+ * others are; or BINMODE_TOO_MANY_DIGITS, if one of them has too many. Each has place 0.
+ */
+uint8_t binmode_position(const uint32_t *table, size_t table_words, size_t rows, const uint8_t *text, size_t text_len,
+                         size_t row, double *x, double *y, double *turn);
 
 /*
  * Messages in pieces, as a serial port or a pipe brings them. The pieces are held in a room that the caller lends, and after

@@ -53,7 +53,6 @@ fn value_of<'m>(message: &'m [u8], table: &mut [u32]) -> Option<(&'m [u8], usize
 }
 
 /// The table of such a message, with one word changed now and then.
-#[cfg_attr(not(feature = "writer"), expect(dead_code))]
 pub fn gathered_table(random: &mut Random) -> Table {
     let text = gathered(random);
     let mut words = vec![0; ROW_LIMIT * ROW_WORDS];

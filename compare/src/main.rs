@@ -1,24 +1,27 @@
 //! Compares the proved library with the second implementation on generated
-//! messages, tables and job files: `compare SEED CALLS`. Ends with 1 where they differ.
+//! messages, tables, job files and members: `compare SEED CALLS`. Ends with 1
+//! where they differ.
 
 mod change;
-#[cfg(feature = "writer")]
+mod doubles_and_dates;
 mod edges;
 mod gather;
 mod job;
 mod lent;
+mod library;
+mod lookup;
 mod reading;
-#[cfg(feature = "writer")]
 mod shortest;
 mod tally;
-#[cfg(feature = "writer")]
 mod writing;
 
 use job::Jobs;
+use lookup::Lookups;
 use reading::{Compared, Reading};
 use second::generate::Random;
 use std::process::ExitCode;
 use tally::{Run, Tally};
+use writing::Writing;
 
 fn main() -> ExitCode {
     let words: Vec<String> = std::env::args().skip(1).collect();
@@ -49,33 +52,22 @@ fn main() -> ExitCode {
     }
 }
 
-#[cfg(not(feature = "writer"))]
 fn compare(run: &mut Run) -> Compared {
     let mut reading = Reading::new();
+    let mut writing = Writing::new();
     let mut jobs = Jobs::new();
-    reading.papers(run)?;
-    reading.edges(run)?;
-    jobs.edges(run)?;
-    while !run.tally.is_over() {
-        reading.round(run)?;
-        if run.random.one_in(4) {
-            jobs.round(run)?;
-        }
-    }
-    Ok(())
-}
-
-#[cfg(feature = "writer")]
-fn compare(run: &mut Run) -> Compared {
-    let mut reading = Reading::new();
-    let mut writing = writing::Writing::new();
-    let mut jobs = Jobs::new();
+    let mut lookups = Lookups::new();
     shortest::tried(&mut run.random)?;
+    doubles_and_dates::read(&mut run.random, &mut reading)?;
+    doubles_and_dates::written(&mut run.random, &mut writing)?;
+    lookups.decimals(&mut run.random)?;
     reading.papers(run)?;
+    writing.papers(run)?;
     reading.edges(run)?;
     jobs.edges(run)?;
     while !run.tally.is_over() {
         reading.round(run)?;
+        lookups.round(run)?;
         writing.round(run)?;
         if run.random.one_in(4) {
             jobs.round(run)?;

@@ -8,7 +8,7 @@ use crate::tally::Run;
 use binmode::Written;
 use second::generate::{Random, Table, few_strings, output_length, table};
 use second::rules::{BYTE_LIMIT, ROW_LIMIT, ROW_WORDS, kind};
-use second::{Write, hex};
+use second::{Read, Write, hex, papers};
 
 pub struct Writing {
     words: Lent<u32>,
@@ -29,12 +29,24 @@ impl Writing {
         }
     }
 
-    /// One call of each, with this table and an output of so many bytes.
+    /// One call of each, if any are left, with this table and an output of so
+    /// many bytes.
     fn call(&mut self, run: &mut Run, table: &Table, room: usize) -> Compared {
-        if run.tally.is_over() {
-            return Ok(());
+        if !run.tally.is_over() {
+            let number = self.compare(&mut run.random, table, room)?;
+            run.tally.wrote(number);
         }
-        let rubbish = rubbish(&mut run.random);
+        Ok(())
+    }
+
+    /// One call of each; gives the answer's number.
+    pub fn compare(
+        &mut self,
+        random: &mut Random,
+        table: &Table,
+        room: usize,
+    ) -> Result<u8, String> {
+        let rubbish = rubbish(random);
         let words = self.words.lend(table.words.len(), rubbish);
         words.copy_from_slice(&table.words);
         let text = self.text.lend(table.text.len(), rubbish as u8);
@@ -57,8 +69,7 @@ impl Writing {
                 rows = table.rows,
             ));
         }
-        run.tally.wrote(by_library.number);
-        Ok(())
+        Ok(by_library.number)
     }
 
     fn difference(&self, table: &Table, library: Written, second: Written) -> Option<String> {
@@ -82,6 +93,19 @@ impl Writing {
             return Some("the library wrote to the table or the text".into());
         }
         None
+    }
+
+    /// Messages with positions used again, written: the last one's form is too
+    /// long.
+    pub fn papers(&mut self, run: &mut Run) -> Compared {
+        for (texts, length) in papers::USED_AGAIN {
+            let table = read_table(papers::positions_used_again(texts, length));
+            let need = self.need(&mut run.random, &table);
+            for room in [need, need.saturating_sub(1), 2 * BYTE_LIMIT] {
+                self.call(run, &table, room)?;
+            }
+        }
+        Ok(())
     }
 
     /// A generated table, good or not, with several outputs.
@@ -156,6 +180,17 @@ impl Writing {
         }
         Ok(())
     }
+}
+
+/// The table that reading a message gives, with the message as text bytes.
+fn read_table(text: Vec<u8>) -> Table {
+    let mut words = vec![0; ROW_LIMIT * ROW_WORDS];
+    let rows = match second::read(&text, &mut words) {
+        Read::Accepted { rows, .. } => rows,
+        Read::Refused { .. } => 0,
+    };
+    words.truncate(rows * ROW_WORDS);
+    Table { words, rows, text }
 }
 
 /// Many long texts that lie in the same bytes and begin alike.

@@ -67,13 +67,35 @@ static uint8_t *read_file(const char *name, size_t *length)
     return ferror(file) || fclose(file) != 0 ? NULL : bytes;
 }
 
+/* A word of digits alone that size_t holds. */
+static int parse(const char *word, size_t *number)
+{
+    if (*word == '\0')
+        return 0;
+    size_t value = 0;
+    for (; *word != '\0'; word++) {
+        if (*word < '0' || *word > '9')
+            return 0;
+        size_t digit = (size_t)(*word - '0');
+        if (value > (SIZE_MAX - digit) / 10)
+            return 0;
+        value = value * 10 + digit;
+    }
+    *number = value;
+    return 1;
+}
+
 int main(int count, char **words)
 {
     if (count != 2 && count != 3) {
         fputs("usage: joblist FILE [NUMBER]\n", stderr);
         return 2;
     }
-    size_t length;
+    size_t length, number = 0;
+    if (count == 3 && !parse(words[2], &number)) {
+        fputs("joblist: NUMBER is not a number, or too large\n", stderr);
+        return 2;
+    }
     uint8_t *file = read_file(words[1], &length);
     if (file == NULL) {
         perror(words[1]);
@@ -82,6 +104,10 @@ int main(int count, char **words)
     if (count == 2)
         list_all(file, length);
     else
-        list_one(file, length, strtoull(words[2], NULL, 10));
-    return fflush(stdout) == 0 ? 0 : 1;
+        list_one(file, length, number);
+    if (fflush(stdout) != 0 || ferror(stdout)) {
+        perror("standard output");
+        return 1;
+    }
+    return 0;
 }

@@ -45,5 +45,9 @@ int main(int count, char **words)
     }
     fclose(file);
     list(length);
-    return fflush(stdout) == 0 ? 0 : 1;
+    if (fflush(stdout) != 0 || ferror(stdout)) {
+        perror("standard output");
+        return 1;
+    }
+    return 0;
 }

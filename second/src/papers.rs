@@ -1,5 +1,7 @@
-//! The messages of documents 01 and 002, and of document 02's faults, as byte
-//! strings with names.
+//! The messages of documents 01 and 002, and of document 02's faults, Doubles
+//! and dates, as byte strings with names.
+
+use crate::rules::{POSITIONS, PREFIX};
 
 /// The bytes of a line written as 002 writes them: octal as in C strings, and
 /// a blank with a trailing `\` where the next line is joined on.
@@ -82,6 +84,26 @@ pub const HUGE_COUNT: &str = r"binmode-rpc:RA\377\377\377\377";
 
 pub const HUGE_COUNT_WITH_ITEM: &str = r"binmode-rpc:RA\377\377\377\377t";
 
+/// Document 01's sender who uses a position again: an Array of so many texts,
+/// each recorded and recalled at once, at positions 0 to 255 and from 0 again.
+pub fn positions_used_again(texts: usize, length: usize) -> Vec<u8> {
+    let strings = (2 * texts as u32).to_le_bytes();
+    let mut message = [PREFIX, &b"RA"[..], &strings].concat();
+    for number in 0..texts {
+        let text = format!("{number:0length$}");
+        let position = (number % POSITIONS) as u8;
+        message.extend([b'>', position]);
+        message.extend((text.len() as u32).to_le_bytes());
+        message.extend(text.bytes());
+        message.extend([b'<', position]);
+    }
+    message
+}
+
+/// How many texts, and of how many bytes: as many as there are positions; more,
+/// with a written form that fits; and more, with one that is too long.
+pub const USED_AGAIN: [(usize, usize); 3] = [(256, 200), (300, 100), (300, 200)];
+
 /// All of them, in the papers' order, each with a table's number of words.
 pub const ALL: [(&str, usize); 17] = [
     ("", 40),
@@ -106,7 +128,7 @@ pub const ALL: [(&str, usize); 17] = [
 /// What a message goes on with after the prefix, a table's number of words,
 /// the refusal and its place.
 #[rustfmt::skip]
-pub const EDGES: [(&[u8], usize, u8, usize); 68] = [
+pub const EDGES: [(&[u8], usize, u8, usize); 86] = [
     // With no row left, 1 for no byte and 3 come first, then 9.
     (b"", 3, 1, 12),
     (b"x", 3, 3, 12),
@@ -139,6 +161,25 @@ pub const EDGES: [(&[u8], usize, u8, usize); 68] = [
     (b"RD\x01\x80", 16_384, 5, 13),
     (b"R8\x01\x80", 16_384, 5, 13),
     (b"RB\xff\xff\xff\xff\0", 16_384, 1, 13),
+    // Doubles and dates: their bytes are there, then ASCII, then right.
+    (b"RD\0", 16_384, 17, 13),
+    (b"RD\0", 4, 9, 13),
+    (b"RD\x012", 16_384, 17, 13),
+    (b"RD\x022.", 16_384, 17, 13),
+    (b"RD\x02.5", 16_384, 17, 13),
+    (b"RD\x03+.5", 16_384, 17, 13),
+    (b"RD\x03--2", 16_384, 17, 13),
+    (b"RD\x042.75", 4, 9, 13),
+    (b"RD\x052.7.5", 16_384, 17, 13),
+    (b"RD\x042,75", 16_384, 17, 13),
+    (b"RD\x042.7\x80", 16_384, 5, 13),
+    (b"RD\x05.7\x805", 16_384, 1, 13),
+    (b"R8\0", 16_384, 17, 13),
+    (b"R8\x1119980230T14:08:55", 16_384, 17, 13),
+    (b"R8\x1119980717T24:00:00", 16_384, 17, 13),
+    (b"R8\x1019980717T14:08:5", 16_384, 17, 13),
+    (b"R8\x1119980230T14:08:\xff5", 16_384, 5, 13),
+    (b"RA\x02\0\0\0D\x031.5D\x011", 16_384, 17, 23),
     // The parts of a Call and of a fault.
     (b"C", 16_384, 1, 13),
     (b"CI", 16_384, 3, 13),

@@ -28,14 +28,11 @@ fn main() {
         .iter()
         .for_each(|line| line.print(line.time_reading()));
     growth("reading", Line::time_reading);
-    #[cfg(feature = "writer")]
-    {
-        println!("\n{:34} {}", "writing", heading());
-        lines
-            .iter()
-            .for_each(|line| line.print(line.time_writing()));
-        growth("writing", Line::time_writing);
-    }
+    println!("\n{:34} {}", "writing", heading());
+    lines
+        .iter()
+        .for_each(|line| line.print(line.time_writing()));
+    growth("writing", Line::time_writing);
 }
 
 fn heading() -> String {
@@ -49,6 +46,7 @@ fn heading() -> String {
 fn lines() -> Vec<Line> {
     vec![
         Line::new("a  card of 300 members", card(300)),
+        Line::new("a  card with 50 dates and 50 Doubles", dated_card(300)),
         Line::new("b  text of 65,000 ASCII bytes", text(&"a".repeat(65_000))),
         Line::new("c  text of two to four byte forms", text(&mixed_text())),
         Line::new("d  4,000 Integers", array(4_000, integer)),
@@ -89,7 +87,6 @@ fn grown(name: &str, members: usize, message: Vec<u8>, time: fn(&Line) -> Times)
 struct Line {
     name: String,
     message: Vec<u8>,
-    #[cfg_attr(not(feature = "writer"), expect(dead_code))]
     table: Vec<u32>,
     rows: usize,
 }
@@ -132,7 +129,6 @@ impl Line {
         times(buffer, library, second)
     }
 
-    #[cfg(feature = "writer")]
     fn time_writing(&self) -> Times {
         let output = &mut vec![0; BYTE_LIMIT];
         let (table, rows, text) = (&self.table[..], self.rows, &self.message[..]);

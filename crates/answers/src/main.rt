@@ -84,7 +84,7 @@ fn number(digits: &[u8]) -> Parsed {
 
 // Bytes in hexadecimal, `-` for none, into a buffer.
 fn bytes(digits: &[u8], buffer: &mut [u8]) -> Parsed {
-    if text::equal(digits, b"-") {
+    if names::equal(digits, b"-") {
         return Parsed::Number(0);
     }
     let mut n = 0;
@@ -113,7 +113,7 @@ fn bytes(digits: &[u8], buffer: &mut [u8]) -> Parsed {
 
 // Words in decimal with commas between, `-` for none, into a table.
 fn words(list: &[u8], table: &mut [u32]) -> Parsed {
-    if text::equal(list, b"-") {
+    if names::equal(list, b"-") {
         return Parsed::Number(0);
     }
     let mut n = 0;
@@ -317,10 +317,10 @@ fn answer_writing(line: &[u8], message: &mut [u8], table: &mut [u32], output: &m
 // Writes a line's answer, if it is well-formed, and says whether it is.
 fn answer(line: &[u8], message: &mut [u8], table: &mut [u32], output: &mut [u8]) -> bool {
     let name = field(line, 0);
-    if text::equal(name, b"read") {
+    if names::equal(name, b"read") {
         return answer_reading(line, message, table);
     }
-    if text::equal(name, b"write") {
+    if names::equal(name, b"write") {
         return answer_writing(line, message, table, output);
     }
     false

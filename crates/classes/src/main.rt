@@ -57,7 +57,7 @@ fn write_line(line: usize)
     write_label(line);
     let mut place: usize = 0;
     while place < 16 {
-        write_class(text::class_of((line * 16 + place) as u8));
+        write_class(byte_classes::class_of((line * 16 + place) as u8));
         place += 1;
     }
     write(b"\n");

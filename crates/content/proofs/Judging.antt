@@ -1,5 +1,5 @@
 -- What answers each return of the functions that judge content. Assumes nothing.
-use mathlib.Core.Path.{_≡_, refl, _∙_}
+use mathlib.Core.Path.{_≡_, refl, sym, _∙_}
 use mathlib.Core.Bool.{Bool, true, false}
 use mathlib.Core.List.{List, []}
 use Prim.Native.Nat.{ℕ, _+_, _-_, _≤_, _<_}
@@ -10,13 +10,19 @@ use lib.Seq.{take-all, take-nil}
 use borrow.Author.Tests.{le-leb, lt-leb}
 use Rattle.text.specs.Utf8.{wellFormed}
 use Rattle.text.specs.Texts.{ascii, standardName}
-use Rattle.draft.specs.declared.Refusal.the-variants.{Ended, BadText, StandardName}
+use Rattle.text.proofs.Comparing.{clash}
+use Rattle.lexical.specs.Double.{isDouble}
+use Rattle.lexical.specs.DateTime.{isDateTime}
+use Rattle.lexical.proofs.Doubles.{double-ascii}
+use Rattle.lexical.proofs.DateTimes.{datetime-ascii}
+use Rattle.draft.specs.declared.Refusal.the-variants.{Ended, BadText, StandardName, BadValue}
 use Rattle.draft.specs.declared.Verdict.{Verdict}
 use Rattle.draft.specs.declared.Verdict.the-variants.{Fine, Bad}
 use Rattle.draft.specs.declared.Content.{Content}
 use Rattle.draft.specs.declared.Content.the-variants.{Double, DateTime, Binary, Text}
 use Rattle.draft.specs.Bytes.{part}
-use Rattle.draft.specs.Content.{fineIf, contentRule, verdict, nameRule}
+use Rattle.draft.specs.Content.{fineIf, asciiThen, contentRule, verdict, nameRule}
+use Rattle.content.specs.Flaw.{flaw}
 
 rest-all : (s : List ℕ) (o : ℕ) → take (length s - o) (drop o s) ≡ drop o s
 rest-all s o = take-all (length s - o) (drop o s) (omega (arith, length-drop o s))
@@ -32,19 +38,26 @@ module _ (s : List ℕ) (o n : ℕ) where
   pub part-cut : take (n - 0) (take (length s - o) (drop o s)) ≡ part s o n
   part-cut = rw (sub-zero n, rest-all s o)
 
+-- bytes that are ASCII wherever they are good: these first, or ASCII first
+good-first : (ascii good : Bool) → (good ≡ true → ascii ≡ true) → fineIf good (flaw ascii) ≡ asciiThen ascii good
+good-first true true h = refl
+good-first true false h = refl
+good-first false true h = clash (h refl) refl
+good-first false false h = refl
+
 -- by the kind of content
-module _ {c : Content} (s : List ℕ) {good : Bool} {v : Verdict} (e : v ≡ fineIf good BadText) where
-  pub judge-double : c ≡ Double → good ≡ ascii s → v ≡ contentRule c s
+module _ {c : Content} (s : List ℕ) {good : Bool} {v : Verdict} where
+  pub judge-double : v ≡ fineIf good (flaw (ascii s)) → c ≡ Double → good ≡ isDouble s → v ≡ contentRule c s
   unfolding contentRule
-  judge-double i g = e ∙ rw (i, g)
+  judge-double e i g = e ∙ rw (i, g) (good-first (ascii s) (isDouble s) (double-ascii s))
 
-  pub judge-date : c ≡ DateTime → good ≡ ascii s → v ≡ contentRule c s
+  pub judge-date : v ≡ fineIf good (flaw (ascii s)) → c ≡ DateTime → good ≡ isDateTime s → v ≡ contentRule c s
   unfolding contentRule
-  judge-date i g = e ∙ rw (i, g)
+  judge-date e i g = e ∙ rw (i, g) (good-first (ascii s) (isDateTime s) (datetime-ascii s))
 
-  pub judge-text : c ≡ Text → good ≡ wellFormed s → v ≡ contentRule c s
+  pub judge-text : v ≡ fineIf good BadText → c ≡ Text → good ≡ wellFormed s → v ≡ contentRule c s
   unfolding contentRule
-  judge-text i g = e ∙ rw (i, g)
+  judge-text e i g = e ∙ rw (i, g)
 
 pub judge-binary : {c : Content} (s : List ℕ) → c ≡ Binary → Fine ≡ contentRule c s
 unfolding contentRule
@@ -76,4 +89,11 @@ module _ (c : Content) (s : List ℕ) (o n : ℕ) where
 pub fine-not : {good : Bool} → good ≡ false → Bad BadText ≡ fineIf good BadText
 fine-not e = rw e
 
-pub ruleset judging = (part-past, part-rest, part-cut, fine-not, judge-double, judge-date, judge-text, judge-binary, name-standard, name-other, starts-past, ends-past, there)
+module _ (s : List ℕ) {good is : Bool} where
+  pub value-bad : good ≡ false → is ≡ ascii s → is ≡ true → Bad BadValue ≡ fineIf good (flaw (ascii s))
+  value-bad g e t = rw (g, ← e, t)
+
+  pub value-not-ascii : good ≡ false → is ≡ ascii s → is ≡ false → Bad BadText ≡ fineIf good (flaw (ascii s))
+  value-not-ascii g e t = rw (g, ← e, t)
+
+pub ruleset judging = (part-past, part-rest, part-cut, fine-not, value-bad, value-not-ascii, judge-double, judge-date, judge-text, judge-binary, name-standard, name-other, starts-past, ends-past, there)

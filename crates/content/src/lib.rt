@@ -3,8 +3,10 @@ use draft::Content;
 use draft::Refusal;
 use draft::Verdict;
 ghost use mathlib.Core.Path.{_≡_};
+ghost use Rattle.text.specs.Texts.{ascii};
 ghost use Rattle.draft.specs.Bytes.{part as partOf};
 ghost use Rattle.draft.specs.Content.{fineIf, contentRule, verdict, nameRule};
+ghost use Rattle.content.specs.Flaw.{flaw};
 
 // The n bytes at o, or as many of them as there are.
 pub fn part(s: &[u8], o: usize, n: usize) -> &[u8]
@@ -25,10 +27,24 @@ pub fn judge(content: Content, s: &[u8]) -> Verdict
     ensures { λ r. ⌜ r ≡ contentRule content (now (s .entry)) ⌝ }
 {
     match content {
-        Content::Double => fine_if(text::is_ascii(s)),
-        Content::DateTime => fine_if(text::is_ascii(s)),
+        Content::Double => judge_value(double::is_double(s), s),
+        Content::DateTime => judge_value(date::is_datetime(s), s),
         Content::Binary => Verdict::Fine,
-        Content::Text => fine_if(text::is_utf8(s)),
+        Content::Text => fine_if(text_check::is_utf8(s)),
+    }
+}
+
+// Of bytes that were found to be a Double or a DateTime, or not. Such a text is ASCII, so only one that is none is looked at for that.
+fn judge_value(good: bool, s: &[u8]) -> Verdict
+    ensures { λ r. ⌜ r ≡ fineIf good (flaw (ascii (now (s .entry)))) ⌝ }
+{
+    if good {
+        return Verdict::Fine;
+    }
+    if ascii::is_ascii(s) {
+        Verdict::Bad(Refusal::BadValue)
+    } else {
+        Verdict::Bad(Refusal::BadText)
     }
 }
 
@@ -59,7 +75,7 @@ pub fn inspect(content: Content, s: &[u8], o: usize, n: usize) -> Verdict
 pub fn judge_name(s: &[u8]) -> Verdict
     ensures { λ r. ⌜ r ≡ nameRule (now (s .entry)) ⌝ }
 {
-    if text::is_standard_name(s) {
+    if names::is_standard_name(s) {
         Verdict::Bad(Refusal::StandardName)
     } else {
         Verdict::Fine

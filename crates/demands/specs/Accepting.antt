@@ -1,28 +1,28 @@
--- Demands 1 and 2 for the writer: when it accepts, and what its answer and the output are settled by. `Did T rows s out₀ out a` is the promise of
+-- Demands 1 and 2 for the writer: when it accepts and refuses, and what settles its answer and the output. `Did T rows s out₀ out a` is the promise of
 -- `writer::write`, for a table T with so many stated rows, text bytes s, an output that is out₀ before the call and out after it, and the answer a.
 -- Assumes nothing.
 use mathlib.Core.Path.{_≡_, refl, sym, ap, _∙_}
 use mathlib.Core.Bool.{Bool, true, false}
-use mathlib.Core.Logic.{_↔_, _⊎_, inl, inr}
+use mathlib.Core.Logic.{_↔_}
 use mathlib.Core.List.{List, _++_}
-use Prim.Native.Nat.{ℕ, _+_, _-_, _≤_}
+use Prim.Native.Nat.{ℕ, _+_, _-_, _≤_, _<_}
 use native.Mathlib.Omega.{arith}
 use lib.Dec.{leb}
 use lib.ListN.{length, replicate, length-append, length-replicate}
-use borrow.Author.Tests.{le-leb, leb-true}
+use borrow.Author.Tests.{leb-true, leb-false, le-leb, lt-leb}
 use Rattle.draft.specs.declared.Refusal.{Refusal}
 use Rattle.draft.specs.declared.Refusal.the-variants.{TooLong, NotWritable, FormTooLong, OutputTooShort}
 use Rattle.draft.specs.Writable.{writable}
 use Rattle.draft.specs.declared.Row.{Row}
 use Rattle.draft.specs.Refusals.{numberOf}
 use Rattle.draft.specs.Codebook.{Book}
-use Rattle.draft.specs.Table.{roomOf}
 use Rattle.draft.specs.Read.{got}
 use Rattle.draft.specs.Strings.{repeated, textsOf}
 use Rattle.draft.specs.Written.{written, rowsOf}
-use Rattle.reader.specs.Answers.{reading, tableOf}
+use Rattle.reader.specs.declared.Answer.the-variants.{Accepted}
+use Rattle.reader.specs.Answers.{reading, tableOf, Answers}
 use Rattle.text.proofs.Comparing.{clash}
-use Rattle.demands.specs.Reading.{sound}
+use Rattle.demands.specs.Settled.{accepted-read}
 use Rattle.demands.specs.Writing.{Octets, read-writable, read-short}
 use Rattle.writer.specs.declared.Answer.{Answer}
 use Rattle.writer.specs.declared.Answer.the-variants.{Written, Refused}
@@ -33,24 +33,88 @@ given-written : (b : Bool) (m : Refusal) (o : Answer) {n : ℕ} → given b m o 
 given-written true m o e = (refl, e)
 given-written false m o e = let z : _≡_ {A = ℕ} 0 1 = cc in absurd (omega arith)
 
--- ACCEPTANCE IS EXACT: the text bytes are at most 65,536, the table is writable, and the written form is at most 65,536 and fits the output
-pub accepted-exactly :
-    (T : List ℕ) (rows : ℕ) (s : List ℕ) (room n : ℕ)
-    → (answerOf T rows s room ≡ Written n)
-    ↔ ((length s ≤ 65536) × (writable T rows s ≡ true) × (length (formOf T rows s) ≤ 65536) × (length (formOf T rows s) ≤ room) × (n ≡ length (formOf T rows s)))
-unfolding answerOf answerTo
+-- what acceptance with length n asks: the text bytes are at most 65,536, the table is writable, and the written form, which is n bytes long, is at
+-- most 65,536 and fits the output
+pub record AcceptedFor (T : List ℕ) (rows : ℕ) (s : List ℕ) (room n : ℕ) : Type 0 where
+  pub text : length s ≤ 65536
+  pub shape : writable T rows s ≡ true
+  pub long : n ≡ length (written s (rowsOf 4096 T rows))
+  pub most : n ≤ 65536
+  pub fits : n ≤ room
+
+-- ACCEPTANCE IS EXACT: the writer accepts, with length n, exactly for that
+pub accepted-exactly : (T : List ℕ) (rows : ℕ) (s : List ℕ) (room n : ℕ) → (answerOf T rows s room ≡ Written n) ↔ AcceptedFor T rows s room n
+unfolding answerOf answerTo formOf
 accepted-exactly T rows s room n = (there, back)
   where
-    there : answerOf T rows s room ≡ Written n → (length s ≤ 65536) × (writable T rows s ≡ true) × (length (formOf T rows s) ≤ 65536) × (length (formOf T rows s) ≤ room) × (n ≡ length (formOf T rows s))
+    size : ℕ
+    size = length (written s (rowsOf 4096 T rows))
+
+    there : answerOf T rows s room ≡ Written n → AcceptedFor T rows s room n
     there e =
         let a = given-written (leb (length s) 65536) TooLong _ e in
         let b = given-written (writable T rows s) NotWritable _ (a .1) in
-        let c = given-written (leb (length (formOf T rows s)) 65536) FormTooLong _ (b .1) in
-        let d = given-written (leb (length (formOf T rows s)) room) OutputTooShort _ (c .1) in
-        (leb-true (length s) 65536 (a .0), b .0, leb-true (length (formOf T rows s)) 65536 (c .0), leb-true (length (formOf T rows s)) room (d .0), cc)
+        let c = given-written (leb size 65536) FormTooLong _ (b .1) in
+        let d = given-written (leb size room) OutputTooShort _ (c .1) in
+        let l : n ≡ size = cc in
+        record {
+          text = leb-true (length s) 65536 (a .0);
+          shape = b .0;
+          long = l;
+          most = omega (arith, l, leb-true size 65536 (c .0));
+          fits = omega (arith, l, leb-true size room (d .0));
+        }
 
-    back : ((length s ≤ 65536) × (writable T rows s ≡ true) × (length (formOf T rows s) ≤ 65536) × (length (formOf T rows s) ≤ room) × (n ≡ length (formOf T rows s))) → answerOf T rows s room ≡ Written n
-    back (a, b, c, d, e) = rw (le-leb (length s) 65536 a, b, le-leb (length (formOf T rows s)) 65536 c, le-leb (length (formOf T rows s)) room d, e)
+    back : AcceptedFor T rows s room n → answerOf T rows s room ≡ Written n
+    back h =
+        let c : size ≤ 65536 = omega (arith, h .long, h .most) in
+        let d : size ≤ room = omega (arith, h .long, h .fits) in
+        rw (le-leb (length s) 65536 (h .text), h .shape, le-leb size 65536 c, le-leb size room d, h .long)
+
+-- why the writer refuses, in document 01's order: each test after those before it held
+pub data RefusedFor (T : List ℕ) (rows : ℕ) (s : List ℕ) (room : ℕ) : Refusal → Type 0 where
+  long-text : 65536 < length s → RefusedFor T rows s room TooLong
+  not-writable : length s ≤ 65536 → writable T rows s ≡ false → RefusedFor T rows s room NotWritable
+  long-form :
+      length s ≤ 65536 → writable T rows s ≡ true → 65536 < length (written s (rowsOf 4096 T rows)) → RefusedFor T rows s room FormTooLong
+  short-output :
+      length s ≤ 65536 → writable T rows s ≡ true → length (written s (rowsOf 4096 T rows)) ≤ 65536
+      → room < length (written s (rowsOf 4096 T rows)) → RefusedFor T rows s room OutputTooShort
+
+-- what a refusal says that comes from the first of four tests that does not hold
+first-of :
+    (a b c d : Bool) (n : ℕ) {m : Refusal} (P : Refusal → Type 0)
+    → given a TooLong (given b NotWritable (given c FormTooLong (given d OutputTooShort (Written n)))) ≡ Refused m
+    → (a ≡ false → P TooLong) → (a ≡ true → b ≡ false → P NotWritable) → (a ≡ true → b ≡ true → c ≡ false → P FormTooLong)
+    → (a ≡ true → b ≡ true → c ≡ true → d ≡ false → P OutputTooShort) → P m
+first-of false b c d n {m} P e f g h k = let z : m ≡ TooLong = cc in rw z (f refl)
+first-of true false c d n {m} P e f g h k = let z : m ≡ NotWritable = cc in rw z (g refl refl)
+first-of true true false d n {m} P e f g h k = let z : m ≡ FormTooLong = cc in rw z (h refl refl refl)
+first-of true true true false n {m} P e f g h k = let z : m ≡ OutputTooShort = cc in rw z (k refl refl refl refl)
+first-of true true true true n P e f g h k = let z : _≡_ {A = ℕ} 0 1 = cc in absurd (omega arith)
+
+-- ORDER: the writer refuses with 10, 11, 12 and 13 in this order, each exactly for its reason, and with no other number.
+pub refused-exactly :
+    (T : List ℕ) (rows : ℕ) (s : List ℕ) (room : ℕ) {m : Refusal} → (answerOf T rows s room ≡ Refused m) ↔ RefusedFor T rows s room m
+unfolding answerOf answerTo formOf
+refused-exactly T rows s room {m} = (there, back)
+  where
+    size : ℕ
+    size = length (written s (rowsOf 4096 T rows))
+
+    there : answerOf T rows s room ≡ Refused m → RefusedFor T rows s room m
+    there e =
+        first-of (leb (length s) 65536) (writable T rows s) (leb size 65536) (leb size room) size (RefusedFor T rows s room) e
+        (λ a. long-text (leb-false (length s) 65536 a))
+        (λ a b. not-writable (leb-true (length s) 65536 a) b)
+        (λ a b c. long-form (leb-true (length s) 65536 a) b (leb-false size 65536 c))
+        (λ a b c d. short-output (leb-true (length s) 65536 a) b (leb-true size 65536 c) (leb-false size room d))
+
+    back : {m : Refusal} → RefusedFor T rows s room m → answerOf T rows s room ≡ Refused m
+    back (long-text a) = rw (lt-leb (length s) 65536 a)
+    back (not-writable a b) = rw (le-leb (length s) 65536 a, b)
+    back (long-form a b c) = rw (le-leb (length s) 65536 a, b, lt-leb size 65536 c)
+    back (short-output a b c d) = rw (le-leb (length s) 65536 a, b, le-leb size 65536 c, lt-leb size room d)
 
 -- SETTLED: two calls with the same material and equally long outputs answer alike and leave the same bytes, whatever lay there before
 pub settled :
@@ -67,40 +131,38 @@ refused-zeros T rows s out₀ out d = d .leaves
 -- WRITTEN: the message, and zeros behind it, as many bytes as there were
 pub written-whole :
     (T : List ℕ) (rows : ℕ) (s out₀ out : List ℕ) {n : ℕ} → Did T rows s out₀ out (Written n)
-    → (out ≡ formOf T rows s ++ replicate (length out₀ - n) 0) × (length out ≡ length out₀)
+    → (out ≡ written s (rowsOf 4096 T rows) ++ replicate (length out₀ - n) 0) × (length out ≡ length out₀)
+unfolding formOf
 written-whole T rows s out₀ out {n} d =
-    let x = accepted-exactly T rows s (length out₀) n .0 (sym (d .says)) in
-    (d .leaves, ap length (d .leaves) ∙ length-append (formOf T rows s) (replicate (length out₀ - n) 0) ∙ tail x)
-  where
-    tail : ((length s ≤ 65536) × (writable T rows s ≡ true) × (length (formOf T rows s) ≤ 65536) × (length (formOf T rows s) ≤ length out₀) × (n ≡ length (formOf T rows s))) → length (formOf T rows s) + length (replicate {A = ℕ} (length out₀ - n) 0) ≡ length out₀
-    tail (a, b, c, e, f) = omega (arith, length-replicate {A = ℕ} (length out₀ - n) 0)
+    let h = accepted-exactly T rows s (length out₀) n .0 (sym (d .says)) in
+    let l : length (written s (rowsOf 4096 T rows)) + length (replicate {A = ℕ} (length out₀ - n) 0) ≡ length out₀ =
+    omega (arith, h .long, h .fits, length-replicate {A = ℕ} (length out₀ - n) 0) in
+    (d .leaves, ap length (d .leaves) ∙ length-append (written s (rowsOf 4096 T rows)) (replicate (length out₀ - n) 0) ∙ l)
 
--- a refusal for a written form is 12, if the form is too long, or 13
-refusal-of : (b c : Bool) (n : ℕ) {m : Refusal} → given b FormTooLong (given c OutputTooShort (Written n)) ≡ Refused m → ((b ≡ false) × (m ≡ FormTooLong)) ⊎ (m ≡ OutputTooShort)
-refusal-of true true n e = let z : _≡_ {A = ℕ} 0 1 = cc in absurd (omega arith)
-refusal-of true false n e = inr cc
-refusal-of false c n e = inl (refl, cc)
+-- a refusal that is not 11, and not 12 either if at most 256 texts of so many rows repeat
+abbrev Spares : List ℕ → List Row → Refusal → Type 0
+Spares s rows m = (numberOf m ≡ 11 → ⊥) × (length (repeated (textsOf s rows)) ≤ 256 → numberOf m ≡ 12 → ⊥)
 
--- FROM THE READER: a table made by the reader, with its message as text bytes, is never refused with 11; and if at most 256 texts repeat, not with
--- 12 either
+-- why a table is refused that holds the rows that were read, with their message as text bytes
+read-refused :
+    (s : List ℕ) (words room : ℕ) {T : List ℕ} {n used : ℕ} {rows : List Row} {book : Book} {m : Refusal} → Octets s
+    → (e : reading s words ≡ got rows used book) → T ≡ tableOf words (got rows used book) → length rows ≡ n → RefusedFor T n s room m
+    → Spares s (rowsOf 4096 T n) m
+read-refused s words room o e t l (long-text a) = (λ z. omega arith, λ few z. omega arith)
+read-refused s words room o e t l (not-writable a b) = (λ z. clash (rw (t, sym l) (read-writable s words e o)) b, λ few z. omega arith)
+read-refused s words room o e t l (long-form a b c) = (
+  λ z. omega arith,
+  λ few z. let k = read-short s words e (rw (t, sym l) at few) in let h = rw (t, sym l) at c in omega (arith, h, k .0, k .1, k .2),
+)
+read-refused s words room o e t l (short-output a b c d) = (λ z. omega arith, λ few z. omega arith)
+
+-- FROM THE READER: a table that `reader::read` made, with the rows that it reports and its message as text bytes, is never refused with 11; and if
+-- at most 256 texts repeat, not with 12 either
 pub from-the-reader :
-    (s : List ℕ) (words room : ℕ) {rows : List Row} {used : ℕ} {book : Book} {m : Refusal} → Octets s → (e : reading s words ≡ got rows used book)
-    → answerOf (tableOf words (got rows used book)) (length rows) s room ≡ Refused m
-    → (numberOf m ≡ 11 → ⊥) × (length (repeated (textsOf s (rowsOf 4096 (tableOf words (got rows used book)) (length rows)))) ≤ 256 → numberOf m ≡ 12 → ⊥)
-unfolding answerOf answerTo formOf reading
-from-the-reader s words room {rows} {used} {book} {m} o e f =
-    let h = sound 65536 s (roomOf 4096 words) 32 e .bytes in
-    let w = read-writable s words e o in
-    let long : ℕ = length (written s (rowsOf 4096 (tableOf words (got rows used book)) (length rows))) in
-    go (refusal-of (leb long 65536) (leb long room) long (rw (le-leb (length s) 65536 h, w) at f)) (λ few. read-short s words e few)
-  where
-    go :
-        ((leb (length (written s (rowsOf 4096 (tableOf words (got rows used book)) (length rows)))) 65536 ≡ false) × (m ≡ FormTooLong)) ⊎ (m ≡ OutputTooShort)
-        → (length (repeated (textsOf s (rowsOf 4096 (tableOf words (got rows used book)) (length rows)))) ≤ 256
-        → (length (written s (rowsOf 4096 (tableOf words (got rows used book)) (length rows))) ≤ used) × (used ≤ length s) × (length s ≤ 65536))
-        → (numberOf m ≡ 11 → ⊥) × (length (repeated (textsOf s (rowsOf 4096 (tableOf words (got rows used book)) (length rows)))) ≤ 256 → numberOf m ≡ 12 → ⊥)
-    go (inl y) short = (
-      λ z. let q : numberOf m ≡ 12 = ap numberOf (y .1) in omega arith,
-      λ few z. let k = short few in clash (le-leb (length (written s (rowsOf 4096 (tableOf words (got rows used book)) (length rows)))) 65536 (omega (arith, k .0, k .1, k .2))) (y .0),
-    )
-    go (inr y) short = (λ z. let q : numberOf m ≡ 13 = ap numberOf y in omega arith, λ few z. let q : numberOf m ≡ 13 = ap numberOf y in omega arith)
+    (s : List ℕ) (words : ℕ) {T : List ℕ} {n used : ℕ} (out₀ out : List ℕ) {m : Refusal} → Octets s
+    → Answers (reading s words) words T (Accepted n used) → Did T n s out₀ out (Refused m)
+    → (numberOf m ≡ 11 → ⊥) × (length (repeated (textsOf s (rowsOf 4096 T n))) ≤ 256 → numberOf m ≡ 12 → ⊥)
+from-the-reader s words {T} {n} out₀ out o c d =
+    let g = accepted-read s words c in
+    read-refused s words (length out₀) o (g .is) (c .leaves ∙ ap (tableOf words) (g .is)) (g .count)
+    (refused-exactly T n s (length out₀) .0 (sym (d .says)))

@@ -1,4 +1,5 @@
--- Document 01's messages P1 to P11, and faults by document 02's rule, read and written again: one table of cases, under a single statement.
+-- Document 01's messages P1 to P11, and faults, Doubles and dates by document 02's rules, read and written again: one table of cases, under a
+-- single statement.
 -- Assumes nothing.
 use mathlib.Core.Path.{_≡_, refl}
 use mathlib.Core.List.{List, [], _∷_, _++_}
@@ -7,6 +8,9 @@ use Prim.Native.String.{String}
 use lib.ListN.{length, replicate}
 use Rattle.text.specs.Utf8.{within, dueBy, dueAfter, step, octets, wellFormed}
 use Rattle.text.specs.Texts.{ascii, same, among, standardName}
+use Rattle.lexical.specs.Digits.{digit, digits, pair, two}
+use Rattle.lexical.specs.Double.{sign, someDigits, pointed, unsigned, isDouble}
+use Rattle.lexical.specs.DateTime.{leap, monthDays, isDay, isDate, pairTo, isTime, parted, isDateTime}
 use Rattle.draft.specs.declared.Row.{Row}
 use Rattle.draft.specs.Bytes.{bytes}
 use Rattle.draft.specs.Rows.{row, itemOf}
@@ -46,6 +50,18 @@ accepted s words used rows = rewritten s words used rows s used
 abbrev refused : String → ℕ → ℕ → ℕ → Case
 refused s words number place =
     record { sent = bytes s; words = words; report = record { number = number; rows = 0; used = 0; place = place }; rows = []; again = []; long = 0 }
+
+-- a Response with a Double or a DateTime of this text, refused at its tag
+abbrev bad : String → ℕ → String → Case
+bad tag number text =
+    record {
+      sent = bytes "binmode-rpc:R" ++ (bytes tag ++ (length (bytes text) ∷ bytes text));
+      words = 64;
+      report = record { number = number; rows = 0; used = 0; place = 13 };
+      rows = [];
+      again = [];
+      long = 0;
+    }
 
 -- each character of a text here stands for the byte of its number: `©` for 169, `ÿ` for 255
 pub cases : List Case
@@ -91,6 +107,45 @@ cases =
     -- a third member that is cut short, or that a small table has no row for: what fails inside the Struct comes first
     ∷ refused "binmode-rpc:RFS\u{3}\0\0\0U\t\0\0\0faultCodeI\u{1}\0\0\0U\u{b}\0\0\0faultStringU\u{1}\0\0\0xU\0\0\0\0" 64 1 65
     ∷ refused "binmode-rpc:RFS\u{3}\0\0\0U\t\0\0\0faultCodeI\u{1}\0\0\0U\u{b}\0\0\0faultStringU\u{1}\0\0\0xU\0\0\0\0t" 24 9 60
+    -- 02: Doubles with a sign and without, and dates: document 02's, the last day of February in a leap year and in others, the year 0000
+    ∷ accepted "binmode-rpc:RA\u{3}\0\0\0D\u{4}2.75D\u{4}-0.0D\u{7}+007.50" 64 39
+    (row 2 0 1 5 ∷ row 9 0 3 5 ∷ row 6 20 4 3 ∷ row 6 26 4 4 ∷ row 6 32 7 5 ∷ [])
+    ∷ accepted "binmode-rpc:RA\u{3}\0\0\08\u{11}19980717T14:08:558\u{11}20000229T23:59:598\u{11}00000229T00:00:00" 64 75
+    (row 2 0 1 5 ∷ row 9 0 3 5 ∷ row 7 20 17 3 ∷ row 7 39 17 4 ∷ row 7 58 17 5 ∷ [])
+    -- no byte; no digit; a sign alone; no point; no digit before the point, none after it; a second sign, a second point, another byte at the end
+    ∷ bad "D" 17 ""
+    ∷ bad "D" 17 "."
+    ∷ bad "D" 17 "-"
+    ∷ bad "D" 17 "5"
+    ∷ bad "D" 17 ".5"
+    ∷ bad "D" 17 "5."
+    ∷ bad "D" 17 "+-2.75"
+    ∷ bad "D" 17 "2.7.5"
+    ∷ bad "D" 17 "2.75e0"
+    -- a byte too few and one too many; no digit, another byte for the `T` and for each `:`
+    ∷ bad "8" 17 "19980717T14:08:5"
+    ∷ bad "8" 17 "19980717T14:08:555"
+    ∷ bad "8" 17 "1998 717T14:08:55"
+    ∷ bad "8" 17 "19980717 14:08:55"
+    ∷ bad "8" 17 "19980717T14-08:55"
+    ∷ bad "8" 17 "19980717T14:08-55"
+    -- no such month, or the month has no such day; 1900 is no leap year
+    ∷ bad "8" 17 "19980017T14:08:55"
+    ∷ bad "8" 17 "19981317T14:08:55"
+    ∷ bad "8" 17 "19980700T14:08:55"
+    ∷ bad "8" 17 "19980732T14:08:55"
+    ∷ bad "8" 17 "19980431T14:08:55"
+    ∷ bad "8" 17 "19980229T14:08:55"
+    ∷ bad "8" 17 "19000229T14:08:55"
+    ∷ bad "8" 17 "20000230T14:08:55"
+    -- hour, minute, second
+    ∷ bad "8" 17 "19980717T24:08:55"
+    ∷ bad "8" 17 "19980717T14:60:55"
+    ∷ bad "8" 17 "19980717T14:08:60"
+    -- 5 comes before 17, and 17 at the item's place before what follows it
+    ∷ bad "D" 5 "5.ÿ"
+    ∷ bad "8" 5 "19980230T14:08:5ÿ"
+    ∷ refused "binmode-rpc:RA\u{2}\0\0\0tD\u{2}5.<\0" 64 17 19
     ∷ []
 
 -- a row's four words, one row after the other
@@ -120,5 +175,5 @@ given (c ∷ cs) = outcomeOf (c .sent) (c .words) (reading (c .sent) (c .words))
 
 -- THE STATEMENT: reading and the written form give what documents 01 and 02 say, for each case
 pub cases-read : given cases ≡ expected cases
-unfolding cases reading messageWithin message agree callOrResponse faultStruct heldRows heldOf isCode isMessage isFault faultRule nested value name only string contents tagOf alike items pair putRows setRow place recorded nameRule verdict contentRule standardName among same ascii wellFormed octets step dueAfter dueBy within rowAt from rowsOf itemOf textsOf repeats position sents lsb counted stringBytes itemBytes itemsOf messageOf written
+unfolding cases reading messageWithin message agree callOrResponse faultStruct heldRows heldOf isCode isMessage isFault faultRule nested value name only string contents tagOf alike items pair putRows setRow place recorded nameRule verdict contentRule isDouble unsigned pointed someDigits sign isDateTime parted isTime pairTo isDate isDay monthDays leap two pair digits digit standardName among same ascii wellFormed octets step dueAfter dueBy within rowAt from rowsOf itemOf textsOf repeats position sents lsb counted stringBytes itemBytes itemsOf messageOf written
 cases-read = refl

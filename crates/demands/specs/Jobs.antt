@@ -12,17 +12,17 @@ use Rattle.draft.specs.Read.{Reading, got, refused}
 use Rattle.reader.specs.declared.Answer.{Answer as ReaderAnswer}
 use Rattle.reader.specs.declared.Answer.the-variants as reader
 use Rattle.reader.specs.Answers.{reading, answerOf, tableOf, Answers}
-use Rattle.job.specs.declared.JobRefusal.{JobRefusal}
-use Rattle.job.specs.declared.JobRefusal.the-variants.{NoCard}
-use Rattle.job.specs.declared.Found.{Found}
-use Rattle.job.specs.declared.Found.the-variants as found
+use Rattle.records.specs.declared.JobRefusal.{JobRefusal}
+use Rattle.records.specs.declared.JobRefusal.the-variants.{NoCard}
+use Rattle.records.specs.declared.Found.{Found}
+use Rattle.records.specs.declared.Found.the-variants as found
 use Rattle.job.specs.declared.Answer.{Answer}
 use Rattle.job.specs.declared.Answer.the-variants.{Accepted, Refused, Missing}
-use Rattle.job.specs.Job.{find, bodyOf}
+use Rattle.records.specs.Job.{find, bodyOf}
 use Rattle.job.specs.Cards.{located, answerFor, tableFor, Reads}
-use Rattle.job.specs.Sound.{Sound}
-use Rattle.job.proofs.Standing.{lies, stands, part-stands, next-from-end}
-use Rattle.job.proofs.Counting.{IsBody, SoundAt, cards-below, none-beyond, no-card-sound}
+use Rattle.records.specs.Sound.{Sound}
+use Rattle.records.proofs.Standing.{lies, stands, part-stands, next-from-end}
+use Rattle.records.proofs.Counting.{IsBody, SoundAt, cards-below, none-beyond, no-card-sound}
 
 -- SETTLED. Two calls with one file, one number and equally large tables answer alike and leave the same words: a retried card reads as it did.
 pub settled : (s : List ℕ) (n words : ℕ) {T T′ : List ℕ} {a a′ : Answer} → Reads s words (bodyOf s n) T a → Reads s words (bodyOf s n) T′ a′ → (a ≡ a′) × (T ≡ T′)

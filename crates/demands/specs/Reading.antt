@@ -1,23 +1,29 @@
 -- Demand 2 for reading: reading accepts exactly what the draft's grammar derives within the limits, and the rows say what was derived.
 -- The grammar and the meaning of rows are crate draft's Grammar and Meaning; the long arguments are in crate exact. Assumes nothing.
 use mathlib.Core.Path.{_≡_, refl, _∙_}
-use mathlib.Core.Logic.{_↔_, _≢_}
+use mathlib.Core.Bool.{Bool, true, false}
+use mathlib.Core.Logic.{_↔_, _≢_, Iff·trans}
 use mathlib.Core.List.{List, [], _∷_, _++_}
 use Prim.Native.Nat.{ℕ, _≤_, _<_}
 use native.Mathlib.Omega.{arith}
 use lib.ListN.{length}
 use Rattle.text.specs.Rfc3629.{UTF8-octets}
 use Rattle.text.specs.Utf8.{wellFormed}
-use Rattle.text.specs.Texts.{same}
+use Rattle.text.specs.Texts.{ascii, same}
 use Rattle.text.proofs.Comparing.{clash}
 use Rattle.text.proofs.Grammar.{accepted, derived}
+use Rattle.lexical.specs.Double.{isDouble}
+use Rattle.lexical.specs.DateTime.{isDateTime}
+use Rattle.lexical.specs.Grammar.{Double, DateTime}
+use Rattle.lexical.proofs.Doubles.{double-exactly, double-ascii}
+use Rattle.lexical.proofs.DateTimes.{datetime-exactly, datetime-ascii}
 use Rattle.draft.specs.declared.Refusal.{Refusal}
-use Rattle.draft.specs.declared.Refusal.the-variants.{Ended, WrongPrefix, UnexpectedByte, BadText, UnsetPosition, StandardName, TooDeep, NoRow, TooLong, NotWritable, FormTooLong, OutputTooShort, BadFault}
+use Rattle.draft.specs.declared.Refusal.the-variants.{Ended, WrongPrefix, UnexpectedByte, BadText, UnsetPosition, StandardName, TooDeep, NoRow, TooLong, NotWritable, FormTooLong, OutputTooShort, BadFault, BadValue}
 use Rattle.draft.specs.declared.Verdict.the-variants.{Fine}
 use Rattle.draft.specs.declared.Content.the-variants as content
 use Rattle.draft.specs.declared.Row.{Row}
 use Rattle.draft.specs.Bytes.{bytes}
-use Rattle.draft.specs.Content.{contentRule, Held, string, integer, isCode, isMessage, isFault, faultRule}
+use Rattle.draft.specs.Content.{contentRule, asciiThen, Held, string, integer, isCode, isMessage, isFault, faultRule}
 use Rattle.draft.specs.Codebook.{Book}
 use Rattle.draft.specs.Table.{roomOf}
 use Rattle.draft.specs.Read.{Reading, got, refused, message, messageWithin}
@@ -70,13 +76,13 @@ pub exactly :
     (s : List ℕ) (words used : ℕ) (cells : List Cell)
     → Accepts (reading s words) s used cells ↔ ((length s ≤ 65536) × (length cells ≤ roomOf 4096 words) × Begins s used 32 cells)
 unfolding reading
-exactly s words used cells = (there, λ h. complete 65536 s (roomOf 4096 words) 32 (h .2) (h .0) (h .1) (omega arith))
-  where
-    there : Accepts (reading s words) s used cells → (length s ≤ 65536) × (length cells ≤ roomOf 4096 words) × Begins s used 32 cells
-    there a =
-        let d = sound 65536 s (roomOf 4096 words) 32 (a .is) in
-        let e : d .cells ≡ cells = one-list (d .meaning) (a .meaning) in
-        (d .bytes, omega (arith, counts (a .meaning), d .fits), rw e at (d .begins))
+exactly s words used cells = (
+  λ a.
+      let d = sound 65536 s (roomOf 4096 words) 32 (a .is) in
+      let e : d .cells ≡ cells = one-list (d .meaning) (a .meaning) in
+      (d .bytes, omega (arith, counts (a .meaning), d .fits), rw e at (d .begins)),
+  λ h. complete 65536 s (roomOf 4096 words) 32 (h .2) (h .0) (h .1) (omega arith),
+)
 
 -- NESTING is spoken of by a bound: what nests to a depth of at most d nests to at most any greater one.
 pub nesting-bound : {s : List ℕ} {used d e : ℕ} {cells : List Cell} → Begins s used d cells → d ≤ e → Begins s used e cells
@@ -115,8 +121,9 @@ Meant NotWritable most s room deep = ⊥
 Meant FormTooLong most s room deep = ⊥
 Meant OutputTooShort most s room deep = ⊥
 Meant BadFault most s room deep = Underived s
+Meant BadValue most s room deep = Underived s
 
--- REFUSALS SPEAK THE TRUTH. 1, 2, 3, 5, 6, 7 and 14 mean that no beginning of the message is derived at all, 8 and 9 that a derivation, if there
+-- REFUSALS SPEAK THE TRUTH. 1, 2, 3, 5, 6, 7, 14 and 17 mean that no beginning of the message is derived at all, 8 and 9 that a derivation, if there
 -- is one, is beyond the limits, and 10 only that there are too many bytes.
 pub refusals-true :
     (most : ℕ) (s : List ℕ) (room deep : ℕ) {m : Refusal} {at : ℕ} → messageWithin most s room deep ≡ refused m at → Meant m most s room deep
@@ -136,6 +143,7 @@ refusals-true most s room deep {m} {at} e = go m (within-refused most s room dee
     by FormTooLong e = of-reading s room deep e
     by OutputTooShort e = of-reading s room deep e
     by BadFault e = λ used nesting cells b. underived s room deep e (omega arith) (omega arith) b
+    by BadValue e = λ used nesting cells b. underived s room deep e (omega arith) (omega arith) b
 
     go : (m : Refusal) → WithinRefused most s room deep m at → Meant m most s room deep
     go m (of-message e) = by m e
@@ -147,35 +155,25 @@ pub put-aside :
     (s : List ℕ) (used : ℕ)
     → ((room : ℕ) × (deep : ℕ) × (rows : List Row) × (book : Book) × (message s room deep ≡ got rows used book))
     ↔ ((nesting : ℕ) × (cells : List Cell) × Begins s used nesting cells)
-put-aside s used = (there, back)
-  where
-    there :
-        ((room : ℕ) × (deep : ℕ) × (rows : List Row) × (book : Book) × (message s room deep ≡ got rows used book))
-        → (nesting : ℕ) × (cells : List Cell) × Begins s used nesting cells
-    there (room, deep, rows, book, e) = let g = derived-from s room deep e in (deep, g .cells, begins s room deep g)
-
-    back :
-        ((nesting : ℕ) × (cells : List Cell) × Begins s used nesting cells)
-        → (room : ℕ) × (deep : ℕ) × (rows : List Row) × (book : Book) × (message s room deep ≡ got rows used book)
-    back (nesting, cells, b) =
-        let g = reads s (length cells) nesting b (omega arith) (omega arith) in
-        (length cells, nesting, g .rows, g .book, g .is)
+put-aside s used = (
+  λ h. let g = derived-from s (h .0) (h .1) (h .4) in (h .1, g .cells, begins s (h .0) (h .1) g),
+  λ h.
+      let g = reads s (length (h .1)) (h .0) (h .2) (omega arith) (omega arith) in
+      (length (h .1), h .0, g .rows, g .book, g .is),
+)
 
 pub put-aside-meaning :
     (s : List ℕ) (used : ℕ) (cells : List Cell)
     → ((room : ℕ) × (deep : ℕ) × Accepts (message s room deep) s used cells) ↔ ((nesting : ℕ) × Begins s used nesting cells)
-put-aside-meaning s used cells = (there, back)
-  where
-    there : ((room : ℕ) × (deep : ℕ) × Accepts (message s room deep) s used cells) → (nesting : ℕ) × Begins s used nesting cells
-    there (room, deep, a) =
-        let g = derived-from s room deep (a .is) in
-        let e : g .cells ≡ cells = one-list (g .realises) (a .meaning) in
-        (deep, rw e at (begins s room deep g))
-
-    back : ((nesting : ℕ) × Begins s used nesting cells) → (room : ℕ) × (deep : ℕ) × Accepts (message s room deep) s used cells
-    back (nesting, b) =
-        let g = reads s (length cells) nesting b (omega arith) (omega arith) in
-        (length cells, nesting, record { rows = g .rows; book = g .book; is = g .is; meaning = g .realises })
+put-aside-meaning s used cells = (
+  λ h.
+      let g = derived-from s (h .0) (h .1) (h .2 .is) in
+      let e : g .cells ≡ cells = one-list (g .realises) (h .2 .meaning) in
+      (h .1, rw e at (begins s (h .0) (h .1) g)),
+  λ h.
+      let g = reads s (length cells) (h .0) (h .1) (omega arith) (omega arith) in
+      (length cells, h .0, record { rows = g .rows; book = g .book; is = g .is; meaning = g .realises }),
+)
 
 -- GROWTH of the limits. With no less room and no less nesting, an answer other than 8 and 9 stays, with its place, rows and bytes used.
 pub growth-of-limits :
@@ -200,6 +198,20 @@ mean-same a b = same-meaning a b
 pub text-is-utf8 : (t : List ℕ) → Keeps content.Text t ↔ UTF8-octets t
 unfolding contentRule
 text-is-utf8 t = (λ h. derived t (fine-by (wellFormed t) BadText h), λ h. rw (accepted h))
+
+-- DOUBLES AND DATES. What the grammar asks of a Double's text and of a DateTime's are document 02's productions (crate lexical's Grammar): a sign or
+-- none, digits, a point, digits; and 17 bytes, as in `19980717T14:08:55`, of a day that there is.
+then-fine : (a b : Bool) → (b ≡ true → a ≡ true) → (asciiThen a b ≡ Fine) ↔ (b ≡ true)
+then-fine true b h = (fine-by b BadValue, λ e. rw e)
+then-fine false b h = (λ e. clash (fine-by false BadText e) refl, λ e. clash (h e) refl)
+
+pub text-is-double : (t : List ℕ) → Keeps content.Double t ↔ Double t
+unfolding contentRule
+text-is-double t = Iff·trans (then-fine (ascii t) (isDouble t) (double-ascii t)) (double-exactly t)
+
+pub text-is-datetime : (t : List ℕ) → Keeps content.DateTime t ↔ DateTime t
+unfolding contentRule
+text-is-datetime t = Iff·trans (then-fine (ascii t) (isDateTime t) (datetime-ascii t)) (datetime-exactly t)
 
 -- FAULTS. What the grammar asks of a fault's Struct: the items below it are a faultCode, an Integer, and a faultString, a String, in either order,
 -- and no more.

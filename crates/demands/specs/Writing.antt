@@ -5,26 +5,28 @@ use mathlib.Core.Path.{_≡_, refl, sym, _∙_}
 use mathlib.Core.Bool.{true}
 use mathlib.Core.Logic.{_↔_}
 use mathlib.Core.List.{List, _++_}
-use Prim.Native.Nat.{ℕ, _≤_}
+use Prim.Native.Nat.{ℕ, _≤_, _<_}
 use native.Mathlib.Omega.{arith}
 use lib.Dec.{leb}
-use lib.ListN.{length}
+use lib.ListN.{length, length-take}
+use Rattle.text.specs.Texts.{among}
 use Rattle.draft.specs.declared.Row.{Row}
 use Rattle.draft.specs.Bytes.{Below}
 use Rattle.draft.specs.Table.{roomOf}
 use Rattle.draft.specs.Codebook.{Book}
 use Rattle.draft.specs.Read.{Reading, got, message}
 use Rattle.draft.specs.Meaning.{MeanSame}
-use Rattle.draft.specs.Strings.{Text, repeated, textsOf}
+use Rattle.draft.specs.Strings.{Text, repeated, kept, position, textsOf}
 use Rattle.draft.specs.Writable.{writableWithin, writable}
 use Rattle.draft.specs.Written.{written, rowsOf}
 use Rattle.reader.specs.Answers.{reading, tableOf}
 use Rattle.exact.proofs.Realising.{counts, same-meaning}
-use Rattle.written.specs.Occurring.{bit, times}
+use Rattle.occurring.specs.Occurring.{bit, times}
 use Rattle.written.specs.Derivable.{DerivesRows, Within}
-use Rattle.written.proofs.Repeating.{repeated-once}
+use Rattle.occurring.proofs.Repeating.{repeated-once}
 use Rattle.written.proofs.Concluding as conclude
 use Rattle.written.proofs.Returning as return
+use Rattle.written.proofs.Sending.{position-below}
 use Rattle.demands.specs.Reading.{complete}
 
 -- a table is words of 32 bits, and text bytes are bytes
@@ -40,19 +42,12 @@ pub writable-derivable :
     (bytes most deep : ℕ) {T s : List ℕ} (rows : ℕ) → Words T → Octets s
     → (writableWithin bytes most deep T rows s ≡ true)
     ↔ (Within bytes most T rows s × ((xs : List ℕ) × Octets xs × DerivesRows deep xs s (rowsOf most T rows)))
-writable-derivable bytes most deep {T} {s} rows w o = (there, back)
-  where
-    there :
-        writableWithin bytes most deep T rows s ≡ true
-        → Within bytes most T rows s × ((xs : List ℕ) × Octets xs × DerivesRows deep xs s (rowsOf most T rows))
-    there e =
-        let g = conclude.writable-derived bytes most deep T rows s w e in
-        (conclude.within bytes most deep T rows s e, (written s (rowsOf most T rows), conclude.written-below o (g .meaning), g))
-
-    back :
-        Within bytes most T rows s × ((xs : List ℕ) × Octets xs × DerivesRows deep xs s (rowsOf most T rows))
-        → writableWithin bytes most deep T rows s ≡ true
-    back (h, (xs, b, g)) = conclude.derived-writable bytes most deep T rows s h g b
+writable-derivable bytes most deep {T} {s} rows w o = (
+  λ e.
+      let g = conclude.writable-derived bytes most deep T rows s w e in
+      (conclude.within bytes most deep T rows s e, (written s (rowsOf most T rows), conclude.written-below o (g .meaning), g)),
+  λ h. conclude.derived-writable bytes most deep T rows s (h .0) (h .1 .2) (h .1 .1),
+)
 
 -- an answer accepts the bytes t with so many bytes used and so many rows, which mean the same as those of s
 pub record ReadsBack (answer : Reading) (t : List ℕ) (used rows : ℕ) (s : List ℕ) (others : List Row) : Type 0 where
@@ -106,6 +101,12 @@ module _ (T : List ℕ) (rows : ℕ) (s : List ℕ) (e : writable T rows s ≡ t
 -- REPEATED texts are those that occur at least twice, each listed once.
 pub repeated-texts : (u : Text) (ts : List Text) → times u (repeated ts) ≡ bit (leb 2 (times u ts))
 repeated-texts u ts = repeated-once u ts
+
+-- POSITIONS. 256 texts at most have one, which is below 256.
+pub positions : (ts : List Text) → (length (kept ts) ≤ 256) × ((t : Text) → among (kept ts) t ≡ true → position (kept ts) t < 256)
+positions ts =
+    let h : length (kept ts) ≤ 256 = omega (arith, length-take 256 (repeated ts)) in
+    (h, λ t a. omega (arith, h, position-below (kept ts) t a))
 
 -- ONE FORM. Two writable tables, each with its text bytes, have the same written form exactly if they mean the same: with any number of repeated
 -- texts, and a form of any length.

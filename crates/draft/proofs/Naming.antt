@@ -31,6 +31,7 @@ use Rattle.draft.specs.declared.Refusal.the-variants.{
   FormTooLong,
   OutputTooShort,
   BadFault,
+  BadValue,
 }
 use Rattle.draft.specs.Refusals.{numberOf, refusalOf}
 use Rattle.draft.specs.Rows.{itemOf}
@@ -140,10 +141,14 @@ module _ (n : ℕ) where
   unfolding refusalOf
   refusal-output e = rw e
 
-  pub refusal-fault : (n ≡ 1 → ⊥) → (n ≡ 2 → ⊥) → (n ≡ 3 → ⊥) → (n ≡ 5 → ⊥) → (n ≡ 6 → ⊥) → (n ≡ 7 → ⊥) → (n ≡ 8 → ⊥) → (n ≡ 9 → ⊥) → (n ≡ 10 → ⊥) → (n ≡ 11 → ⊥) → (n ≡ 12 → ⊥) → (n ≡ 13 → ⊥) → BadFault ≡ refusalOf n
+  pub refusal-fault : n ≡ 14 → BadFault ≡ refusalOf n
   unfolding refusalOf
-  refusal-fault a b c d e f g h i j k l =
-      rw (ne-eqb _ _ a, ne-eqb _ _ b, ne-eqb _ _ c, ne-eqb _ _ d, ne-eqb _ _ e, ne-eqb _ _ f, ne-eqb _ _ g, ne-eqb _ _ h, ne-eqb _ _ i, ne-eqb _ _ j, ne-eqb _ _ k, ne-eqb _ _ l)
+  refusal-fault e = rw e
+
+  pub refusal-value : (n ≡ 1 → ⊥) → (n ≡ 2 → ⊥) → (n ≡ 3 → ⊥) → (n ≡ 5 → ⊥) → (n ≡ 6 → ⊥) → (n ≡ 7 → ⊥) → (n ≡ 8 → ⊥) → (n ≡ 9 → ⊥) → (n ≡ 10 → ⊥) → (n ≡ 11 → ⊥) → (n ≡ 12 → ⊥) → (n ≡ 13 → ⊥) → (n ≡ 14 → ⊥) → BadValue ≡ refusalOf n
+  unfolding refusalOf
+  refusal-value a b c d e f g h i j k l m =
+      rw (ne-eqb _ _ a, ne-eqb _ _ b, ne-eqb _ _ c, ne-eqb _ _ d, ne-eqb _ _ e, ne-eqb _ _ f, ne-eqb _ _ g, ne-eqb _ _ h, ne-eqb _ _ i, ne-eqb _ _ j, ne-eqb _ _ k, ne-eqb _ _ l, ne-eqb _ _ m)
 
 -- no refusal has the number 0, and each its own
 pub number-some : (m : Refusal) → numberOf m ≡ 0 → ⊥
@@ -160,6 +165,7 @@ number-some NotWritable e = omega (arith, e)
 number-some FormTooLong e = omega (arith, e)
 number-some OutputTooShort e = omega (arith, e)
 number-some BadFault e = omega (arith, e)
+number-some BadValue e = omega (arith, e)
 
 pub number-own : (m : Refusal) → refusalOf (numberOf m) ≡ m
 unfolding refusalOf
@@ -176,5 +182,6 @@ number-own NotWritable = refl
 number-own FormTooLong = refl
 number-own OutputTooShort = refl
 number-own BadFault = refl
+number-own BadValue = refl
 
-pub ruleset refusals = (refusal-ended, refusal-prefix, refusal-byte, refusal-text, refusal-unset, refusal-name, refusal-deep, refusal-row, refusal-long, refusal-unwritable, refusal-form, refusal-output, refusal-fault)
+pub ruleset refusals = (refusal-ended, refusal-prefix, refusal-byte, refusal-text, refusal-unset, refusal-name, refusal-deep, refusal-row, refusal-long, refusal-unwritable, refusal-form, refusal-output, refusal-fault, refusal-value)

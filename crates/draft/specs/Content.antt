@@ -6,8 +6,10 @@ use lib.ListN.{length}
 use lib.Dec.{leb, eqb}
 use Rattle.text.specs.Utf8.{wellFormed}
 use Rattle.text.specs.Texts.{ascii, same, standardName}
+use Rattle.lexical.specs.Double.{isDouble}
+use Rattle.lexical.specs.DateTime.{isDateTime}
 use Rattle.draft.specs.declared.Refusal.{Refusal}
-use Rattle.draft.specs.declared.Refusal.the-variants.{Ended, BadText, StandardName, BadFault}
+use Rattle.draft.specs.declared.Refusal.the-variants.{Ended, BadText, StandardName, BadFault, BadValue}
 use Rattle.draft.specs.declared.Verdict.{Verdict}
 use Rattle.draft.specs.declared.Verdict.the-variants.{Fine, Bad}
 use Rattle.draft.specs.declared.Content.{Content}
@@ -19,10 +21,15 @@ abbrev pub fineIf : Bool → Refusal → Verdict
 fineIf true refusal = Fine
 fineIf false refusal = Bad refusal
 
--- a Double's and a DateTime's bytes are ASCII, a String's are UTF-8, a Binary's are any
+-- bytes that are not ASCII are 5, whatever else they are; then ASCII that is no such text is 17
+abbrev pub asciiThen : Bool → Bool → Verdict
+asciiThen true good = fineIf good BadValue
+asciiThen false good = Bad BadText
+
+-- a Double's and a DateTime's bytes are ASCII and such a text, a String's are UTF-8, a Binary's are any
 unfoldable pub contentRule : Content → List ℕ → Verdict
-contentRule Double s = fineIf (ascii s) BadText
-contentRule DateTime s = fineIf (ascii s) BadText
+contentRule Double s = asciiThen (ascii s) (isDouble s)
+contentRule DateTime s = asciiThen (ascii s) (isDateTime s)
 contentRule Binary s = Fine
 contentRule Text s = fineIf (wellFormed s) BadText
 

@@ -154,7 +154,7 @@ mutual
     boolean-false : Boolean (code "f" ∷ []) 0
 
   -- Double := 'D' SizeOctet AsciiChar...
-  -- 01: not looked into further (002: as the XML-RPC specification describes), and so a DateTimeISO8601
+  -- 02: the AsciiChars are a Double of lexical's Grammar (002: as the XML-RPC specification describes), and a DateTimeISO8601's a DateTime of it
   pub data Double : List ℕ → List ℕ → Type 0 where
     double : {n : ℕ} {t : List ℕ} → n ≡ length t → Keeps content.Double t → Double (code "D" ∷ n ∷ t) t
 

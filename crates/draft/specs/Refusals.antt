@@ -17,6 +17,7 @@ use Rattle.draft.specs.declared.Refusal.the-variants.{
   FormTooLong,
   OutputTooShort,
   BadFault,
+  BadValue,
 }
 
 abbrev pub numberOf : Refusal → ℕ
@@ -46,6 +47,8 @@ numberOf FormTooLong = 12
 numberOf OutputTooShort = 13
 -- 02: a fault whose Struct does not hold the two members of a fault, and no more
 numberOf BadFault = 14
+-- 02: a Double or a DateTime in ASCII that is no such text
+numberOf BadValue = 17
 
 abbrev pickRefusal : Bool → Refusal → Refusal → Refusal
 pickRefusal true x y = x
@@ -66,4 +69,5 @@ refusalOf n =
     (pickRefusal (eqb n 11) NotWritable
     (pickRefusal (eqb n 12) FormTooLong
     (pickRefusal (eqb n 13) OutputTooShort
-    BadFault)))))))))))
+    (pickRefusal (eqb n 14) BadFault
+    BadValue))))))))))))

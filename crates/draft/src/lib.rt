@@ -18,6 +18,7 @@ pub enum Refusal {
     FormTooLong,
     OutputTooShort,
     BadFault,
+    BadValue,
 }
 
 // What a rule says of some content.
@@ -113,6 +114,7 @@ pub fn number(refusal: Refusal) -> u8
         Refusal::FormTooLong => 12,
         Refusal::OutputTooShort => 13,
         Refusal::BadFault => 14,
+        Refusal::BadValue => 17,
     }
 }
 
@@ -133,7 +135,8 @@ pub fn refusal_of(number: usize) -> Refusal
         11 => Refusal::NotWritable,
         12 => Refusal::FormTooLong,
         13 => Refusal::OutputTooShort,
-        _ => Refusal::BadFault,
+        14 => Refusal::BadFault,
+        _ => Refusal::BadValue,
     }
 }
 

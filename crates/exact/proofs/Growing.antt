@@ -13,8 +13,10 @@ use borrow.Author.Tests.{ltb-true, ltb-false, leb-true, leb-false, lt-ltb, le-le
 use Rattle.text.specs.Utf8.{wellFormed}
 use Rattle.text.proofs.Comparing.{clash}
 use Rattle.text.specs.Texts.{ascii, standardName}
+use Rattle.lexical.specs.Double.{isDouble}
+use Rattle.lexical.specs.DateTime.{isDateTime}
 use Rattle.draft.specs.declared.Refusal.{Refusal}
-use Rattle.draft.specs.declared.Refusal.the-variants.{Ended, WrongPrefix, UnexpectedByte, BadText, UnsetPosition, StandardName, TooDeep, NoRow, TooLong, NotWritable, FormTooLong, OutputTooShort, BadFault}
+use Rattle.draft.specs.declared.Refusal.the-variants.{Ended, WrongPrefix, UnexpectedByte, BadText, UnsetPosition, StandardName, TooDeep, NoRow, TooLong, NotWritable, FormTooLong, OutputTooShort, BadFault, BadValue}
 use Rattle.draft.specs.declared.Row.{Row}
 use Rattle.draft.specs.declared.Verdict.{Verdict}
 use Rattle.draft.specs.declared.Verdict.the-variants.{Fine, Bad}
@@ -30,7 +32,7 @@ use Rattle.draft.specs.declared.Entry.{Entry}
 use Rattle.draft.specs.declared.Entry.the-variants.{Unset, Text}
 use Rattle.draft.specs.Bytes.{bytes, byteAt, unsignedAt, part}
 use Rattle.draft.specs.Rows.{below}
-use Rattle.draft.specs.Content.{contentRule, fineIf, badIf, allThere, verdict, nameRule, Held, isFault, faultRule}
+use Rattle.draft.specs.Content.{contentRule, fineIf, asciiThen, badIf, allThere, verdict, nameRule, Held, isFault, faultRule}
 use Rattle.draft.specs.Want.{fieldsOf, announced, wantOf}
 use Rattle.draft.proofs.Wanting.{want-none, want-fields, want-content}
 use Rattle.draft.specs.Codebook.{Book, clear, recorded as record-text}
@@ -63,6 +65,7 @@ OfReading NotWritable = ⊥
 OfReading FormTooLong = ⊥
 OfReading OutputTooShort = ⊥
 OfReading BadFault = Unit {0}
+OfReading BadValue = Unit {0}
 
 -- an answer, and the answer when there is more: acceptance stays, and so does a refusal that does not say that there is too little
 pub data Stays (more limits : Bool) (s s′ : List ℕ) : Reading → Reading → Type 0 where
@@ -154,10 +157,14 @@ bad-of : (b : Bool) (m : Refusal) {n : Refusal} → OfReading m → badIf b m �
 bad-of true m {n} h e = let i : m ≡ n = cc in rw i at h
 bad-of false m h e = let z : _≡_ {A = ℕ} 0 1 = cc in absurd (omega arith)
 
+ascii-of : (a b : Bool) {n : Refusal} → asciiThen a b ≡ Bad n → OfReading n
+ascii-of true b e = fine-of b BadValue tt e
+ascii-of false b e = fine-of false BadText tt e
+
 content-of : (c : Content) (t : List ℕ) {m : Refusal} → contentRule c t ≡ Bad m → OfReading m
 unfolding contentRule
-content-of content.Double t e = fine-of (ascii t) BadText tt e
-content-of content.DateTime t e = fine-of (ascii t) BadText tt e
+content-of content.Double t e = ascii-of (ascii t) (isDouble t) e
+content-of content.DateTime t e = ascii-of (ascii t) (isDateTime t) e
 content-of content.Binary t e = let z : _≡_ {A = ℕ} 0 1 = cc in absurd (omega arith)
 content-of content.Text t e = fine-of (wellFormed t) BadText tt e
 

@@ -30,7 +30,7 @@ fn is_text(table: &[u32], room: usize, text: &[u8], r: usize, name: &[u8]) -> bo
 {
     let row = table::get_row(table, room, r);
     if row.kind == STRING {
-        text::equal(content::part(text, row.a as usize, row.b as usize), name)
+        names::equal(content::part(text, row.a as usize, row.b as usize), name)
     } else {
         false
     }

@@ -4,12 +4,12 @@ use mathlib.Core.List.{List}
 use Prim.Native.Nat.{ℕ}
 use Rattle.draft.specs.declared.Refusal.{Refusal}
 use Rattle.draft.specs.Refusals.{numberOf}
-use Rattle.job.specs.declared.JobRefusal.{JobRefusal}
-use Rattle.job.specs.declared.Found.{Found}
-use Rattle.job.specs.declared.Found.the-variants as found
+use Rattle.records.specs.declared.JobRefusal.{JobRefusal}
+use Rattle.records.specs.declared.Found.{Found}
+use Rattle.records.specs.declared.Found.the-variants as found
 use Rattle.job.specs.declared.Answer.{Answer}
 use Rattle.job.specs.declared.Answer.the-variants.{Accepted, Refused, Missing}
-use Rattle.job.specs.Job.{refusalNumber}
+use Rattle.records.specs.Job.{refusalNumber}
 use Rattle.job.specs.Cards.{Reads}
 use Rattle.interface.specs.Cards.{CardReported, finding, findingOf}
 

@@ -2,9 +2,9 @@
 use mathlib.Core.Path.{_≡_}
 use mathlib.Core.List.{List}
 use Prim.Native.Nat.{ℕ}
-use Rattle.job.specs.declared.Found.{Found}
-use Rattle.job.specs.declared.Found.the-variants.{Body, Missing}
-use Rattle.job.specs.Job.{refusalNumber}
+use Rattle.records.specs.declared.Found.{Found}
+use Rattle.records.specs.declared.Found.the-variants.{Body, Missing}
+use Rattle.records.specs.Job.{refusalNumber}
 use Rattle.job.specs.Cards.{answerFor, tableFor, Report, reportOf}
 
 abbrev pub cardReport : ℕ → ℕ → ℕ → ℕ → ℕ → Report

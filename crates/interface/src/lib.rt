@@ -1,11 +1,12 @@
 // Reading, writing and job files for programs in C and Rust. A slice passes as a pointer and then a length, a `&mut u64` as a pointer.
-mod in_pieces;
+mod in_pieces; // in_pieces.rt: messages in pieces
+mod lookups; // lookups.rt: looking up members, and positions
 
 use reader::Answer;
 ghost use mathlib.Core.Path.{_≡_};
 ghost use lib.ListN.{length, drop};
 ghost use Rattle.reader.specs.Answers.{reading};
-ghost use Rattle.job.specs.Job.{find, bodyOf};
+ghost use Rattle.records.specs.Job.{find, bodyOf};
 ghost use Rattle.interface.specs.Reported.{Reported, WriteReported};
 ghost use Rattle.interface.specs.Cards.{CardReported, finding, findingOf};
 
@@ -100,7 +101,7 @@ pub extern "C" fn binmode_read_card(
             *used = 0;
             *place = p as u64;
             *body = 0;
-            job::number(refusal)
+            records::number(refusal)
         }
     }
 }
@@ -118,9 +119,9 @@ pub extern "C" fn binmode_next_card(
 ) -> u8
     ensures { λ n. ⌜ finding n (now (start .exit)) (now (size .exit)) (now (place .exit)) ≡ findingOf (find number number from 0 (drop from (now (file .entry)))) ⌝ }
 {
-    let found = job::find_next(file, number, from);
+    let found = records::find_next(file, number, from);
     match found {
-        job::Found::Body {
+        records::Found::Body {
             start: b,
             length: n,
         } => {
@@ -129,11 +130,11 @@ pub extern "C" fn binmode_next_card(
             *place = 0;
             0
         }
-        job::Found::Missing { refusal, place: p } => {
+        records::Found::Missing { refusal, place: p } => {
             *start = 0;
             *size = 0;
             *place = p as u64;
-            job::number(refusal)
+            records::number(refusal)
         }
     }
 }

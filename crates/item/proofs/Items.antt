@@ -205,11 +205,11 @@ module _ (s : List ℕ) (at : ℕ) (book : Book) {bytes room from r : ℕ} {T T�
     name-judged i = done name-is (judged-did v q (got-did e (did-next d e)) i)
 
 -- an item's own row
-pub close-refused : {step : Step} {k b r room : ℕ} {T T′ : List ℕ} → (step .number ≡ 0 → ⊥) → Closed step k b r room T T′ step
-close-refused n = record { same = refl; wrote = λ e. absurd (n e) }
+pub close-refused : {step : Step} {k b r room : ℕ} {T : List ℕ} → (step .number ≡ 0 → ⊥) → Closed step k b r room T T step
+close-refused n = record { same = refl; wrote = λ e. absurd (n e); kept = λ m. refl }
 
-pub close-next : {step : Step} {k b r room : ℕ} {T T′ : List ℕ} → T′ ≡ setRow room T r (row k 0 b (step .row)) → Closed step k b r room T T′ step
-close-next w = record { same = refl; wrote = λ e. w }
+pub close-next : {step : Step} {k b r room : ℕ} {T T′ : List ℕ} → step .number ≡ 0 → T′ ≡ setRow room T r (row k 0 b (step .row)) → Closed step k b r room T T′ step
+close-next e w = record { same = refl; wrote = λ f. w; kept = λ n. absurd (n e) }
 
 pub end-word : {step : Step} {room : ℕ} → Ends step room → room ≤ 4096 → step .number ≡ 0 → Fits w32 (step .row)
 end-word {step} {room} h k e = let l : step .row ≤ room = h .within e in omega arith

@@ -67,10 +67,11 @@ pub record Did (o : Reading) (bytes room from r : ℕ) (T T′ W′ : List ℕ) 
 pub record Stored (o : Book → Reading) (bytes room from r : ℕ) (T T′ : List ℕ) (step : Step) : Type 0 where
   pub did : (W : List ℕ) → Did (o (bookOf W)) bytes room from r T T′ W step
 
--- an item's row, stored behind the rows of what it holds if those were read
+-- an item's row, stored behind the rows of what it holds if those were read; else the table is left as it is
 pub record Closed (step : Step) (kind b r room : ℕ) (T T′ : List ℕ) (result : Step) : Type 0 where
   pub same : result ≡ step
   pub wrote : step .number ≡ 0 → T′ ≡ setRow room T r (row kind 0 b (step .row))
+  pub kept : (step .number ≡ 0 → ⊥) → T′ ≡ T
 
 -- a step ends within the room
 pub record Ends (step : Step) (room : ℕ) : Type 0 where

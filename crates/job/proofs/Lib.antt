@@ -1,6 +1,1 @@
-pub mod Looking
-pub mod Finding
-pub mod Trails
-pub mod Standing
-pub mod Counting
 pub mod Reading

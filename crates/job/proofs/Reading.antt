@@ -8,9 +8,9 @@ use Rattle.draft.specs.Bytes.{part}
 use Rattle.reader.specs.declared.Answer.{Answer as ReaderAnswer}
 use Rattle.reader.specs.declared.Answer.the-variants as reader
 use Rattle.reader.specs.Answers.{reading, Answers}
-use Rattle.job.specs.declared.JobRefusal.{JobRefusal}
-use Rattle.job.specs.declared.Found.{Found}
-use Rattle.job.specs.declared.Found.the-variants as found
+use Rattle.records.specs.declared.JobRefusal.{JobRefusal}
+use Rattle.records.specs.declared.Found.{Found}
+use Rattle.records.specs.declared.Found.the-variants as found
 use Rattle.job.specs.declared.Answer.{Answer}
 use Rattle.job.specs.declared.Answer.the-variants.{Accepted, Refused, Missing}
 use Rattle.job.specs.Cards.{located, Reads}

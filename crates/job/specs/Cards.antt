@@ -9,11 +9,11 @@ use Rattle.draft.specs.Refusals.{numberOf}
 use Rattle.reader.specs.declared.Answer.{Answer as ReaderAnswer}
 use Rattle.reader.specs.declared.Answer.the-variants as reader
 use Rattle.reader.specs.Answers.{reading, answerOf, tableOf}
-use Rattle.job.specs.declared.Found.{Found}
-use Rattle.job.specs.declared.Found.the-variants as found
+use Rattle.records.specs.declared.Found.{Found}
+use Rattle.records.specs.declared.Found.the-variants as found
 use Rattle.job.specs.declared.Answer.{Answer}
 use Rattle.job.specs.declared.Answer.the-variants.{Accepted, Refused, Missing}
-use Rattle.job.specs.Job.{refusalNumber}
+use Rattle.records.specs.Job.{refusalNumber}
 
 -- a card's own answer, with places and offsets counted from its body, and where that stands in the file
 abbrev pub located : ℕ → ReaderAnswer → Answer

@@ -1,3 +1,1 @@
-pub mod Job
 pub mod Cards
-pub mod Sound

@@ -6,10 +6,10 @@ use native.Mathlib.Omega.{arith}
 use lib.ListN.{length, drop, length-drop}
 use mir.Syntax.{w64}
 use mir.Val.{Fits}
-use Rattle.job.specs.declared.Found.{Found}
-use Rattle.job.specs.declared.Found.the-variants.{Body}
-use Rattle.job.specs.Job.{find}
-use Rattle.job.proofs.Standing.{Lies, lies-from}
+use Rattle.records.specs.declared.Found.{Found}
+use Rattle.records.specs.declared.Found.the-variants.{Body}
+use Rattle.records.specs.Job.{find}
+use Rattle.records.proofs.Standing.{Lies, lies-from}
 
 module _ (s : List ℕ) (n from start size : ℕ) {f : Found} (h : from ≤ length s) (e : f ≡ find n n from 0 (drop from s)) (i : f ≡ Body start size) where
   lie : Lies from start size (drop from s)

@@ -1,3 +1,2 @@
 pub mod Beginning
-pub mod Faults
 pub mod Messages

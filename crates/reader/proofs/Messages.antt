@@ -1,4 +1,4 @@
--- What answers each return of the functions that read a Call, a Response and a whole message. Assumes nothing.
+-- What answers each return of the functions that read a whole message. Assumes nothing.
 use mathlib.Core.Path.{_≡_, refl, ap, _∙_}
 use mathlib.Core.Bool.{Bool, true, false}
 use mathlib.Core.List.{List}
@@ -12,27 +12,16 @@ use Rattle.draft.specs.declared.Refusal.the-variants.{Ended, WrongPrefix, Unexp
 use Rattle.draft.specs.Refusals.{refusalOf}
 use Rattle.draft.specs.Codebook.{Book, clear}
 use Rattle.draft.specs.Table.{roomOf}
-use Rattle.draft.specs.Read.{Reading, over, only, opened, value, callItem, faultStruct, responseItem, callOrResponse, prefix, agree, message, messageWithin}
+use Rattle.draft.specs.Read.{Reading, callItem, responseItem, callOrResponse, prefix, agree, message, messageWithin}
 use Rattle.draft.proofs.Naming.{number-own}
 use Rattle.codebook.specs.Words.{bookOf}
 use Rattle.codebook.proofs.Recording.{clear-holds}
 use Rattle.item.specs.declared.Step.{Step}
 use Rattle.item.specs.Contract.{refusedAt, Did}
-use Rattle.item.proofs.Readings.{Got, Not, did-next, did-not, done, did-no, did-ends, at-in, row-in, opened-full, opened-on, only-short, only-no, only-on, pair-first, pair-both, over-closed}
+use Rattle.item.proofs.Readings.{Got, Not, did-next, did-not, done, did-no}
 use Rattle.reader.specs.declared.Answer.{Answer}
 use Rattle.reader.specs.declared.Answer.the-variants as answer
 use Rattle.reader.specs.Answers.{reading, answerOf, tableOf, Answers}
-
--- what follows `R`
-module _ (s : List ℕ) (deep at : ℕ) (book : Book) {bytes room from r : ℕ} {T T′ W′ : List ℕ} (h : r < room) (k : at < length s) where
-  pub response-short : {step : Step} → length s ≤ at + 1 → step ≡ refusedAt Ended (at + 1) → Did (responseItem s room deep at r book) bytes room from r T T′ W′ step
-  response-short l e = opened-on s 1 at _ h (omega arith) (did-no Ended e (simp (le-ltb _ _ l)))
-
-  pub response-fault : {step : Step} → at + 1 < length s → getD s (at + 1) 0 ≡ 70 → Did (over 3 1 r (faultStruct s room deep (at + 2) (r + 1) book)) bytes room from r T T′ W′ step → Did (responseItem s room deep at r book) bytes room from r T T′ W′ step
-  response-fault l e d = opened-on s 1 at _ h (omega arith) (done (simp (lt-ltb _ _ l, eq-eqb _ _ e)) d)
-
-  pub response-value : {step : Step} → at + 1 < length s → (getD s (at + 1) 0 ≡ 70 → ⊥) → Did (over 2 1 r (value s room deep (at + 1) (r + 1) book)) bytes room from r T T′ W′ step → Did (responseItem s room deep at r book) bytes room from r T T′ W′ step
-  response-value l n d = opened-on s 1 at _ h (omega arith) (done (simp (lt-ltb _ _ l, ne-eqb _ _ n)) d)
 
 -- the first item
 module _ (s : List ℕ) (deep at : ℕ) (book : Book) {bytes room from r : ℕ} {T T′ W′ : List ℕ} where
@@ -53,16 +42,7 @@ module _ (s : List ℕ) (deep at : ℕ) (book : Book) {bytes room from r : ℕ} 
     unfolding callOrResponse
     first-neither m e = did-no UnexpectedByte e (simp (lt-ltb _ _ h, ne-eqb _ _ n, ne-eqb _ _ m))
 
-pub ahead-next : (n : ℕ) → n + 1 ≤ n + 1 + 1
-ahead-next n = omega arith
-
-pub ahead-two : (n : ℕ) → n + 1 ≤ n + 2 + 1
-ahead-two n = omega arith
-
-pub one-in : {n m : ℕ} → n < m → n + 1 ≤ m
-one-in h = omega arith
-
-pub ruleset messages = (only-short, only-no, only-on, pair-first, pair-both, at-in, row-in, did-ends, opened-full, opened-on, over-closed, response-short, response-fault, response-value, first-short, first-call, first-response, first-neither, ahead-next, ahead-two, one-in)
+pub ruleset messages = (first-short, first-call, first-response, first-neither)
 
 -- what follows the first bytes, read into zeros with an empty codebook
 module _ (s : List ℕ) (words : ℕ) {room from : ℕ} {T T₁ W W₁ : List ℕ} {step : Step} (f : room ≡ roomOf 4096 words) (w : W ≡ replicate 512 0) (d : Did (callOrResponse s room 32 12 0 (bookOf W)) (length s) room from 0 T T₁ W₁ step) where

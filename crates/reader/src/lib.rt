@@ -1,10 +1,10 @@
-// Reading a whole message into a lent table of rows.
+// Reading a whole message into a lent table of rows. `read` assumes nothing.
 use draft::Refusal;
 use item::Step;
 ghost use mathlib.Core.Path.{_≡_};
-ghost use Prim.Native.Nat.{_+_, _≤_, _<_};
+ghost use Prim.Native.Nat.{_+_, _≤_};
 ghost use lib.ListN.{length, replicate};
-ghost use Rattle.draft.specs.Read.{pair, string, only, arrayItem, structItem, nested, callItem, faultStruct, responseItem, callOrResponse, prefix, agree};
+ghost use Rattle.draft.specs.Read.{callOrResponse, prefix, agree};
 ghost use Rattle.draft.specs.Codebook.{clear};
 ghost use Rattle.draft.specs.Table.{roomOf};
 ghost use Rattle.codebook.specs.Words.{bookOf};
@@ -22,142 +22,6 @@ const MOST_BYTES: usize = 65536;
 
 const MOST_NESTING: usize = 32;
 
-// An Array, where nothing else is allowed.
-fn read_array_only(
-    s: &[u8],
-    at: usize,
-    row: usize,
-    deep: usize,
-    room: usize,
-    table: &mut [u32],
-    book: &mut [u32],
-) -> Step
-    requires { ⌜ Ready at row room (length (now s)) (length (now table)) (length (now book)) ⌝ }
-    ensures { λ r. ⌜ Did (only (now (s .entry)) room 65 (arrayItem (now (s .entry)) room (nested (now (s .entry)) room deep)) at row (bookOf (now (book .entry)))) (length (now (s .entry))) room (at + 1) row (now (table .entry)) (now (table .exit)) (now (book .exit)) r ⌝ }
-{
-    if s.len() <= at {
-        return item::refuse(Refusal::Ended, at);
-    }
-    if s[at] == b'A' {
-        value::read_array(s, at, row, deep, room, table, book)
-    } else {
-        item::refuse(Refusal::UnexpectedByte, at)
-    }
-}
-
-// A Struct, where nothing else is allowed.
-fn read_struct_only(
-    s: &[u8],
-    at: usize,
-    row: usize,
-    deep: usize,
-    room: usize,
-    table: &mut [u32],
-    book: &mut [u32],
-) -> Step
-    requires { ⌜ Ready at row room (length (now s)) (length (now table)) (length (now book)) ⌝ }
-    ensures { λ r. ⌜ Did (only (now (s .entry)) room 83 (structItem (now (s .entry)) room (nested (now (s .entry)) room deep)) at row (bookOf (now (book .entry)))) (length (now (s .entry))) room (at + 1) row (now (table .entry)) (now (table .exit)) (now (book .exit)) r ⌝ }
-{
-    if s.len() <= at {
-        return item::refuse(Refusal::Ended, at);
-    }
-    if s[at] == b'S' {
-        value::read_struct(s, at, row, deep, room, table, book)
-    } else {
-        item::refuse(Refusal::UnexpectedByte, at)
-    }
-}
-
-// A fault's Struct, judged once it is read.
-fn read_fault_struct(
-    s: &[u8],
-    at: usize,
-    row: usize,
-    deep: usize,
-    room: usize,
-    table: &mut [u32],
-    book: &mut [u32],
-) -> Step
-    requires { ⌜ Ready at row room (length (now s)) (length (now table)) (length (now book)) ⌝ }
-    ensures { λ r. ⌜ Did (faultStruct (now (s .entry)) room deep at row (bookOf (now (book .entry)))) (length (now (s .entry))) room (at + 1) row (now (table .entry)) (now (table .exit)) (now (book .exit)) r ⌝ }
-{
-    let inside = read_struct_only(s, at, row, deep, room, table, book);
-    if inside.number != 0 {
-        return inside;
-    }
-    let verdict = fault::judge(table, room, s, row, inside.row);
-    item::judged(verdict, at, inside)
-}
-
-// A Call's method and its Array.
-fn read_method_and_array(
-    s: &[u8],
-    at: usize,
-    row: usize,
-    deep: usize,
-    room: usize,
-    table: &mut [u32],
-    book: &mut [u32],
-) -> Step
-    requires { ⌜ Ready at row room (length (now s)) (length (now table)) (length (now book)) ⌝ }
-    ensures { λ r. ⌜ Did (pair (string (now (s .entry)) room) (only (now (s .entry)) room 65 (arrayItem (now (s .entry)) room (nested (now (s .entry)) room deep))) at row (bookOf (now (book .entry)))) (length (now (s .entry))) room (at + 1) row (now (table .entry)) (now (table .exit)) (now (book .exit)) r ⌝ }
-{
-    let step = item::read_string(s, at, row, room, table, book);
-    if step.number != 0 {
-        return step;
-    }
-    read_array_only(s, step.at, step.row, deep, room, table, book)
-}
-
-// The Call whose byte stands at p.
-fn read_call(
-    s: &[u8],
-    at: usize,
-    row: usize,
-    deep: usize,
-    room: usize,
-    table: &mut [u32],
-    book: &mut [u32],
-) -> Step
-    requires { ⌜ (at < length (now s)) × Ready at row room (length (now s)) (length (now table)) (length (now book)) ⌝ }
-    ensures { λ r. ⌜ Did (callItem (now (s .entry)) room deep at row (bookOf (now (book .entry)))) (length (now (s .entry))) room (at + 1) row (now (table .entry)) (now (table .exit)) (now (book .exit)) r ⌝ }
-{
-    if room <= row {
-        return item::refuse(Refusal::NoRow, at);
-    }
-    let step = read_method_and_array(s, at + 1, row + 1, deep, room, table, book);
-    item::close(step, 1, 2, row, room, table)
-}
-
-// The Response whose byte stands at p: a fault's Struct, or a Value.
-fn read_response(
-    s: &[u8],
-    at: usize,
-    row: usize,
-    deep: usize,
-    room: usize,
-    table: &mut [u32],
-    book: &mut [u32],
-) -> Step
-    requires { ⌜ (at < length (now s)) × Ready at row room (length (now s)) (length (now table)) (length (now book)) ⌝ }
-    ensures { λ r. ⌜ Did (responseItem (now (s .entry)) room deep at row (bookOf (now (book .entry)))) (length (now (s .entry))) room (at + 1) row (now (table .entry)) (now (table .exit)) (now (book .exit)) r ⌝ }
-{
-    if room <= row {
-        return item::refuse(Refusal::NoRow, at);
-    }
-    let next = at + 1;
-    if s.len() <= next {
-        return item::refuse(Refusal::Ended, next);
-    }
-    if s[next] == b'F' {
-        let step = read_fault_struct(s, at + 2, row + 1, deep, room, table, book);
-        item::close(step, 3, 1, row, room, table)
-    } else {
-        let step = value::read_value(s, next, row + 1, deep, room, table, book);
-        item::close(step, 2, 1, row, room, table)
-    }
-}
-
 fn read_call_or_response(
     s: &[u8],
     at: usize,
@@ -174,10 +38,10 @@ fn read_call_or_response(
         return item::refuse(Refusal::Ended, at);
     }
     if s[at] == b'C' {
-        return read_call(s, at, row, deep, room, table, book);
+        return calls::read_call(s, at, row, deep, room, table, book);
     }
     if s[at] == b'R' {
-        return read_response(s, at, row, deep, room, table, book);
+        return responses::read_response(s, at, row, deep, room, table, book);
     }
     item::refuse(Refusal::UnexpectedByte, at)
 }

@@ -1,7 +1,13 @@
-// Reads one message from standard input and writes its written form, the bytes alone; or a line with the refusal, the reader's or the
-// writer's. No message begins as that line does.
+// Reads one message, from standard input or from the file that is named, and writes its written form, the bytes alone. A refusal, the
+// reader's or the writer's, is a line on standard error, and nothing is written then.
 use console::Input;
-use libc::STDIN_FILENO;
+
+fn complain(number: u8, place: usize) {
+    let mut space = [0u8; 160];
+    let line: &mut [u8] = &mut space;
+    let n = lines::put_refusal(line, number, place);
+    console::complain(content::part(line, 0, n));
+}
 
 // The written form of a table that was read, whose texts lie in its message.
 fn write_form(table: &[u32], rows: usize, message: &[u8], output: &mut [u8]) {
@@ -11,7 +17,7 @@ fn write_form(table: &[u32], rows: usize, message: &[u8], output: &mut [u8]) {
             console::write(content::part(output, 0, length));
         }
         writer::Answer::Refused(refusal) => {
-            console::write_refusal(draft::number(refusal), 0);
+            complain(draft::number(refusal), 0);
         }
     }
 }
@@ -25,20 +31,18 @@ fn rewrite(message: &[u8]) {
             write_form(&table, rows, message, &mut output);
         }
         reader::Answer::Refused { refusal, place } => {
-            console::write_refusal(draft::number(refusal), place);
+            complain(draft::number(refusal), place);
         }
     }
 }
 
 fn rewrite_input(room: &mut [u8]) {
-    let input = console::read_all(STDIN_FILENO, room);
+    let input = console::read_input(b"usage: rewrite [FILE]\n", room);
     match input {
         Input::Bytes(n) => {
             rewrite(content::part(room, 0, n));
         }
-        Input::Failed => {
-            os::fail(b"standard input");
-        }
+        Input::Failed => {}
     }
 }
 

@@ -16,10 +16,11 @@ use Rattle.text.specs.Texts.{among}
 use Rattle.text.proofs.Comparing.{clash}
 use Rattle.draft.specs.Strings.{Text}
 use Rattle.draft.specs.Table.{from}
-use Rattle.texts.specs.Contract.{textAt, before, First, Firsts, Marks, news, newCost, NewCost, Scanned}
-use Rattle.texts.proofs.Among.{at-or-not}
-use Rattle.texts.proofs.Numbered.{from-step, from-none, from-again, from-other, seen-first, first-once, first-of}
-use Rattle.texts.proofs.Comparing.{text-short}
+use Rattle.buckets.specs.Numbered.{textAt, before, First, Firsts, Marks}
+use Rattle.texts.specs.Contract.{news, newCost, NewCost, Scanned}
+use Rattle.occurring.proofs.Among.{at-or-not}
+use Rattle.buckets.proofs.Numbered.{from-step, from-none, from-again, from-other, seen-first, first-once, first-of}
+use Rattle.buckets.proofs.Comparing.{text-short}
 
 -- where the pass stands at string r of n
 pub record Scan (t : ℕ → Text) (n r sum : ℕ) (fs tw : List ℕ) : Type 0 where
@@ -47,6 +48,15 @@ scan-first t n fs tw h k =
 new-most : (b : Bool) (m : ℕ) → newCost b m ≤ 5 + m
 new-most true m = omega arith
 new-most false m = omega arith
+
+-- what a string costs, by whether its text is new
+pub new-yes : {t : ℕ → Text} {j f : ℕ} {u : List ℕ} → f ≡ j → u ≡ t j → NewCost t j f (5 + length u)
+new-yes e h = record { is = rw (eq-eqb _ _ e, h) }
+
+pub new-no : {t : ℕ → Text} {j f : ℕ} → (f ≡ j → ⊥) → NewCost t j f 0
+new-no e = record { is = rw (ne-eqb _ _ e) }
+
+pub ruleset costing = (new-yes, new-no)
 
 pub new-fits : (W s : List ℕ) {n r sum f x : ℕ} {fs tw : List ℕ} → Scan (textAt W s) n r sum fs tw → NewCost (textAt W s) r f x → length s ≤ 65536 → Fits w64 (sum + x)
 new-fits W s {r = r} {f = f} i e l = omega (arith, new-most (eqb f r) (length (textAt W s r)), i .small, e .is, text-short W s r)

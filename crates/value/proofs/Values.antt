@@ -1,22 +1,22 @@
 -- What answers each return of the functions that read a Value, an Array or a Struct. Assumes nothing.
-use mathlib.Core.Path.{_≡_, refl}
+use mathlib.Core.Path.{_≡_, refl, _∙_}
 use mathlib.Core.List.{List, []}
 use Prim.Native.Nat.{ℕ, zero, suc, _+_, _-_, _≤_, _<_}
 use native.Mathlib.Omega.{arith}
 use native.Mathlib.Numerals.{sub-one}
 use lib.ListN.{length, getD}
 use borrow.Author.Tests.{lt-ltb, le-ltb}
-use Rattle.draft.specs.declared.Refusal.the-variants.{Ended, UnexpectedByte, TooDeep}
+use Rattle.draft.specs.declared.Refusal.the-variants.{Ended, TooDeep}
 use Rattle.draft.specs.declared.Tag.{Tag}
-use Rattle.draft.specs.declared.Content.the-variants as content
 use Rattle.draft.specs.declared.Row.{Row}
 use Rattle.draft.specs.Codebook.{Book}
-use Rattle.draft.specs.Read.{Reading, refused, floor, under, Reader, pair, items, alike, over, string, integerItem, booleanItem, shortItem, longItem, recordedItem, recalledItem, otherItem, counted, arrayItem, structItem, item, value, nested, tagOf}
+use Rattle.draft.specs.Read.{Reading, refused, floor, under, Reader, pair, items, alike, over, string, counted, arrayItem, structItem, item, value, nested, tagOf}
 use Rattle.codebook.specs.Words.{bookOf}
-use Rattle.item.proofs.Tags.{tag-integer, tag-true, tag-false, tag-double, tag-date, tag-binary, tag-array, tag-struct, tag-other, tag-regular, tag-recorded, tag-recalled, tag-unknown}
+use Rattle.item.proofs.Tags.{tag-array, tag-struct}
 use Rattle.item.specs.declared.Step.{Step}
-use Rattle.item.specs.Contract.{refusedAt, Did, Stored}
+use Rattle.item.specs.Contract.{refusedAt, Did}
 use Rattle.item.proofs.Readings.{done, did-no, did-ends, at-in, row-in, opened-full, opened-cut, opened-on, pair-first, pair-both, over-closed}
+use Rattle.scalar.proofs.Scalars.{flat}
 use Rattle.value.proofs.Turns.{turn-again, turn-refused, turn-done, turn-less, ahead-next}
 
 -- a Value, by its byte
@@ -35,44 +35,14 @@ module _ (s : List ℕ) (deep at : ℕ) {bytes room from r : ℕ} {T T′ : List
   value-short book h e = did-no Ended e (value-none s room deep at r book h)
 
   module _ (h : at < length s) where
-    pub value-integer : (W : List ℕ) → getD s at 0 ≡ 73 → Stored (integerItem s room at r) bytes room from r T T′ step → Did (value s room deep at r (bookOf W)) bytes room from r T T′ W step
-    value-integer W e d = done (value-is s room deep at r (bookOf W) h (tag-integer _ e)) (d .did W)
-
-    pub value-true : (W : List ℕ) → getD s at 0 ≡ 116 → Stored (booleanItem s room 1 at r) bytes room from r T T′ step → Did (value s room deep at r (bookOf W)) bytes room from r T T′ W step
-    value-true W e d = done (value-is s room deep at r (bookOf W) h (tag-true _ e)) (d .did W)
-
-    pub value-false : (W : List ℕ) → getD s at 0 ≡ 102 → Stored (booleanItem s room 0 at r) bytes room from r T T′ step → Did (value s room deep at r (bookOf W)) bytes room from r T T′ W step
-    value-false W e d = done (value-is s room deep at r (bookOf W) h (tag-false _ e)) (d .did W)
-
-    pub value-double : (W : List ℕ) → getD s at 0 ≡ 68 → Stored (shortItem s room content.Double at r) bytes room from r T T′ step → Did (value s room deep at r (bookOf W)) bytes room from r T T′ W step
-    value-double W e d = done (value-is s room deep at r (bookOf W) h (tag-double _ e)) (d .did W)
-
-    pub value-date : (W : List ℕ) → getD s at 0 ≡ 56 → Stored (shortItem s room content.DateTime at r) bytes room from r T T′ step → Did (value s room deep at r (bookOf W)) bytes room from r T T′ W step
-    value-date W e d = done (value-is s room deep at r (bookOf W) h (tag-date _ e)) (d .did W)
-
-    pub value-binary : (W : List ℕ) → getD s at 0 ≡ 66 → Stored (longItem s room content.Binary at r) bytes room from r T T′ step → Did (value s room deep at r (bookOf W)) bytes room from r T T′ W step
-    value-binary W e d = done (value-is s room deep at r (bookOf W) h (tag-binary _ e)) (d .did W)
-
-    pub value-regular : (W : List ℕ) → getD s at 0 ≡ 85 → Stored (longItem s room content.Text at r) bytes room from r T T′ step → Did (value s room deep at r (bookOf W)) bytes room from r T T′ W step
-    value-regular W e d = done (value-is s room deep at r (bookOf W) h (tag-regular _ e)) (d .did W)
-
     pub value-array : (book : Book) {W′ : List ℕ} → getD s at 0 ≡ 65 → Did (arrayItem s room (nested s room deep) at r book) bytes room from r T T′ W′ step → Did (value s room deep at r book) bytes room from r T T′ W′ step
     value-array book e d = done (value-is s room deep at r book h (tag-array _ e)) d
 
     pub value-struct : (book : Book) {W′ : List ℕ} → getD s at 0 ≡ 83 → Did (structItem s room (nested s room deep) at r book) bytes room from r T T′ W′ step → Did (value s room deep at r book) bytes room from r T T′ W′ step
     value-struct book e d = done (value-is s room deep at r book h (tag-struct _ e)) d
 
-    pub value-other : (book : Book) {W′ : List ℕ} → getD s at 0 ≡ 79 → Did (otherItem s room at r book) bytes room from r T T′ W′ step → Did (value s room deep at r book) bytes room from r T T′ W′ step
-    value-other book e d = done (value-is s room deep at r book h (tag-other _ e)) d
-
-    pub value-recorded : (book : Book) {W′ : List ℕ} → getD s at 0 ≡ 62 → Did (recordedItem s room at r book) bytes room from r T T′ W′ step → Did (value s room deep at r book) bytes room from r T T′ W′ step
-    value-recorded book e d = done (value-is s room deep at r book h (tag-recorded _ e)) d
-
-    pub value-recalled : (book : Book) {W′ : List ℕ} → getD s at 0 ≡ 60 → Did (recalledItem s room at r book) bytes room from r T T′ W′ step → Did (value s room deep at r book) bytes room from r T T′ W′ step
-    value-recalled book e d = done (value-is s room deep at r book h (tag-recalled _ e)) d
-
-    pub value-unknown : (book : Book) {W′ : List ℕ} → (getD s at 0 ≡ 73 → ⊥) → (getD s at 0 ≡ 116 → ⊥) → (getD s at 0 ≡ 102 → ⊥) → (getD s at 0 ≡ 68 → ⊥) → (getD s at 0 ≡ 56 → ⊥) → (getD s at 0 ≡ 66 → ⊥) → (getD s at 0 ≡ 65 → ⊥) → (getD s at 0 ≡ 83 → ⊥) → (getD s at 0 ≡ 79 → ⊥) → (getD s at 0 ≡ 85 → ⊥) → (getD s at 0 ≡ 62 → ⊥) → (getD s at 0 ≡ 60 → ⊥) → step ≡ refusedAt UnexpectedByte at → Did (value s room deep at r book) bytes room from r T T′ W′ step
-    value-unknown book a b c d e f g i j k l m n = did-no UnexpectedByte n (value-is s room deep at r book h (tag-unknown _ a b c d e f g i j k l m))
+    pub value-scalar : (book : Book) {W′ : List ℕ} → (getD s at 0 ≡ 65 → ⊥) → (getD s at 0 ≡ 83 → ⊥) → Did (item s room (tagOf (getD s at 0)) floor at r book) bytes room from r T T′ W′ step → Did (value s room deep at r book) bytes room from r T T′ W′ step
+    value-scalar book m n d = done (value-is s room deep at r book h refl ∙ flat s room at r book (nested s room deep) m n) d
 
 -- what may nest: nothing more, or a level less
 nested-none : (s : List ℕ) (room deep : ℕ) → deep ≡ 0 → nested s room deep ≡ floor
@@ -101,4 +71,4 @@ module _ (s : List ℕ) (deep at : ℕ) (book : Book) {bytes room from r : ℕ} 
 pub over-count : (f : List Row → Reader) (k at to : ℕ) (book : Book) {m n : ℕ} {bytes room from r : ℕ} {T T′ W′ : List ℕ} {step : Step} → m ≡ n → Did (over k m r (items f m [] to (r + 1) book)) bytes room from r T T′ W′ step → Did (over k n r (items f n [] to (r + 1) book)) bytes room from r T T′ W′ step
 over-count f k at to book e d = rw (← e) d
 
-pub ruleset values = (opened-full, opened-cut, opened-on, over-closed, over-count, did-ends, at-in, row-in, pair-first, pair-both, value-short, value-unknown, value-integer, value-true, value-false, value-double, value-date, value-binary, value-regular, value-array, value-struct, value-other, value-recorded, value-recalled, array-deep, struct-deep, array-less, struct-less, turn-again, turn-refused, turn-done, turn-less, ahead-next)
+pub ruleset values = (opened-full, opened-cut, opened-on, over-closed, over-count, did-ends, at-in, row-in, pair-first, pair-both, value-short, value-array, value-struct, value-scalar, array-deep, struct-deep, array-less, struct-less, turn-again, turn-refused, turn-done, turn-less, ahead-next)

@@ -1,6 +1,7 @@
 // Reading a Value. An Array's items may be Arrays or Structs, and a Struct's values likewise: the functions here call one another
 // in a cycle, in which `deep`, the nesting left, falls at each Array and Struct, and the bytes left at each item.
-use draft::Content;
+// Before a call in the cycle the slice is copied, `let t = s;`: `s` itself came in as two words stored singly, and to lend it on from
+// where it lies loads both at once, which waits for the stores; the copy is made of registers.
 use draft::Refusal;
 use item::Step;
 ghost use mathlib.Core.Path.{_≡_};
@@ -23,27 +24,18 @@ pub fn read_value(
     requires { ⌜ Ready at row room (length (now s)) (length (now table)) (length (now book)) ⌝ }
     ensures { λ r. ⌜ Did (value (now (s .entry)) room deep at row (bookOf (now (book .entry)))) (length (now (s .entry))) room (at + 1) row (now (table .entry)) (now (table .exit)) (now (book .exit)) r ⌝ }
 {
+    let t = s;
     if s.len() <= at {
         return item::refuse(Refusal::Ended, at);
     }
     match s[at] {
-        b'I' => item::read_integer(s, at, row, room, table),
-        b't' => item::read_boolean(s, at, row, 1, room, table),
-        b'f' => item::read_boolean(s, at, row, 0, room, table),
-        b'D' => item::read_short(s, at, row, Content::Double, room, table),
-        b'8' => item::read_short(s, at, row, Content::DateTime, room, table),
-        b'B' => item::read_long(s, at, row, Content::Binary, room, table),
-        b'A' => read_array(s, at, row, deep, room, table, book),
-        b'S' => read_struct(s, at, row, deep, room, table, book),
-        b'O' => item::read_other(s, at, row, room, table, book),
-        b'U' => item::read_long(s, at, row, Content::Text, room, table),
-        b'>' => item::read_recorded(s, at, row, room, table, book),
-        b'<' => item::read_recalled(s, at, row, room, table, book),
-        _ => item::refuse(Refusal::UnexpectedByte, at),
+        b'A' => read_array(t, at, row, deep, room, table, book),
+        b'S' => read_struct(t, at, row, deep, room, table, book),
+        _ => scalar::read_scalar(s, at, row, room, table, book),
     }
 }
 
-// The Array whose byte stands at p.
+// The Array whose byte stands at `at`.
 pub fn read_array(
     s: &[u8],
     at: usize,
@@ -56,6 +48,7 @@ pub fn read_array(
     requires { ⌜ (at < length (now s)) × Ready at row room (length (now s)) (length (now table)) (length (now book)) ⌝ }
     ensures { λ r. ⌜ Did (arrayItem (now (s .entry)) room (nested (now (s .entry)) room deep) at row (bookOf (now (book .entry)))) (length (now (s .entry))) room (at + 1) row (now (table .entry)) (now (table .exit)) (now (book .exit)) r ⌝ }
 {
+    let t = s;
     if deep == 0 {
         return item::refuse(Refusal::TooDeep, at);
     }
@@ -67,7 +60,7 @@ pub fn read_array(
         return item::refuse(Refusal::Ended, at);
     }
     let n = item::unsigned(s, at + 1);
-    let step = read_values(s, values_at, row + 1, deep - 1, n, room, table, book);
+    let step = read_values(t, values_at, row + 1, deep - 1, n, room, table, book);
     item::close(step, 9, n as u32, row, room, table)
 }
 
@@ -103,7 +96,7 @@ fn read_values(
     }
 }
 
-// The Struct whose byte stands at p.
+// The Struct whose byte stands at `at`.
 pub fn read_struct(
     s: &[u8],
     at: usize,
@@ -116,6 +109,7 @@ pub fn read_struct(
     requires { ⌜ (at < length (now s)) × Ready at row room (length (now s)) (length (now table)) (length (now book)) ⌝ }
     ensures { λ r. ⌜ Did (structItem (now (s .entry)) room (nested (now (s .entry)) room deep) at row (bookOf (now (book .entry)))) (length (now (s .entry))) room (at + 1) row (now (table .entry)) (now (table .exit)) (now (book .exit)) r ⌝ }
 {
+    let t = s;
     if deep == 0 {
         return item::refuse(Refusal::TooDeep, at);
     }
@@ -127,7 +121,7 @@ pub fn read_struct(
         return item::refuse(Refusal::Ended, at);
     }
     let n = item::unsigned(s, at + 1);
-    let step = read_pairs(s, pairs_at, row + 1, deep - 1, n, room, table, book);
+    let step = read_pairs(t, pairs_at, row + 1, deep - 1, n, room, table, book);
     item::close(step, 10, n as u32, row, room, table)
 }
 
@@ -148,7 +142,8 @@ fn read_pairs(
     let mut next = at;
     let mut free = row;
     while 0 < pairs {
-        let step = read_pair(s, next, free, deep, room, table, book);
+        let t = s;
+        let step = read_pair(t, next, free, deep, room, table, book);
         if step.number != 0 {
             return step;
         }
@@ -176,9 +171,10 @@ fn read_pair(
     requires { ⌜ Ready at row room (length (now s)) (length (now table)) (length (now book)) ⌝ }
     ensures { λ r. ⌜ Did (pair (string (now (s .entry)) room) (value (now (s .entry)) room deep) at row (bookOf (now (book .entry)))) (length (now (s .entry))) room (at + 1) row (now (table .entry)) (now (table .exit)) (now (book .exit)) r ⌝ }
 {
-    let step = item::read_string(s, at, row, room, table, book);
+    let t = s;
+    let step = strings::read_string(t, at, row, room, table, book);
     if step.number != 0 {
         return step;
     }
-    read_value(s, step.at, step.row, deep, room, table, book)
+    read_value(t, step.at, step.row, deep, room, table, book)
 }

@@ -1,21 +1,24 @@
-// Reads the messages of document 01, the examples and counter-examples of the draft (document 002), and faults by document 02's rule, and
-// lists each.
+// Reads the messages of document 01, the examples and counter-examples of the draft (document 002), and faults, Doubles and dates by
+// document 02's rules, and lists each.
 
 fn run(name: &[u8], message: &[u8], table: &mut [u32]) {
+    let mut space = [0u8; 430158];
+    let listing: &mut [u8] = &mut space;
     console::write(name);
     console::write(b"\n");
-    console::list(message, table);
+    let n = listings::list(message, table, listing);
+    console::write(content::part(listing, 0, n));
 }
 
 // A Response with so many nested Arrays, the innermost empty.
 fn nest(message: &mut [u8], arrays: usize) -> usize {
-    let mut at = console::put_text(message, 0, b"binmode-rpc:R");
+    let mut at = spelling::put_text(message, 0, b"binmode-rpc:R");
     let mut i = 1;
     while i < arrays {
-        at = console::put_text(message, at, b"A\x01\0\0\0");
+        at = spelling::put_text(message, at, b"A\x01\0\0\0");
         i += 1;
     }
-    console::put_text(message, at, b"A\0\0\0\0")
+    spelling::put_text(message, at, b"A\0\0\0\0")
 }
 
 fn run_nested(name: &[u8], arrays: usize, message: &mut [u8], table: &mut [u32]) {
@@ -136,7 +139,7 @@ fn run_other_faults(table: &mut [u32]) {
     );
     run(
         b"02: a fault with a Double for a message",
-        b"binmode-rpc:RFS\x02\0\0\0U\x09\0\0\0faultCodeI\x01\0\0\0U\x0b\0\0\0faultStringD\x05Error",
+        b"binmode-rpc:RFS\x02\0\0\0U\x09\0\0\0faultCodeI\x01\0\0\0U\x0b\0\0\0faultStringD\x042.75",
         table,
     );
     run(
@@ -151,6 +154,75 @@ fn run_other_faults(table: &mut [u32]) {
     );
 }
 
+// Responses with an item each: of some items one after the other, each with a tag, a size and a text. A text stands for its name.
+fn run_items(name: &[u8], items: &[u8], message: &mut [u8], table: &mut [u32]) {
+    let start = spelling::put_text(message, 0, b"binmode-rpc:R");
+    let mut at = 0;
+    while at + 1 < items.len() {
+        let size = items[at + 1] as usize;
+        let end = spelling::put_text(message, start, content::part(items, at, size + 2));
+        console::write(name);
+        run(
+            content::part(items, at + 2, size),
+            content::part(message, 0, end),
+            table,
+        );
+        at += size + 2;
+    }
+}
+
+fn run_doubles(message: &mut [u8], table: &mut [u32]) {
+    run_items(
+        b"02: a Double, ",
+        b"D\x042.75D\x04-0.0D\x07+007.50",
+        message,
+        table,
+    );
+    run_items(
+        b"02: no Double, ",
+        b"D\x00D\x01.D\x01-D\x015D\x02.5D\x025.D\x06+-2.75D\x052.7.5D\x062.75e0",
+        message,
+        table,
+    );
+    run(
+        b"02: a byte of 128 or more in what is no Double",
+        b"binmode-rpc:RD\x035.\xff",
+        table,
+    );
+}
+
+fn run_dates(message: &mut [u8], table: &mut [u32]) {
+    run_items(
+        b"02: a date, ",
+        b"8\x1119980717T14:08:558\x1120000229T23:59:598\x1100000229T00:00:00",
+        message,
+        table,
+    );
+    run_items(
+        b"02: no date by its form, ",
+        b"8\x1019980717T14:08:58\x1219980717T14:08:5558\x111998 717T14:08:558\x1119980717 14:08:558\x1119980717T14-08:558\x1119980717T14:08-55",
+        message,
+        table,
+    );
+    run_items(
+        b"02: no such day, ",
+        b"8\x1119980017T14:08:558\x1119981317T14:08:558\x1119980700T14:08:558\x1119980732T14:08:558\x1119980431T14:08:558\x1119980229T14:08:558\x1119000229T14:08:558\x1120000230T14:08:55",
+        message,
+        table,
+    );
+    run_items(
+        b"02: no such time, ",
+        b"8\x1119980717T24:08:558\x1119980717T14:60:558\x1119980717T14:08:60",
+        message,
+        table,
+    );
+    run(
+        b"02: a byte of 128 or more in what is no date",
+        b"binmode-rpc:R8\x1119980230T14:08:5\xff",
+        table,
+    );
+}
+
 fn run_all(message: &mut [u8], table: &mut [u32], small: &mut [u32]) {
     run_examples(table);
     run_mixed_arrays(table);
@@ -158,6 +230,8 @@ fn run_all(message: &mut [u8], table: &mut [u32], small: &mut [u32]) {
     run_others(message, table);
     run_faults(table);
     run_other_faults(table);
+    run_doubles(message, table);
+    run_dates(message, table);
     run(
         b"01: that count and a t, into 8 words (P11)",
         b"binmode-rpc:RA\xff\xff\xff\xfft",

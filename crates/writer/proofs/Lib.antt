@@ -1,4 +1,1 @@
-pub mod Collecting
-pub mod Sending
-pub mod Writing
 pub mod Answering

@@ -19,9 +19,13 @@ abbrev pub given : Bool → Refusal → Answer → Answer
 given true refusal o = o
 given false refusal o = Refused refusal
 
--- the answer for this written form: 12, 13, or its length
+-- the answer for a form of n bytes, with so much room: 12, 13, or its length
+abbrev pub answerFor : ℕ → ℕ → Answer
+answerFor n room = given (leb n 65536) FormTooLong (given (leb n room) OutputTooShort (Written n))
+
+-- the answer for this written form
 unfoldable pub answerTo : List ℕ → ℕ → Answer
-answerTo form room = given (leb (length form) 65536) FormTooLong (given (leb (length form) room) OutputTooShort (Written (length form)))
+answerTo form room = answerFor (length form) room
 
 -- the written form of a table of so many rows, 4,096 at most
 unfoldable pub formOf : List ℕ → ℕ → List ℕ → List ℕ

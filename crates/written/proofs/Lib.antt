@@ -5,7 +5,6 @@ pub mod Sending
 pub mod Forming
 pub mod Bounding
 pub mod Measuring
-pub mod Repeating
 pub mod Saving
 pub mod Planning
 pub mod Walking

@@ -13,9 +13,10 @@ use Rattle.text.specs.Texts.{same, among}
 use Rattle.text.proofs.Comparing.{clash, same-is, same-self}
 use Rattle.draft.specs.Grammar.{Sent, regular, recorded, Legal}
 use Rattle.draft.specs.Strings.{Text, repeated, kept, choose, sentOf, sents, plan, cost, costs}
-use Rattle.written.specs.Occurring.{bit, times}
+use Rattle.occurring.specs.Occurring.{bit, times}
 use Rattle.written.proofs.Sending.{texts}
-use Rattle.written.proofs.Repeating.{among-times, repeated-once}
+use Rattle.occurring.proofs.Repeating.{repeated-once}
+use Rattle.occurring.proofs.Among.{among-times}
 use Rattle.written.proofs.Saving.{also, least, bound, has}
 
 two : (n : ℕ) → ltb 0 n ≡ leb 2 (1 + n)

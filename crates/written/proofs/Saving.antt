@@ -11,9 +11,9 @@ use Rattle.text.specs.Texts.{same, among}
 use Rattle.text.proofs.Comparing.{same-is, same-self}
 use Rattle.draft.specs.Grammar.{Sent, Recording, text-at, first, look, Legal, legal-none, legal-regular, legal-recorded, legal-recalled}
 use Rattle.draft.specs.Strings.{Text, cost, costs}
-use Rattle.written.specs.Occurring.{bit}
+use Rattle.occurring.specs.Occurring.{bit}
 use Rattle.written.proofs.Sending.{texts}
-use Rattle.written.proofs.Repeating.{same-swap}
+use Rattle.occurring.proofs.Among.{same-swap}
 
 -- texts that can be recalled, as a test; and one more
 abbrev pub also : Text → (Text → Bool) → Text → Bool

@@ -1,2 +1,1 @@
-pub mod Occurring
 pub mod Derivable

@@ -33,7 +33,8 @@ pub struct CardFound {
     /// The body's first byte in the file, and its length; 0 if there is none.
     pub start: usize,
     pub length: usize,
-    /// The place of the record that says so; 0 if there is a card.
+    /// The place of the record that says so, which is `from` if none begins
+    /// there; 0 if there is a card.
     pub place: usize,
 }
 

@@ -9,9 +9,11 @@
 compile_error!("the proved library is built for x86-64 Linux");
 
 mod job;
+mod lookup;
 mod pieces;
 
 pub use job::{CardAnswer, CardFound, next_card, read_card};
+pub use lookup::{Lookup, Position, lookup, position};
 pub use pieces::{Pieces, Progress};
 
 /// Most bytes in a message, and in the bytes a writer's texts lie in.
@@ -56,6 +58,12 @@ pub mod number {
     pub const FILE_ENDED: u8 = 15;
     /// A kind 2 body of wrong length or number.
     pub const WRONG_END: u8 = 16;
+    /// A Double or DateTime in ASCII that is no such text, as `5.` or 30 February.
+    pub const BAD_VALUE: u8 = 17;
+    /// The row is no Struct, or the member is absent or of the wrong sort.
+    pub const NO_MEMBER: u8 = 18;
+    /// A Double of more than 15 digits, or of more than 22 after the point.
+    pub const TOO_MANY_DIGITS: u8 = 19;
     /// A sound job ends before the card asked for.
     pub const NO_CARD: u8 = 26;
     /// A message in pieces: no answer yet.
@@ -82,7 +90,6 @@ impl Answer {
 }
 
 /// What writing a table answers.
-#[cfg(feature = "writer")]
 #[derive(Clone, Copy, Debug, PartialEq, Eq)]
 pub struct Written {
     /// 0 if the table is accepted, else the number of the refusal.
@@ -91,7 +98,6 @@ pub struct Written {
     pub length: usize,
 }
 
-#[cfg(feature = "writer")]
 impl Written {
     pub fn is_accepted(&self) -> bool {
         self.number == number::ACCEPTED
@@ -109,7 +115,6 @@ unsafe extern "C" {
         place: *mut u64,
     ) -> u8;
 
-    #[cfg(feature = "writer")]
     fn binmode_write(
         table: *const u32,
         table_words: usize,
@@ -154,7 +159,6 @@ pub fn read(message: &[u8], table: &mut [u32]) -> Answer {
 /// Writes the first `rows` rows of a table, whose contents lie in `text`, as a
 /// message. Every byte of the output is settled: the message, and zeros behind
 /// it; on a refusal, zeros.
-#[cfg(feature = "writer")]
 pub fn write(table: &[u32], rows: usize, text: &[u8], output: &mut [u8]) -> Written {
     let mut length = NOT_REPORTED;
     // SAFETY: the slices and the number are valid for the call, and those that

@@ -18,6 +18,14 @@ fn string(text: &str) -> Vec<u8> {
     [field(b'U', text.len()), text.into()].concat()
 }
 
+fn date(text: &str) -> Vec<u8> {
+    [&[b'8', text.len() as u8], text.as_bytes()].concat()
+}
+
+fn double(text: &str) -> Vec<u8> {
+    [&[b'D', text.len() as u8], text.as_bytes()].concat()
+}
+
 pub fn text(text: &str) -> Vec<u8> {
     response(string(text))
 }
@@ -64,16 +72,37 @@ pub fn card(members: usize) -> Vec<u8> {
             0 => ("holder", string(&format!("HOLDER {turn}"))),
             1 => ("number", string(&format!("5{turn:07}"))),
             2 => ("issuer", string("First Bank")),
-            3 => ("expires", b"8\x0819991231".to_vec()),
+            3 => ("expires", date("19991231T23:59:59")),
             4 => ("serial", integer(turn)),
             5 => ("active", b"t".to_vec()),
-            6 => ("limit", b"D\x052.750".to_vec()),
+            6 => ("limit", double("2.750")),
             7 => (
                 "track",
                 [field(b'B', 4), b"\0\x01\xff\xfe".to_vec()].concat(),
             ),
             8 => ("currency", string("EUR")),
             _ => ("position", integer(turn * 40)),
+        };
+        value.extend([string(name), item].concat());
+    }
+    response(value)
+}
+
+/// A card of which each sixth member is a date, and each sixth a Double.
+fn dated_card(members: usize) -> Vec<u8> {
+    let mut value = field(b'S', members);
+    for member in 0..members {
+        let turn = member / 6;
+        let (name, item) = match member % 6 {
+            0 => ("holder", string(&format!("HOLDER {turn}"))),
+            1 => (
+                "issued",
+                date(&format!("199807{:02}T14:08:55", 1 + turn % 31)),
+            ),
+            2 => ("serial", integer(turn)),
+            3 => ("limit", double(&format!("{turn}.750"))),
+            4 => ("active", b"t".to_vec()),
+            _ => ("currency", string("EUR")),
         };
         value.extend([string(name), item].concat());
     }

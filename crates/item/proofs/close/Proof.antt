@@ -9,4 +9,4 @@ close-spec = tie.close (tie.spec
     (λ c. search others)  -- cast-t12
     (λ c κs. search needs)  -- put-row-requires
     (λ c. search needs)  -- same-length
-    (λ c. search needs))  -- returns-2
+    (λ c. search others))  -- returns-2

@@ -24,9 +24,11 @@ list-all-spec = tie.close (tie.spec
     (λ c. search needs)  -- returns
     (λ c. search needs)  -- enum-known-found-2
     (λ c κs. search needs)  -- list-card-requires
+    (λ c. search needs)  -- same-length-2
+    (λ c. search needs)  -- returns-2
     (λ c. search needs)  -- add-number
     (λ c. search passing)  -- add-from
     (λ c. search passing)  -- loop-less
     (λ c. search passing)  -- loop-again
-    (λ c. search needs)  -- same-length-2
-    (λ c. search needs))  -- returns-2
+    (λ c. search needs)  -- same-length-3
+    (λ c. search needs))  -- returns-3

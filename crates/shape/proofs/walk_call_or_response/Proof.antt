@@ -1,11 +1,11 @@
-use Rattle.shape.proofs.Walking.{walking}
+use Rattle.shape.proofs.Calling.{calling}
 use borrow.Author.Needs.{needs}
 use Rattle.shape.proofs.walk_call_or_response.Statement.{statement}
 use Rattle.shape.proofs.walk_call_or_response.Tie as tie
 
 pub walk-call-or-response-spec : {M : Type 1} → statement M
 walk-call-or-response-spec = tie.close (tie.spec
-    (λ c. search walking)  -- returns
+    (λ c. search calling)  -- returns
     (λ c κs. search needs)  -- get-row-requires
     (λ c κs. search needs)  -- item-of-requires
     (λ c. search needs)  -- enum-told
@@ -27,13 +27,13 @@ walk-call-or-response-spec = tie.close (tie.spec
     (λ c. search needs)  -- enum-told-8
     (λ c. search needs)  -- enum-told-9
     (λ c. search needs)  -- enum-told-10
-    (λ c. search walking)  -- returns-2
-    (λ c. search walking)  -- returns-3
-    (λ c. search walking)  -- returns-4
-    (λ c. search walking)  -- returns-5
-    (λ c. search walking)  -- returns-6
-    (λ c. search walking)  -- returns-7
-    (λ c. search walking)  -- returns-8
-    (λ c. search walking)  -- returns-9
-    (λ c. search walking)  -- returns-10
-    (λ c. search walking))  -- returns-11
+    (λ c. search calling)  -- returns-2
+    (λ c. search calling)  -- returns-3
+    (λ c. search calling)  -- returns-4
+    (λ c. search calling)  -- returns-5
+    (λ c. search calling)  -- returns-6
+    (λ c. search calling)  -- returns-7
+    (λ c. search calling)  -- returns-8
+    (λ c. search calling)  -- returns-9
+    (λ c. search calling)  -- returns-10
+    (λ c. search calling))  -- returns-11

@@ -1,4 +1,4 @@
-use Rattle.shape.proofs.Walking.{walking}
+use Rattle.shape.proofs.Calling.{calling}
 use borrow.Author.Needs.{needs}
 use Rattle.shape.proofs.walk_fault_struct.Statement.{statement}
 use Rattle.shape.proofs.walk_fault_struct.Tie as tie
@@ -8,10 +8,10 @@ walk-fault-struct-spec = tie.close (tie.spec
     (λ c κs. search needs)  -- walk-struct-only-requires
     (λ c. search needs)  -- enum-told
     (λ c. search needs)  -- enum-known-extent
-    (λ c. search walking)  -- returns
-    (λ c κs. search walking)  -- judge-requires
+    (λ c. search calling)  -- returns
+    (λ c κs. search calling)  -- judge-requires
     (λ c. search needs)  -- enum-told-2
     (λ c. search needs)  -- enum-told-3
-    (λ c. search walking)  -- returns-2
-    (λ c. search walking)  -- returns-3
-    (λ c. search walking))  -- returns-4
+    (λ c. search calling)  -- returns-2
+    (λ c. search calling)  -- returns-3
+    (λ c. search calling))  -- returns-4

@@ -1,4 +1,4 @@
-use Rattle.shape.proofs.Walking.{walking}
+use Rattle.shape.proofs.Calling.{calling}
 use borrow.Author.Needs.{needs}
 use Rattle.shape.proofs.walk_method_and_array.Statement.{statement}
 use Rattle.shape.proofs.walk_method_and_array.Tie as tie
@@ -9,5 +9,5 @@ walk-method-and-array-spec = tie.close (tie.spec
     (λ c. search needs)  -- enum-told
     (λ c. search needs)  -- enum-known-extent
     (λ c κs. search needs)  -- walk-array-only-requires
-    (λ c. search walking)  -- returns
-    (λ c. search walking))  -- returns-2
+    (λ c. search calling)  -- returns
+    (λ c. search calling))  -- returns-2

@@ -1,4 +1,4 @@
-use Rattle.shape.proofs.Walking.{walking}
+use Rattle.shape.proofs.Calling.{calling}
 use borrow.Author.Needs.{needs}
 use Rattle.shape.proofs.wholly.Statement.{statement}
 use Rattle.shape.proofs.wholly.Tie as tie
@@ -8,4 +8,4 @@ wholly-spec = tie.close (tie.spec
     (λ c. search needs)  -- enum-told
     (λ c. search needs)  -- enum-known-extent
     (λ c. search needs)  -- returns
-    (λ c. search walking))  -- returns-2
+    (λ c. search calling))  -- returns-2

@@ -1,4 +1,4 @@
-use Rattle.shape.proofs.Walking.{whole}
+use Rattle.shape.proofs.Calling.{whole}
 use borrow.Author.Needs.{needs}
 use Rattle.shape.proofs.writable.Statement.{statement}
 use Rattle.shape.proofs.writable.Tie as tie

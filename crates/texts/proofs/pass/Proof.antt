@@ -2,8 +2,8 @@ use borrow.Author.Needs.{needs}
 use mathlib.Core.Path.{_≡_}
 use Prim.Native.Nat.{_-_}
 use lib.ListN.{length}
-use Rattle.texts.specs.Contract.{textAt}
-use Rattle.texts.specs.Chains.{Chains}
+use Rattle.buckets.specs.Numbered.{textAt}
+use Rattle.buckets.specs.Chains.{Chains}
 use Rattle.texts.proofs.Scanning.{Scan, scanning, scan-again}
 use Rattle.texts.proofs.pass.Statement.{statement}
 use Rattle.texts.proofs.pass.Tie as tie

@@ -1,5 +1,5 @@
 use borrow.Author.Needs.{needs}
-use Rattle.texts.proofs.Chaining.{chaining}
+use Rattle.buckets.proofs.Chaining.{chaining}
 use Rattle.texts.proofs.scan.Statement.{statement}
 use Rattle.texts.proofs.scan.Tie as tie
 

@@ -26,14 +26,8 @@ use Rattle.value.proofs.read_values.Reads as read-values
 use Rattle.value.proofs.read_values.Kinds as read-values-kinds
 use Rattle.value.proofs.+read_array+read_pair+read_pairs+read_struct+read_value+read_values.Lts-read_values as read-values-lts
 use Rattle.item.proofs.close.Reads as close-reads
-use Rattle.item.proofs.read_boolean.Reads as read-boolean-reads
-use Rattle.item.proofs.read_integer.Reads as read-integer-reads
-use Rattle.item.proofs.read_long.Reads as read-long-reads
-use Rattle.item.proofs.read_other.Reads as read-other-reads
-use Rattle.item.proofs.read_recalled.Reads as read-recalled-reads
-use Rattle.item.proofs.read_recorded.Reads as read-recorded-reads
-use Rattle.item.proofs.read_short.Reads as read-short-reads
-use Rattle.item.proofs.read_string.Reads as read-string-reads
+use Rattle.scalar.proofs.read_scalar.Reads as read-scalar-reads
+use Rattle.strings.proofs.read_string.Reads as read-string-reads
 use Rattle.item.proofs.refuse.Reads as refuse-reads
 use Rattle.item.proofs.unsigned.Reads as unsigned-reads
 use Rattle.value.proofs.+read_array+read_pair+read_pairs+read_struct+read_value+read_values.{
@@ -121,7 +115,7 @@ abbrev read-struct-calls : ℕ → read-struct-lts.Claims
 read-struct-calls t = (refuse-reads.Asked, refuse-reads.Learnt, unsigned-reads.Asked, unsigned-reads.Learnt, read-pairs-below t, read-pairs.Post, close-reads.Asked, close-reads.Learnt)
 
 abbrev read-value-calls : ℕ → read-value-lts.Claims
-read-value-calls t = (refuse-reads.Asked, refuse-reads.Learnt, read-integer-reads.Asked, read-integer-reads.Learnt, read-boolean-reads.Asked, read-boolean-reads.Learnt, read-short-reads.Asked, read-short-reads.Learnt, read-long-reads.Asked, read-long-reads.Learnt, read-array-below t, read-array.Post, read-struct-below t, read-struct.Post, read-other-reads.Asked, read-other-reads.Learnt, read-recorded-reads.Asked, read-recorded-reads.Learnt, read-recalled-reads.Asked, read-recalled-reads.Learnt)
+read-value-calls t = (refuse-reads.Asked, refuse-reads.Learnt, read-array-below t, read-array.Post, read-struct-below t, read-struct.Post, read-scalar-reads.Asked, read-scalar-reads.Learnt)
 
 abbrev read-values-calls : ℕ → read-values-lts.Claims
 read-values-calls t = (read-value-below t, read-value.Post)
@@ -227,49 +221,18 @@ pub +read-array+read-pair+read-pairs+read-struct+read-value+read-values-spec :
     (λ c κs. search needs)  -- read-value-refuse-requires
     (λ c. search values)  -- read-value-returns
     (λ c. search needs)  -- read-value-shared-slice-read-match
-    (λ c κs. search needs)  -- read-value-read-integer-requires
-    (λ c κs. search needs)  -- read-value-read-boolean-requires
-    (λ c κs. search needs)  -- read-value-read-boolean-requires-2
-    (λ c κs. search needs)  -- read-value-read-short-requires
-    (λ c κs. search needs)  -- read-value-read-short-requires-2
-    (λ c κs. search needs)  -- read-value-read-long-requires
     (λ c κs. search needs)  -- read-value-read-array-requires
     (λ c κs. search needs)  -- read-value-read-struct-requires
-    (λ c κs. search needs)  -- read-value-read-other-requires
-    (λ c κs. search needs)  -- read-value-read-long-requires-2
-    (λ c κs. search needs)  -- read-value-read-recorded-requires
-    (λ c κs. search needs)  -- read-value-read-recalled-requires
-    (λ c κs. search needs)  -- read-value-refuse-requires-2
+    (λ c κs. search needs)  -- read-value-read-scalar-requires
     (λ c. search needs)  -- read-value-same-length
-    (λ c. search values)  -- read-value-returns-2
     (λ c. search needs)  -- read-value-same-length-2
-    (λ c. search values)  -- read-value-returns-3
+    (λ c. search values)  -- read-value-returns-2
     (λ c. search needs)  -- read-value-same-length-3
-    (λ c. search values)  -- read-value-returns-4
     (λ c. search needs)  -- read-value-same-length-4
-    (λ c. search values)  -- read-value-returns-5
+    (λ c. search values)  -- read-value-returns-3
     (λ c. search needs)  -- read-value-same-length-5
-    (λ c. search values)  -- read-value-returns-6
     (λ c. search needs)  -- read-value-same-length-6
-    (λ c. search values)  -- read-value-returns-7
-    (λ c. search needs)  -- read-value-same-length-7
-    (λ c. search needs)  -- read-value-same-length-8
-    (λ c. search values)  -- read-value-returns-8
-    (λ c. search needs)  -- read-value-same-length-9
-    (λ c. search needs)  -- read-value-same-length-10
-    (λ c. search values)  -- read-value-returns-9
-    (λ c. search needs)  -- read-value-same-length-11
-    (λ c. search needs)  -- read-value-same-length-12
-    (λ c. search values)  -- read-value-returns-10
-    (λ c. search needs)  -- read-value-same-length-13
-    (λ c. search values)  -- read-value-returns-11
-    (λ c. search needs)  -- read-value-same-length-14
-    (λ c. search needs)  -- read-value-same-length-15
-    (λ c. search values)  -- read-value-returns-12
-    (λ c. search needs)  -- read-value-same-length-16
-    (λ c. search needs)  -- read-value-same-length-17
-    (λ c. search values)  -- read-value-returns-13
-    (λ c. search values))  -- read-value-returns-14
+    (λ c. search values))  -- read-value-returns-4
     λ t. read-values-lts.spec
     (read-values-calls t)
     (read-values-at t)

@@ -10,7 +10,8 @@ write-spec = tie.close (tie.spec
     (λ c. search did-long)  -- returns
     (λ c κs. search needs)  -- writable-requires
     (λ c κs. search needs)  -- room-of-requires
-    (λ c κs. (search ready-is, search needs))  -- write-rows-requires
+    (λ c κs. (search ready-is, search needs))  -- fill-requires
+    (λ c κs. search needs)  -- answer-for-requires
     (λ c. search needs)  -- same-length-2
     (λ c. search did-rows)  -- returns-2
     (λ c κs. search needs)  -- refuse-requires-2

@@ -1,0 +1,135 @@
+// Bytes below 128: whether all are, and runs of them, passed eight at a time. Each function that passes some gives the place after
+// them. Those that begin at a place assume that it is none past the end.
+use eights::eight_below;
+ghost use mathlib.Core.Path.{_≡_};
+ghost use Prim.Native.Nat.{_+_, _≤_};
+ghost use lib.ListN.{length, take, drop};
+ghost use lib.Dec.{ltb};
+ghost use Rattle.text.specs.Texts.{ascii};
+ghost use Rattle.text.specs.Runs.{Run};
+
+// Whether a byte is below 128: a character by itself.
+pub fn is_single(b: u8) -> bool
+    ensures { λ r. ⌜ r ≡ ltb b 128 ⌝ }
+{
+    b < 128
+}
+
+// Whether every byte is below 128.
+pub fn is_ascii(s: &[u8]) -> bool
+    ensures { λ r. ⌜ r ≡ ascii (now (s .entry)) ⌝ }
+{
+    let mut i = 0;
+    while i < s.len() {
+        if is_single(s[i]) {
+            i += 1;
+        } else {
+            return false;
+        }
+    }
+    true
+}
+
+// Whether the four eights at `at` are. No branch stands between them, so that the compiler can take them together.
+fn four_below(s: &[u8], at: usize) -> bool
+    requires { ⌜ at + 32 ≤ length (now s) ⌝ }
+    ensures { λ r. ⌜ r ≡ ascii (take 32 (drop at (now (s .entry)))) ⌝ }
+{
+    eight_below(s, at) & eight_below(s, at + 8) & eight_below(s, at + 16) & eight_below(s, at + 24)
+}
+
+// Past eights below 128, four a turn.
+fn past_fours(s: &[u8], from: usize) -> usize
+    requires { ⌜ from ≤ length (now s) ⌝ }
+    ensures { λ r. ⌜ Run (now (s .entry)) from r ⌝ }
+{
+    let mut at = from;
+    while 32 <= s.len() - at {
+        if four_below(s, at) {
+            at += 32;
+        } else {
+            return at;
+        }
+    }
+    at
+}
+
+// Past eights below 128, one a turn.
+fn past_eights(s: &[u8], from: usize) -> usize
+    requires { ⌜ from ≤ length (now s) ⌝ }
+    ensures { λ r. ⌜ Run (now (s .entry)) from r ⌝ }
+{
+    let mut at = from;
+    while 8 <= s.len() - at {
+        if eight_below(s, at) {
+            at += 8;
+        } else {
+            return at;
+        }
+    }
+    at
+}
+
+// Past eights below 128, if there is one at `from`.
+fn past_run(s: &[u8], from: usize) -> usize
+    requires { ⌜ from ≤ length (now s) ⌝ }
+    ensures { λ r. ⌜ Run (now (s .entry)) from r ⌝ }
+{
+    if 8 <= s.len() - from {
+        if eight_below(s, from) {
+            return past_eights(s, past_fours(s, from + 8));
+        }
+    }
+    from
+}
+
+// The same after a character, and only where 32 bytes are left: in a short text that is not all ASCII single bytes cost less.
+pub fn past_more(s: &[u8], from: usize) -> usize
+    requires { ⌜ from ≤ length (now s) ⌝ }
+    ensures { λ r. ⌜ Run (now (s .entry)) from r ⌝ }
+{
+    if 32 <= s.len() - from {
+        return past_run(s, from);
+    }
+    from
+}
+
+// Past single bytes below 128.
+fn past_singles(s: &[u8], from: usize) -> usize
+    requires { ⌜ from ≤ length (now s) ⌝ }
+    ensures { λ r. ⌜ Run (now (s .entry)) from r ⌝ }
+{
+    let mut at = from;
+    while at < s.len() {
+        if s[at] < 128 {
+            at += 1;
+        } else {
+            return at;
+        }
+    }
+    at
+}
+
+// Past the last bytes, fewer than eight, if they are below 128. In a text of eight or more its last eight are looked at, some again.
+fn past_last(s: &[u8], from: usize) -> usize
+    requires { ⌜ from ≤ length (now s) ⌝ }
+    ensures { λ r. ⌜ Run (now (s .entry)) from r ⌝ }
+{
+    let end = s.len();
+    if end < 8 {
+        return past_singles(s, from);
+    }
+    if end - from < 8 {
+        if eight_below(s, end - 8) {
+            return end;
+        }
+    }
+    from
+}
+
+// Past bytes below 128 at the front: past all bytes, where they are all below 128.
+pub fn past_front(s: &[u8]) -> usize
+    ensures { λ r. ⌜ Run (now (s .entry)) 0 r ⌝ }
+{
+    past_last(s, past_run(s, 0))
+}

@@ -1,0 +1,18 @@
+use Rattle.buckets.proofs.Comparing.{comparing}
+use borrow.Author.Needs.{needs}
+use Rattle.buckets.proofs.text_of.Statement.{statement}
+use Rattle.buckets.proofs.text_of.Tie as tie
+
+pub text-of-spec : {M : Type 1} → statement M
+text-of-spec = tie.close (tie.spec
+    (λ c. search needs)  -- mul-wide
+    (λ c. search needs)  -- mul-wide-2
+    (λ c. search needs)  -- shared-slice-read-wide
+    (λ c κs. search needs)  -- wide-requires
+    (λ c. search needs)  -- mul-wide-3
+    (λ c. search needs)  -- add-wide
+    (λ c. search needs)  -- mul-wide-4
+    (λ c. search needs)  -- shared-slice-read-wide-2
+    (λ c κs. search needs)  -- wide-requires-2
+    (λ c κs. search needs)  -- part-requires
+    (λ c. search comparing))  -- returns

@@ -1,0 +1,12 @@
+use Rattle.containers.proofs.Nesting.{nesting}
+use borrow.Author.Needs.{needs}
+use Rattle.containers.proofs.walk_array_only.Statement.{statement}
+use Rattle.containers.proofs.walk_array_only.Tie as tie
+
+pub walk-array-only-spec : {M : Type 1} → statement M
+walk-array-only-spec = tie.close (tie.spec
+    (λ c. search nesting)  -- returns
+    (λ c κs. search needs)  -- get-row-requires
+    (λ c κs. search needs)  -- walk-array-requires
+    (λ c. search nesting)  -- returns-2
+    (λ c. search nesting))  -- returns-3

@@ -1,0 +1,56 @@
+-- What answers the returns of the functions that look at a date's digits and at what stands between them. Assumes nothing.
+use mathlib.Core.Path.{_≡_, refl}
+use mathlib.Core.Bool.{Bool, true, false, _&&_}
+use mathlib.Core.List.{List}
+use Prim.Native.Nat.{ℕ, _+_, _-_, _*_, _<_}
+use lib.ListN.{length, getD}
+use lib.Dec.{leb, eqb}
+use borrow.Author.Tests.{eq-eqb, ne-eqb}
+use Rattle.lexical.specs.Digits.{digit, pair, two}
+use Rattle.lexical.specs.DateTime.{isDay, isDate, pairTo, isTime, parted, isDateTime}
+
+module _ (s : List ℕ) (at : ℕ) where
+  pub pair-is : {a b : Bool} → a ≡ digit (getD s at 0) → b ≡ digit (getD s (at + 1) 0) → (a && b) ≡ pair s at
+  unfolding pair
+  pair-is e f = rw (e, f)
+
+  pub two-is : {a b : ℕ} → (a ≡ getD s at 0 - 48) × (a < 256) → (b ≡ getD s (at + 1) 0 - 48) × (b < 256) → 10 * a + b ≡ two s at
+  unfolding two
+  two-is e f = rw (e .0, f .0)
+
+  pub pair-to-is : {a : Bool} {n : ℕ} (most : ℕ) → a ≡ pair s at → (n ≡ two s at) × (n < 2816) → (a && leb n most) ≡ pairTo s at most
+  unfolding pairTo
+  pair-to-is most e f = rw (e, f .0)
+
+module _ (s : List ℕ) where
+  pub parted-is : (eqb (getD s 8 0) 84 && eqb (getD s 11 0) 58 && eqb (getD s 14 0) 58) ≡ parted s
+  unfolding parted
+  parted-is = refl
+
+  pub time-is : {a b c : Bool} → a ≡ pairTo s 9 23 → b ≡ pairTo s 12 59 → c ≡ pairTo s 15 59 → (a && b && c) ≡ isTime s
+  unfolding isTime
+  time-is e f g = rw (e, f, g)
+
+  module _ {a b c d : Bool} (e : a ≡ pair s 0) (f : b ≡ pair s 2) (g : c ≡ pair s 4) (h : d ≡ pair s 6) where
+    pub no-digits : (a && b && c && d) ≡ false → false ≡ isDate s
+    unfolding isDate
+    no-digits i = rw (← e, ← f, ← g, ← h, i)
+
+    pub date-is : {good : Bool} {k l m n : ℕ} → (a && b && c && d) ≡ true → (k ≡ two s 0) × (k < 2816) → (l ≡ two s 2) × (l < 2816) → (m ≡ two s 4) × (m < 2816) → (n ≡ two s 6) × (n < 2816) → good ≡ isDay (100 * k + l) m n → good ≡ isDate s
+    unfolding isDate
+    date-is i p q r t u = rw (← e, ← f, ← g, ← h, i, u, p .0, q .0, r .0, t .0)
+
+  pub other-length : (length s ≡ 17 → ⊥) → false ≡ isDateTime s
+  unfolding isDateTime
+  other-length d = rw (ne-eqb _ _ d)
+
+  module _ {a b : Bool} (l : length s ≡ 17) (e : a ≡ parted s) (f : b ≡ isTime s) where
+    pub no-time : (a && b) ≡ false → false ≡ isDateTime s
+    unfolding isDateTime
+    no-time i = rw (eq-eqb _ _ l, ← e, ← f, i)
+
+    pub datetime-is : {good : Bool} → (a && b) ≡ true → good ≡ isDate s → good ≡ isDateTime s
+    unfolding isDateTime
+    datetime-is i g = rw (eq-eqb _ _ l, ← e, ← f, i, g)
+
+pub ruleset shaping = (pair-is, two-is, pair-to-is, parted-is, time-is, no-digits, date-is, other-length, no-time, datetime-is)

@@ -1,0 +1,11 @@
+use Rattle.date.proofs.Shaping.{shaping}
+use borrow.Author.Needs.{needs}
+use Rattle.date.proofs.is_time.Statement.{statement}
+use Rattle.date.proofs.is_time.Tie as tie
+
+pub is-time-spec : {M : Type 1} → statement M
+is-time-spec = tie.close (tie.spec
+    (λ c κs. search needs)  -- is-pair-to-requires
+    (λ c κs. search needs)  -- is-pair-to-requires-2
+    (λ c κs. search needs)  -- is-pair-to-requires-3
+    (λ c. search shaping))  -- returns

@@ -1,0 +1,118 @@
+-- What answers each return of the functions that walk items that hold no others, by tests of their rows. Assumes nothing.
+use mathlib.Core.Path.{_≡_, refl, sym, _∙_}
+use mathlib.Core.Bool.{Bool, true, false}
+use mathlib.Core.List.{List}
+use Prim.Native.Nat.{ℕ, _≤_, _<_}
+use native.Mathlib.Omega.{arith}
+use lib.Dec.{ltb, leb, eqb}
+use borrow.Author.Tests.{lt-ltb, le-ltb, le-leb, lt-leb, eq-eqb, ne-eqb, ltb-true}
+use Rattle.draft.specs.declared.Refusal.{Refusal}
+use Rattle.draft.specs.declared.Verdict.{Verdict}
+use Rattle.draft.specs.declared.Verdict.the-variants.{Fine, Bad}
+use Rattle.draft.specs.declared.Content.{Content as ContentOf}
+use Rattle.draft.specs.declared.Content.the-variants.{Double, DateTime, Binary, Text}
+use Rattle.draft.specs.declared.Extent.{Extent}
+use Rattle.draft.specs.declared.Extent.the-variants.{Until, Unfit}
+use Rattle.draft.specs.declared.Row.{Row}
+use Rattle.draft.specs.Content.{verdict}
+use Rattle.draft.specs.Writable.{fit, Walk, closed, leaf, holding, sized, contentItem, only, string, item}
+use Rattle.extents.specs.Asked.{Ready}
+
+-- a test that was made
+module _ (a b : ℕ) (o : Extent) where
+  pub fit-eq : {e : Extent} → a ≡ b → e ≡ o → e ≡ fit (eqb a b) o
+  fit-eq h i = i ∙ rw (eq-eqb a b h)
+
+  pub fit-ne : (a ≡ b → ⊥) → Unfit ≡ fit (eqb a b) o
+  fit-ne h = rw (ne-eqb a b h)
+
+  pub fit-le : {e : Extent} → a ≤ b → e ≡ o → e ≡ fit (leb a b) o
+  fit-le h i = i ∙ rw (le-leb a b h)
+
+  pub fit-gt : b < a → Unfit ≡ fit (leb a b) o
+  fit-gt h = rw (lt-leb a b h)
+
+-- where an item's row says that it ends
+module _ (x : Row) {o : Extent} {r : ℕ} (e : o ≡ Until r) where
+  pub closed-there : x .end ≡ r → Until r ≡ closed x o
+  closed-there h = rw (e, eq-eqb (x .end) r h)
+
+  pub closed-else : (x .end ≡ r → ⊥) → Unfit ≡ closed x o
+  closed-else h = rw (e, ne-eqb (x .end) r h)
+
+-- what an item holds, as it was walked
+module _ (x : Row) {o p e : Extent} (h : o ≡ p) where
+  pub holding-on : (b : ℕ) → e ≡ holding b x o → e ≡ holding b x p
+  holding-on b i = i ∙ rw h
+
+-- content
+module _ {c : ContentOf} (n : ℕ) where
+  pub sized-double : c ≡ Double → leb n 255 ≡ sized c n
+  sized-double e = rw e
+
+  pub sized-date : c ≡ DateTime → leb n 255 ≡ sized c n
+  sized-date e = rw e
+
+  pub sized-binary : c ≡ Binary → true ≡ sized c n
+  sized-binary e = rw e
+
+  pub sized-text : c ≡ Text → true ≡ sized c n
+  sized-text e = rw e
+
+module _ (s : List ℕ) (c : ContentOf) (x : Row) (r : ℕ) {b : Bool} (h : b ≡ sized c (x .b)) where
+  pub content-large : b ≡ false → Unfit ≡ contentItem s c x r
+  unfolding contentItem
+  content-large i = rw (← h, i)
+
+  module _ {v : Verdict} (i : b ≡ true) (j : v ≡ verdict c s (x .a) (x .b)) where
+    pub content-bad : {m : Refusal} → v ≡ Bad m → Unfit ≡ contentItem s c x r
+    unfolding contentItem
+    content-bad k = rw (← h, i, ← j, k)
+
+    pub content-fine : {e : Extent} → v ≡ Fine → e ≡ leaf x r → e ≡ contentItem s c x r
+    unfolding contentItem
+    content-fine k l = l ∙ rw (← h, i, ← j, k)
+
+-- the rows of a table, and the text bytes
+module _ (row : ℕ → Row) (rows : ℕ) (s : List ℕ) where
+  -- a row of one kind, where nothing else is allowed
+  module _ (k : ℕ) (f : Row → Walk) (r : ℕ) where
+    pub only-past : rows ≤ r → Unfit ≡ only row rows s k f r
+    unfolding only
+    only-past h = rw (le-ltb r rows h)
+
+    module _ {x : Row} (h : r < rows) (i : x ≡ row r) where
+      pub only-not : (x .kind ≡ k → ⊥) → Unfit ≡ only row rows s k f r
+      unfolding only
+      only-not j = rw (lt-ltb r rows h, ← i, ne-eqb (x .kind) k j)
+
+      -- the kind, as the code has it
+      pub only-else : {k′ : ℕ} → k′ ≡ k → (x .kind ≡ k′ → ⊥) → Unfit ≡ only row rows s k f r
+      only-else e j = only-not (λ w. j (w ∙ sym e))
+
+      pub only-here : {k′ : ℕ} {e : Extent} → k′ ≡ k → x .kind ≡ k′ → e ≡ f x r → e ≡ only row rows s k f r
+      unfolding only
+      only-here d j l = l ∙ rw (lt-ltb r rows h, ← i, eq-eqb (x .kind) k (j ∙ d))
+
+    only-before : (b : Bool) → ltb r rows ≡ b → {n : ℕ} → only row rows s k f r ≡ Until n → b ≡ true
+    unfolding only
+    only-before true e i = refl
+    only-before false e i = let z : _≡_ {A = ℕ} 0 1 = clash (rw e at i) in absurd (omega arith)
+      where
+        clash : {n : ℕ} → Unfit ≡ Until n → _≡_ {A = ℕ} 0 1
+        clash f = cc
+
+    pub only-there : {o : Extent} {n : ℕ} → o ≡ only row rows s k f r → o ≡ Until n → r < rows
+    only-there h i = ltb-true r rows (only-before (ltb r rows) refl (sym h ∙ i))
+
+  pub string-is : (r : ℕ) {e : Extent} → e ≡ only row rows s 11 (contentItem s Text) r → e ≡ string row rows s r
+  unfolding string
+  string-is r h = h
+
+pub row-few : {r rows room words : ℕ} → Ready rows room words → r < rows → r < 4096
+row-few h l = omega (arith, h .stated, h .most)
+
+pub row-room : {r rows room words : ℕ} → Ready rows room words → r < rows → r < room
+row-room h l = omega (arith, h .stated)
+
+pub ruleset walking = (fit-eq, fit-ne, fit-le, fit-gt, closed-there, closed-else, holding-on, sized-double, sized-date, sized-binary, sized-text, content-large, content-bad, content-fine, only-past, only-not, only-else, only-here, only-there, string-is, row-few, row-room)

@@ -1,0 +1,138 @@
+// The rows of items that hold no others: what each row must say, and that it ends where the next row begins. Here is also what a
+// row that holds others must say, once they are walked.
+use draft::Content;
+use draft::Extent;
+use draft::Row;
+use draft::Verdict;
+ghost use mathlib.Core.Path.{_≡_};
+ghost use Prim.Native.Nat.{_+_, _<_};
+ghost use lib.ListN.{length};
+ghost use Rattle.draft.specs.Rows.{kindOf};
+ghost use Rattle.draft.specs.Table.{rowAt};
+ghost use Rattle.draft.specs.Writable.{closed, leaf, over, holding, integerItem, booleanItem, sized as sizedBy, contentItem, only, string};
+ghost use Rattle.extents.specs.Asked.{Ready};
+
+// What an item's row says of where it ends, against where what it holds does.
+fn close(row: Row, extent: Extent) -> Extent
+    ensures { λ e. ⌜ e ≡ closed row extent ⌝ }
+{
+    match extent {
+        Extent::Unfit => Extent::Unfit,
+        Extent::Until(r) => {
+            let end = row.end as usize;
+            if end == r {
+                Extent::Until(r)
+            } else {
+                Extent::Unfit
+            }
+        }
+    }
+}
+
+pub fn close_over(row: Row, extent: Extent) -> Extent
+    ensures { λ e. ⌜ e ≡ over row extent ⌝ }
+{
+    if row.a == 0 {
+        close(row, extent)
+    } else {
+        Extent::Unfit
+    }
+}
+
+pub fn close_holding(b: u32, row: Row, extent: Extent) -> Extent
+    ensures { λ e. ⌜ e ≡ holding b row extent ⌝ }
+{
+    if row.b == b {
+        close_over(row, extent)
+    } else {
+        Extent::Unfit
+    }
+}
+
+// An item with nothing below it.
+fn walk_leaf(row: Row, r: usize) -> Extent
+    requires { ⌜ r < 4096 ⌝ }
+    ensures { λ e. ⌜ e ≡ leaf row r ⌝ }
+{
+    close(row, Extent::Until(r + 1))
+}
+
+pub fn walk_integer(row: Row, r: usize) -> Extent
+    requires { ⌜ r < 4096 ⌝ }
+    ensures { λ e. ⌜ e ≡ integerItem row r ⌝ }
+{
+    if row.b == 0 {
+        walk_leaf(row, r)
+    } else {
+        Extent::Unfit
+    }
+}
+
+pub fn walk_boolean(row: Row, r: usize) -> Extent
+    requires { ⌜ r < 4096 ⌝ }
+    ensures { λ e. ⌜ e ≡ booleanItem row r ⌝ }
+{
+    if row.a <= 1 {
+        walk_integer(row, r)
+    } else {
+        Extent::Unfit
+    }
+}
+
+// Whether a length goes into the item's field for it.
+fn sized(content: Content, n: u32) -> bool
+    ensures { λ b. ⌜ b ≡ sizedBy content n ⌝ }
+{
+    match content {
+        Content::Double => n <= 255,
+        Content::DateTime => n <= 255,
+        Content::Binary => true,
+        Content::Text => true,
+    }
+}
+
+// Content that lies inside the text bytes and keeps its rule.
+pub fn walk_content(text: &[u8], content: Content, row: Row, r: usize) -> Extent
+    requires { ⌜ r < 4096 ⌝ }
+    ensures { λ e. ⌜ e ≡ contentItem (now (text .entry)) content row r ⌝ }
+{
+    if sized(content, row.b) {
+        let verdict = content::inspect(content, text, row.a as usize, row.b as usize);
+        match verdict {
+            Verdict::Fine => walk_leaf(row, r),
+            Verdict::Bad(_) => Extent::Unfit,
+        }
+    } else {
+        Extent::Unfit
+    }
+}
+
+// Content of one kind, where nothing else is allowed.
+pub fn walk_only(
+    table: &[u32],
+    room: usize,
+    rows: usize,
+    text: &[u8],
+    content: Content,
+    r: usize,
+) -> Extent
+    requires { ⌜ Ready rows room (length (now table)) ⌝ }
+    ensures { λ e. ⌜ e ≡ only (rowAt room (now (table .entry))) rows (now (text .entry)) (kindOf content) (contentItem (now (text .entry)) content) r ⌝ }
+{
+    if rows <= r {
+        return Extent::Unfit;
+    }
+    let row = table::get_row(table, room, r);
+    if row.kind == draft::kind(content) {
+        walk_content(text, content, row, r)
+    } else {
+        Extent::Unfit
+    }
+}
+
+pub fn walk_string(table: &[u32], room: usize, rows: usize, text: &[u8], r: usize) -> Extent
+    requires { ⌜ Ready rows room (length (now table)) ⌝ }
+    ensures { λ e. ⌜ e ≡ string (rowAt room (now (table .entry))) rows (now (text .entry)) r ⌝ }
+{
+    walk_only(table, room, rows, text, Content::Text, r)
+}

@@ -1,0 +1,4 @@
+pub mod Digits
+pub mod Double
+pub mod DateTime
+pub mod Grammar

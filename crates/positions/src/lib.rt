@@ -1,0 +1,51 @@
+// The positions of the texts that come again, and how each string is sent. Strings are numbered in row order; of each it is known which is
+// the first of its text, and of a first one whether the text comes again.
+ghost use Prim.Native.Nat.{_≤_, _<_};
+ghost use lib.ListN.{length};
+ghost use Rattle.positions.specs.Contract.{Placed, Ready, SentBy};
+
+// How a string is sent, with its position if it has one.
+pub enum Sending {
+    Regular,
+    Recorded(u8),
+    Recalled(u8),
+}
+
+// The position of each text that comes again, at its first string; 4,096 at the first strings of the others.
+pub fn place(count: usize, firsts: &[usize], again: &[usize], spots: &mut [usize])
+    requires { ⌜ (count ≤ length (now firsts)) × (count ≤ length (now again)) × (count ≤ length (now spots)) ⌝ }
+    ensures { λ _. ⌜ Placed count (now (firsts .entry)) (now (again .entry)) (now (spots .exit)) ⌝ }
+{
+    let mut j = 0;
+    let mut next = 0;
+    while j < count {
+        if firsts[j] == j {
+            if 0 < again[j] {
+                spots[j] = next;
+                next += 1;
+                j += 1;
+            } else {
+                spots[j] = 4096;
+                j += 1;
+            }
+        } else {
+            j += 1;
+        }
+    }
+}
+
+// How string j is sent. A position of 256 or more is none.
+pub fn sending_of(firsts: &[usize], spots: &[usize], j: usize) -> Sending
+    requires { ⌜ Ready (now firsts) (now spots) j ⌝ }
+    ensures { λ r. ⌜ SentBy (now (firsts .entry)) (now (spots .entry)) j r ⌝ }
+{
+    let f = firsts[j];
+    let p = spots[f];
+    if p < 256 {
+        if f < j {
+            return Sending::Recalled(p as u8);
+        }
+        return Sending::Recorded(p as u8);
+    }
+    Sending::Regular
+}

@@ -1,0 +1,5 @@
+pub mod Looking
+pub mod Finding
+pub mod Trails
+pub mod Standing
+pub mod Counting

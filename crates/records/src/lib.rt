@@ -1,0 +1,155 @@
+// The records of a job file, and where in it a card lies: records are stepped over one after the other until the card asked for, or the end.
+ghost use mathlib.Core.Path.{_≡_};
+ghost use Prim.Native.Nat.{_+_, _*_, _≤_, _<_};
+ghost use lib.ListN.{length, drop};
+ghost use Rattle.records.specs.Job.{refusalNumber, kindAt, recordLength, endsWith, pickRefusal, lookAt, find as findFrom, bodyOf};
+
+// The kinds of records.
+pub enum Kind {
+    Card,
+    End,
+    Other,
+}
+
+// Why a job file has no card of a number.
+pub enum JobRefusal {
+    FileEnded,
+    WrongEnd,
+    NoCard,
+}
+
+// Where a card's body stands in the file, or why and at which record there is none.
+pub enum Found {
+    Body { start: usize, length: usize },
+    Missing { refusal: JobRefusal, place: usize },
+}
+
+// What one record says: what is found, or how many cards there are now and how long a body to step over.
+pub enum Look {
+    Settled(Found),
+    Onward { cards: usize, length: usize },
+}
+
+// Of a record: four bytes of length and two of kind.
+const HEAD: usize = 6;
+
+pub fn number(refusal: JobRefusal) -> u8
+    ensures { λ n. ⌜ n ≡ refusalNumber refusal ⌝ }
+{
+    match refusal {
+        JobRefusal::FileEnded => 15,
+        JobRefusal::WrongEnd => 16,
+        JobRefusal::NoCard => 26,
+    }
+}
+
+// A byte as a number: its caller has no fit of the element to show.
+fn wide(x: u8) -> usize
+    ensures { λ r. ⌜ (r ≡ x) × (r < 256) ⌝ }
+{
+    x as usize
+}
+
+// The kind of the record that s begins with.
+fn kind_at(s: &[u8]) -> Kind
+    requires { ⌜ 6 ≤ length (now s) ⌝ }
+    ensures { λ r. ⌜ r ≡ kindAt (now (s .entry)) ⌝ }
+{
+    let kind = wide(s[4]) + 256 * wide(s[5]);
+    match kind {
+        1 => Kind::Card,
+        2 => Kind::End,
+        _ => Kind::Other,
+    }
+}
+
+// What a whole kind 2 record says when the card asked for has not come.
+fn end_says(s: &[u8], cards: usize) -> JobRefusal
+    requires { ⌜ recordLength (now s) ≤ length (now s) ⌝ }
+    ensures { λ r. ⌜ r ≡ pickRefusal (endsWith (now (s .entry)) cards) JobRefusal.NoCard JobRefusal.WrongEnd ⌝ }
+{
+    if item::unsigned(s, 0) == 4 {
+        let counted = item::unsigned(s, HEAD);
+        if counted == cards {
+            return JobRefusal::NoCard;
+        }
+    }
+    JobRefusal::WrongEnd
+}
+
+fn missing(refusal: JobRefusal, place: usize) -> Look
+    ensures { λ r. ⌜ r ≡ Look.Settled (Found.Missing refusal place) ⌝ }
+{
+    Look::Settled(Found::Missing { refusal, place })
+}
+
+// What the record that s begins with says to one who asks for a card: it stands at `at`, with so many cards before it.
+fn look_at(s: &[u8], number: usize, cards: usize, at: usize) -> Look
+    requires { ⌜ (cards ≤ number) × (at + length (now s) < 18446744073709551616) ⌝ }
+    ensures { λ r. ⌜ r ≡ lookAt number cards at (now (s .entry)) ⌝ }
+{
+    if s.len() < HEAD {
+        return missing(JobRefusal::FileEnded, at);
+    }
+    let length = item::unsigned(s, 0);
+    if s.len() - HEAD < length {
+        return missing(JobRefusal::FileEnded, at);
+    }
+    let kind = kind_at(s);
+    match kind {
+        Kind::Card => {
+            if cards == number {
+                let start = at + HEAD;
+                return Look::Settled(Found::Body { start, length });
+            }
+            Look::Onward {
+                cards: cards + 1,
+                length,
+            }
+        }
+        Kind::End => missing(end_says(s, cards), at),
+        Kind::Other => Look::Onward { cards, length },
+    }
+}
+
+// The body of card number `number`, from the record at `from` on, with `before` cards before that.
+fn seek(file: &[u8], number: usize, before: usize, from: usize) -> Found
+    requires { ⌜ before ≤ number ⌝ }
+    ensures { λ r. ⌜ r ≡ findFrom number before from 0 (drop from (now (file .entry))) ⌝ }
+{
+    let mut cards = before;
+    let mut at = from;
+    while at < file.len() {
+        let look = look_at(&file[at..], number, cards, at);
+        match look {
+            Look::Settled(found) => {
+                return found;
+            }
+            Look::Onward {
+                cards: more,
+                length,
+            } => {
+                cards = more;
+                at += length + HEAD;
+            }
+        }
+    }
+    Found::Missing {
+        refusal: JobRefusal::FileEnded,
+        place: at,
+    }
+}
+
+// The body of a card in the file, or why there is none.
+pub fn find(file: &[u8], number: usize) -> Found
+    ensures { λ r. ⌜ r ≡ bodyOf (now (file .entry)) number ⌝ }
+{
+    seek(file, number, 0, 0)
+}
+
+// The body of the next card, for one who goes from card to card: `number` cards stand before the record at `from`.
+pub fn find_next(file: &[u8], number: usize, from: usize) -> Found
+    ensures { λ r. ⌜ r ≡ findFrom number number from 0 (drop from (now (file .entry))) ⌝ }
+{
+    seek(file, number, number, from)
+}

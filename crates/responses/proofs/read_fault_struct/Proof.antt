@@ -1,0 +1,16 @@
+use Rattle.responses.proofs.Faults.{faults}
+use borrow.Author.Needs.{needs}
+use Rattle.responses.proofs.read_fault_struct.Statement.{statement}
+use Rattle.responses.proofs.read_fault_struct.Tie as tie
+
+pub read-fault-struct-spec : {M : Type 1} → statement M
+read-fault-struct-spec = tie.close (tie.spec
+    (λ c κs. search needs)  -- read-struct-only-requires
+    (λ c. search needs)  -- same-length
+    (λ c. search needs)  -- same-length-2
+    (λ c. search faults)  -- returns
+    (λ c κs. (search needs, search faults, search needs, search needs))  -- judge-requires
+    (λ c κs. search needs)  -- judged-requires
+    (λ c. search needs)  -- same-length-3
+    (λ c. search needs)  -- same-length-4
+    (λ c. search faults))  -- returns-2

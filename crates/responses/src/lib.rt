@@ -1,0 +1,82 @@
+// Reading a Response: a Value, or a fault's Struct, which is judged once it is read.
+// Assumes that the place is in the message, the rows fit the table and the codebook has its 512 words.
+use draft::Refusal;
+use item::Step;
+ghost use Prim.Native.Nat.{_+_, _<_};
+ghost use lib.ListN.{length};
+ghost use Rattle.draft.specs.Read.{only, structItem, nested, faultStruct, responseItem};
+ghost use Rattle.codebook.specs.Words.{bookOf};
+ghost use Rattle.item.specs.Contract.{Ready, Did};
+
+// A Struct, where nothing else is allowed.
+fn read_struct_only(
+    s: &[u8],
+    at: usize,
+    row: usize,
+    deep: usize,
+    room: usize,
+    table: &mut [u32],
+    book: &mut [u32],
+) -> Step
+    requires { ⌜ Ready at row room (length (now s)) (length (now table)) (length (now book)) ⌝ }
+    ensures { λ r. ⌜ Did (only (now (s .entry)) room 83 (structItem (now (s .entry)) room (nested (now (s .entry)) room deep)) at row (bookOf (now (book .entry)))) (length (now (s .entry))) room (at + 1) row (now (table .entry)) (now (table .exit)) (now (book .exit)) r ⌝ }
+{
+    if s.len() <= at {
+        return item::refuse(Refusal::Ended, at);
+    }
+    if s[at] == b'S' {
+        value::read_struct(s, at, row, deep, room, table, book)
+    } else {
+        item::refuse(Refusal::UnexpectedByte, at)
+    }
+}
+
+// A fault's Struct, judged once it is read.
+fn read_fault_struct(
+    s: &[u8],
+    at: usize,
+    row: usize,
+    deep: usize,
+    room: usize,
+    table: &mut [u32],
+    book: &mut [u32],
+) -> Step
+    requires { ⌜ Ready at row room (length (now s)) (length (now table)) (length (now book)) ⌝ }
+    ensures { λ r. ⌜ Did (faultStruct (now (s .entry)) room deep at row (bookOf (now (book .entry)))) (length (now (s .entry))) room (at + 1) row (now (table .entry)) (now (table .exit)) (now (book .exit)) r ⌝ }
+{
+    let inside = read_struct_only(s, at, row, deep, room, table, book);
+    if inside.number != 0 {
+        return inside;
+    }
+    let verdict = fault::judge(table, room, s, row, inside.row);
+    item::judged(verdict, at, inside)
+}
+
+// The Response whose byte stands at `at`: a fault's Struct, or a Value.
+pub fn read_response(
+    s: &[u8],
+    at: usize,
+    row: usize,
+    deep: usize,
+    room: usize,
+    table: &mut [u32],
+    book: &mut [u32],
+) -> Step
+    requires { ⌜ (at < length (now s)) × Ready at row room (length (now s)) (length (now table)) (length (now book)) ⌝ }
+    ensures { λ r. ⌜ Did (responseItem (now (s .entry)) room deep at row (bookOf (now (book .entry)))) (length (now (s .entry))) room (at + 1) row (now (table .entry)) (now (table .exit)) (now (book .exit)) r ⌝ }
+{
+    let next = at + 1;
+    if room <= row {
+        return item::refuse(Refusal::NoRow, at);
+    }
+    if s.len() <= next {
+        return item::refuse(Refusal::Ended, next);
+    }
+    if s[next] == b'F' {
+        let step = read_fault_struct(s, at + 2, row + 1, deep, room, table, book);
+        item::close(step, 3, 1, row, room, table)
+    } else {
+        let step = value::read_value(s, next, row + 1, deep, room, table, book);
+        item::close(step, 2, 1, row, room, table)
+    }
+}

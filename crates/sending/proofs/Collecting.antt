@@ -1,0 +1,104 @@
+-- What answers the returns and turns of the function that collects the strings of rows. Assumes nothing.
+use Prim.Native.Nat.{ℕ, zero, suc, _+_, _-_, _*_, _≤_, _<_}
+use mathlib.Core.Path.{_≡_, refl, sym, ap, _∙_}
+use mathlib.Core.Bool.{Bool, true, false}
+use mathlib.Core.List.{List, [], _∷_, _++_, append-assoc, append-nil}
+use native.Mathlib.Omega.{arith}
+use native.Mathlib.Nat.{add-zero, zero-add, sub-zero}
+use native.Mathlib.Numerals.{add-one}
+use lib.ListN.{length, getD, set, length-set}
+use lib.Seq.{getD-set-same, getD-set-other}
+use lib.Dec.{eqb}
+use borrow.Author.Tests.{eq-eqb, ne-eqb}
+use Rattle.draft.specs.declared.Row.{Row}
+use Rattle.draft.specs.Bytes.{part}
+use Rattle.draft.specs.Read.{textOf}
+use Rattle.draft.specs.Table.{from}
+use Rattle.draft.specs.Strings.{Text, textsOf}
+use Rattle.buckets.specs.Numbered.{textAt}
+use Rattle.buckets.proofs.Numbered.{from-step, from-none}
+use Rattle.sending.specs.Contract.{Collected}
+
+-- the texts of rows, by the first row
+module _ (row : ℕ → Row) (rows r : ℕ) (h : r < rows) {x : Row} (e : x ≡ row r) (s : List ℕ) where
+  pub texts-string : x .kind ≡ 11 → textsOf s (from row r (rows - r)) ≡ textOf s x ∷ textsOf s (from row (suc r) (rows - suc r))
+  unfolding textsOf
+  texts-string k = rw (from-step row r rows h, ← e, eq-eqb _ _ k)
+
+  pub texts-other : (x .kind ≡ 11 → ⊥) → textsOf s (from row r (rows - r)) ≡ textsOf s (from row (suc r) (rows - suc r))
+  unfolding textsOf
+  texts-other k = rw (from-step row r rows h, ← e, ne-eqb _ _ k)
+
+from-last : (f : ℕ → Text) (a n : ℕ) → from f a (suc n) ≡ from f a n ++ (f (a + n) ∷ [])
+unfolding from
+from-last f a zero = rw add-zero
+from-last f a (suc n) = let e : suc a + n ≡ a + suc n = omega arith in ap (λ (l : List Text). f a ∷ l) (from-last f (suc a) n ∙ rw e)
+
+from-same : (f g : ℕ → Text) (a n : ℕ) → ((k : ℕ) → k < a + n → f k ≡ g k) → from f a n ≡ from g a n
+unfolding from
+from-same f g a zero h = refl
+from-same f g a (suc n) h = rw (h a (omega arith), from-same f g (suc a) n (λ k l. h k (omega arith)))
+
+-- one string more
+module _ (W s : List ℕ) (n a b : ℕ) (h : n * 2 + 1 < length W) where
+  text-new : textAt (set (set W (n * 2) a) (n * 2 + 1) b) s n ≡ part s a b
+  unfolding textAt
+  text-new =
+      rw (getD-set-other (set W (n * 2) a) (n * 2 + 1) (n * 2) b 0 (λ e. omega arith), getD-set-same W (n * 2) a 0 (omega arith), getD-set-same (set W (n * 2) a) (n * 2 + 1) b 0 (simp length-set h))
+
+  text-old : (k : ℕ) → k < n → textAt (set (set W (n * 2) a) (n * 2 + 1) b) s k ≡ textAt W s k
+  unfolding textAt
+  text-old k l =
+      rw (getD-set-other (set W (n * 2) a) (n * 2 + 1) (k * 2) b 0 (λ e. omega arith), getD-set-other (set W (n * 2) a) (n * 2 + 1) (k * 2 + 1) b 0 (λ e. omega arith), getD-set-other W (n * 2) (k * 2) a 0 (λ e. omega arith), getD-set-other W (n * 2) (k * 2 + 1) a 0 (λ e. omega arith))
+
+  texts-more : from (textAt (set (set W (n * 2) a) (n * 2 + 1) b) s) 0 (suc n) ≡ from (textAt W s) 0 n ++ (part s a b ∷ [])
+  texts-more =
+      from-last (textAt (set (set W (n * 2) a) (n * 2 + 1) b) s) 0 n
+      ∙ rw (zero-add, text-new, from-same (textAt (set (set W (n * 2) a) (n * 2 + 1) b) s) (textAt W s) 0 n (λ k l. text-old k (omega arith)))
+
+-- where the pass stands at row r, with n strings so far
+pub record Collecting (row : ℕ → Row) (rows : ℕ) (W : List ℕ) (r n : ℕ) : Type 0 where
+  pub texts : (s : List ℕ) → textsOf s (from row 0 rows) ≡ from (textAt W s) 0 n ++ textsOf s (from row r (rows - r))
+  pub within : r ≤ rows
+  pub few : n ≤ r
+  pub room : rows * 2 ≤ length W
+
+pub collect-first : (row : ℕ → Row) (rows : ℕ) (W : List ℕ) → rows * 2 ≤ length W → Collecting row rows W 0 0
+unfolding from
+collect-first row rows W h = record { texts = λ s. rw sub-zero; within = omega arith; few = omega arith; room = h }
+
+module _ {row : ℕ → Row} {rows : ℕ} {W : List ℕ} {r n : ℕ} (i : Collecting row rows W r n) where
+  module _ (h : r < rows) {x : Row} (e : x ≡ row r) where
+    pub collect-string : x .kind ≡ 11 → Collecting row rows (set (set W (n * 2) (x .a)) (n * 2 + 1) (x .b)) (r + 1) (n + 1)
+    collect-string k =
+        rw (add-one r, add-one n)
+        (record {
+          texts = λ s. i .texts s ∙ rw (texts-string row rows r h e s k, texts-more W s n (x .a) (x .b) (omega (arith, i .few, i .room)), append-assoc);
+          within = h;
+          few = omega (arith, i .few);
+          room = simp length-set (i .room);
+        })
+
+    pub collect-other : (x .kind ≡ 11 → ⊥) → Collecting row rows W (r + 1) n
+    collect-other k =
+        rw add-one
+        (record {
+          texts = λ s. i .texts s ∙ rw (texts-other row rows r h e s k);
+          within = h;
+          few = omega (arith, i .few);
+          room = i .room;
+        })
+
+    pub collect-room : n * 2 + 1 < length W
+    collect-room = omega (arith, i .few, i .room)
+
+  pub collect-done : rows ≤ r → Collected row rows W n
+  unfolding textsOf
+  collect-done h =
+      record {
+        texts = λ s. i .texts s ∙ rw (from-none row r rows h, append-nil);
+        few = omega (arith, i .few, i .within);
+        room = omega (arith, i .few, i .within, i .room);
+      }
+
+pub ruleset collecting = (collect-first, collect-string, collect-other, collect-room, collect-done)

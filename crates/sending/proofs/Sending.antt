@@ -1,0 +1,83 @@
+-- What answers each return of the functions that put a string, and that say how long it is. Assumes nothing.
+use Prim.Native.Nat.{ℕ, suc, _+_, _≤_, _<_}
+use mathlib.Core.Path.{_≡_, refl, sym, ap, _∙_}
+use mathlib.Core.Bool.{Bool, true, false}
+use mathlib.Core.List.{List, [], _∷_}
+use native.Mathlib.Omega.{arith}
+use lib.ListN.{length}
+use Rattle.draft.specs.Grammar.{Sent}
+use Rattle.draft.specs.Strings.{Text, cost}
+use Rattle.draft.specs.Grammar as sent
+use Rattle.draft.specs.Written.{counted, stringBytes}
+use Rattle.positions.specs.declared.Sending.{Sending}
+use Rattle.positions.specs.declared.Sending.the-variants.{Regular, Recorded, Recalled}
+use Rattle.buckets.specs.Numbered.{textAt}
+use Rattle.positions.specs.Contract.{sent, told, SentBy}
+use Rattle.buckets.proofs.Comparing.{text-short}
+use Rattle.output.specs.Contract.{Put}
+use Rattle.sending.specs.Contract.{Takes}
+use Rattle.output.proofs.Putting.{counted-length}
+
+-- what a string takes is what it costs
+pub string-cost : (f : Sent) → length (stringBytes f) ≡ cost f
+unfolding stringBytes cost
+string-cost (sent.regular t) = omega (arith, counted-length t)
+string-cost (sent.recorded p t) = omega (arith, counted-length t)
+string-cost (sent.recalled p t) = refl
+
+module _ (W s fs sp : List ℕ) (j : ℕ) {r : Sending} (k : Sending) {t : List ℕ} (e : SentBy fs sp j r) (f : r ≡ k) (g : t ≡ textAt W s j) where
+  string-is : stringBytes (told fs sp j (textAt W s j)) ≡ stringBytes (sent k t)
+  string-is = rw (← e .is (textAt W s j), f, g)
+
+  string-room : (l : ℕ) → length (stringBytes (told fs sp j (textAt W s j))) ≤ l → length (stringBytes (sent k t)) ≤ l
+  string-room l h = rw string-is at h
+
+  pub string-put : {o o′ : List ℕ} {n : ℕ} → Put (stringBytes (sent k t)) o o′ n → Put (stringBytes (told fs sp j (textAt W s j))) o o′ n
+  string-put p = rw string-is p
+
+  pub string-long : {n : ℕ} → n ≡ length (stringBytes (sent k t)) → Takes s W fs sp j n
+  string-long h = record { is = h ∙ rw string-is }
+
+-- by how it is sent
+module _ (t : List ℕ) where
+  pub regular-long : 5 + length t ≡ length (stringBytes (sent.regular t))
+  unfolding cost
+  regular-long = sym (string-cost (sent.regular t))
+
+  pub regular-put : {o o′ : List ℕ} {n : ℕ} → Put (85 ∷ counted t) o o′ n → Put (stringBytes (sent.regular t)) o o′ n
+  unfolding stringBytes
+  regular-put p = p
+
+  module _ (p : ℕ) where
+    pub recorded-long : 6 + length t ≡ length (stringBytes (sent.recorded p t))
+    unfolding cost
+    recorded-long = sym (string-cost (sent.recorded p t))
+
+    pub recorded-put : {o o′ : List ℕ} {n : ℕ} → Put (62 ∷ p ∷ counted t) o o′ n → Put (stringBytes (sent.recorded p t)) o o′ n
+    unfolding stringBytes
+    recorded-put h = h
+
+    pub recalled-long : 2 ≡ length (stringBytes (sent.recalled p t))
+    unfolding stringBytes
+    recalled-long = refl
+
+    pub recalled-put : {o o′ : List ℕ} {n : ℕ} → Put (60 ∷ p ∷ []) o o′ n → Put (stringBytes (sent.recalled p t)) o o′ n
+    unfolding stringBytes
+    recalled-put h = h
+
+-- the room for it
+module _ (W s fs sp : List ℕ) (j : ℕ) {r : Sending} {t : List ℕ} {l : ℕ} (h : length (stringBytes (told fs sp j (textAt W s j))) ≤ l) (e : SentBy fs sp j r) where
+  pub regular-room : r ≡ Regular → t ≡ textAt W s j → 5 + length t ≤ l
+  regular-room f g = omega (arith, regular-long t, string-room W s fs sp j Regular e f g l h)
+
+  module _ {p : ℕ} where
+    pub recorded-room : r ≡ Recorded p → t ≡ textAt W s j → 6 + length t ≤ l
+    recorded-room f g = omega (arith, recorded-long t p, string-room W s fs sp j (Recorded p) e f g l h)
+
+    pub recalled-room : r ≡ Recalled p → t ≡ textAt W s j → 2 ≤ l
+    recalled-room f g = omega (arith, recalled-long t p, string-room W s fs sp j (Recalled p) e f g l h)
+
+pub text-few : (W s : List ℕ) (j : ℕ) {t : List ℕ} → t ≡ textAt W s j → length s ≤ 65536 → length t ≤ 65536
+text-few W s j e h = rw e (omega (arith, text-short W s j))
+
+pub ruleset sending = (string-put, string-long, regular-long, regular-room, regular-put, recorded-long, recorded-room, recorded-put, recalled-long, recalled-room, recalled-put, text-few)

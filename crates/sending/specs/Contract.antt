@@ -1,0 +1,21 @@
+-- What the functions on the strings of rows do. Assumes nothing.
+use Prim.Native.Nat.{ℕ, _*_, _≤_}
+use mathlib.Core.Path.{_≡_}
+use mathlib.Core.List.{List}
+use lib.ListN.{length}
+use Rattle.draft.specs.declared.Row.{Row}
+use Rattle.draft.specs.Table.{from}
+use Rattle.draft.specs.Strings.{textsOf}
+use Rattle.draft.specs.Written.{stringBytes}
+use Rattle.buckets.specs.Numbered.{textAt}
+use Rattle.positions.specs.Contract.{told}
+
+-- the words W hold n strings, those of the rows, whatever bytes their texts lie in
+pub record Collected (row : ℕ → Row) (rows : ℕ) (W : List ℕ) (n : ℕ) : Type 0 where
+  pub texts : (s : List ℕ) → textsOf s (from row 0 rows) ≡ from (textAt W s) 0 n
+  pub few : n ≤ rows
+  pub room : n * 2 ≤ length W
+
+-- string j takes n bytes
+pub record Takes (s W fs sp : List ℕ) (j n : ℕ) : Type 0 where
+  pub is : n ≡ length (stringBytes (told fs sp j (textAt W s j)))

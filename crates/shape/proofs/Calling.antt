@@ -1,0 +1,101 @@
+-- What answers each return of the functions that walk a Call or a Response, and the whole table. Assumes nothing.
+use mathlib.Core.Path.{_≡_, _∙_}
+use mathlib.Core.Bool.{Bool, false}
+use mathlib.Core.List.{List}
+use Prim.Native.Nat.{ℕ, _+_, _*_, _-_, _/_, _≤_, _<_}
+use native.Mathlib.Omega.{arith}
+use lib.ListN.{length}
+use lib.Dec.{eqb}
+use borrow.Author.Tests.{lt-ltb, le-ltb, le-leb, lt-leb}
+use Rattle.draft.specs.declared.Refusal.{Refusal}
+use Rattle.draft.specs.declared.Verdict.{Verdict}
+use Rattle.draft.specs.declared.Verdict.the-variants.{Fine, Bad}
+use Rattle.draft.specs.declared.Item.{Item}
+use Rattle.draft.specs.declared.Extent.{Extent}
+use Rattle.draft.specs.declared.Extent.the-variants.{Until, Unfit}
+use Rattle.draft.specs.declared.Row.{Row}
+use Rattle.draft.specs.Rows.{itemOf}
+use Rattle.draft.specs.Table.{roomOf, rowAt, from}
+use Rattle.draft.specs.Content.{faultRule}
+use Rattle.draft.specs.Read.{heldRows}
+use Rattle.draft.specs.Writable.{only, structItem, item, nested, faultStruct, first, callOrResponse, wholly, writableWithin, writable}
+use Rattle.extents.specs.Asked.{Ready}
+use Rattle.containers.proofs.Nesting.{nesting}
+
+-- where an item ends, as against the stated rows
+module _ {o : Extent} {r : ℕ} (e : o ≡ Until r) where
+  pub wholly-is : (rows : ℕ) → eqb r rows ≡ wholly rows o
+  wholly-is rows = rw e
+
+-- the rows of a table, and the text bytes
+module _ (row : ℕ → Row) (rows : ℕ) (s : List ℕ) where
+  -- a fault's Struct
+  module _ (deep r : ℕ) {o : Extent} (h : o ≡ only row rows s 10 (structItem row rows s (nested row rows s deep)) r) where
+    pub fault-no : o ≡ Unfit → Unfit ≡ faultStruct row rows s deep r
+    unfolding faultStruct
+    fault-no i = rw (← h, i)
+
+    module _ {n : ℕ} (i : o ≡ Until n) where
+      pub fault-past : rows < n → Unfit ≡ faultStruct row rows s deep r
+      unfolding faultStruct
+      fault-past l = rw (← h, i, lt-leb n rows l)
+
+      module _ {v : Verdict} (l : n ≤ rows) (j : v ≡ faultRule (heldRows s (from row (r + 1) (n - (r + 1))))) where
+        pub fault-bad : {m : Refusal} → v ≡ Bad m → Unfit ≡ faultStruct row rows s deep r
+        unfolding faultStruct
+        fault-bad g = rw (← h, i, le-leb n rows l, ← j, g)
+
+        pub fault-fine : v ≡ Fine → Until n ≡ faultStruct row rows s deep r
+        unfolding faultStruct
+        fault-fine g = rw (← h, i, le-leb n rows l, ← j, g)
+
+  -- the Call or Response
+  module _ (deep r : ℕ) where
+    pub first-past : rows ≤ r → Unfit ≡ callOrResponse row rows s deep r
+    unfolding callOrResponse
+    first-past h = rw (le-ltb r rows h)
+
+    pub first-is : {x : Row} {i j : Item} {e : Extent} → r < rows → x ≡ row r → i ≡ itemOf (x .kind) → i ≡ j → e ≡ first row rows s j deep x r → e ≡ callOrResponse row rows s deep r
+    unfolding callOrResponse
+    first-is h f g k l = l ∙ rw (lt-ltb r rows h, ← f, ← g, k)
+
+pub row-in : {r rows room words : ℕ} → Ready rows room words → r < rows → r ≤ room
+row-in h l = omega (arith, h .stated)
+
+pub end-in : {n rows room words : ℕ} → Ready rows room words → n ≤ rows → n ≤ room
+end-in h l = omega (arith, h .stated)
+
+pub ruleset calling = (nesting, wholly-is, fault-no, fault-past, fault-bad, fault-fine, first-past, first-is, row-in, end-in)
+
+-- the whole table
+module _ (T : List ℕ) (rows : ℕ) (s : List ℕ) where
+  pub table-long : 65536 < length s → false ≡ writable T rows s
+  unfolding writable writableWithin
+  table-long h = rw (lt-leb _ _ h)
+
+  module _ (h : length s ≤ 65536) where
+    pub table-empty : rows < 1 → false ≡ writable T rows s
+    unfolding writable writableWithin
+    table-empty i = rw (le-leb _ _ h, lt-leb 1 rows i)
+
+    module _ (i : 1 ≤ rows) where
+      pub table-many : 4096 < rows → false ≡ writable T rows s
+      unfolding writable writableWithin
+      table-many j = rw (le-leb _ _ h, le-leb 1 rows i, lt-leb rows 4096 j)
+
+      module _ (j : rows ≤ 4096) where
+        pub table-short : length T < rows * 4 → false ≡ writable T rows s
+        unfolding writable writableWithin
+        table-short k = rw (le-leb _ _ h, le-leb 1 rows i, le-leb rows 4096 j, lt-leb (rows * 4) (length T) k)
+
+        pub table-walked : {room : ℕ} {o : Extent} {b : Bool} → rows * 4 ≤ length T → room ≡ roomOf 4096 (length T) → o ≡ callOrResponse (rowAt room T) rows s 32 0 → b ≡ wholly rows o → b ≡ writable T rows s
+        unfolding writable writableWithin
+        table-walked k l m n = n ∙ rw (le-leb _ _ h, le-leb 1 rows i, le-leb rows 4096 j, le-leb (rows * 4) (length T) k, m, l)
+
+room-holds : (rows words : ℕ) → rows * 4 ≤ words → rows ≤ words / 4
+room-holds rows words h = omega arith
+
+pub ready-table : {rows room : ℕ} (words : ℕ) → rows ≤ 4096 → rows * 4 ≤ words → room ≡ roomOf 4096 words → Ready rows room words
+ready-table words h i e = record { stated = omega (arith, e); most = omega (arith, e); table = omega (arith, e) }
+
+pub ruleset whole = (table-long, table-empty, table-many, table-short, table-walked, ready-table)

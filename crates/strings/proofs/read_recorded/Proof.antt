@@ -1,0 +1,24 @@
+use Rattle.item.proofs.Items.{leaves}
+use borrow.Author.Needs.{needs}
+use Rattle.strings.proofs.read_recorded.Statement.{statement}
+use Rattle.strings.proofs.read_recorded.Tie as tie
+
+pub read-recorded-spec : {M : Type 1} → statement M
+read-recorded-spec = tie.close (tie.spec
+    (λ c κs. search needs)  -- refuse-requires
+    (λ c. search leaves)  -- returns
+    (λ c. search needs)  -- add-if2
+    (λ c κs. search needs)  -- refuse-requires-2
+    (λ c. search leaves)  -- returns-2
+    (λ c. search needs)  -- add-unsigned
+    (λ c κs. search needs)  -- unsigned-requires
+    (λ c. search needs)  -- add-o
+    (λ c. search needs)  -- add-record
+    (λ c. search needs)  -- shared-slice-read-record
+    (λ c. search needs)  -- cast-record
+    (λ c. search needs)  -- cast-record-2
+    (λ c κs. search needs)  -- record-requires
+    (λ c κs. search needs)  -- put-contents-requires
+    (λ c. search needs)  -- same-length
+    (λ c. search needs)  -- same-length-2
+    (λ c. search leaves))  -- returns-3

@@ -1,0 +1,85 @@
+// The text check: well-formed UTF-8 by RFC 3629, with runs of bytes below 128 passed eight at a time, and byte by byte; and that the
+// two answer the same. What a user calls assumes nothing.
+use ascii::is_single;
+use ascii::past_front;
+use ascii::past_more;
+use byte_classes::CLASSES;
+use characters::width_at;
+ghost use mathlib.Core.Path.{_≡_};
+ghost use mathlib.Core.Bool.{true};
+ghost use lib.ListN.{drop};
+ghost use Rattle.text.specs.Utf8.{wellFormed};
+ghost use Rattle.text.specs.Classes.{classTable};
+
+// Whether the bytes are well-formed UTF-8. One character a turn; a byte below 128 is one, and is not looked up.
+fn walk(table: &[u8; 256], s: &[u8]) -> bool
+    requires { ⌜ now table ≡ classTable ⌝ }
+    ensures { λ r. ⌜ r ≡ wellFormed (now (s .entry)) ⌝ }
+{
+    let mut at = 0;
+    while at < s.len() {
+        if is_single(s[at]) {
+            at += 1;
+        } else {
+            let n = width_at(table, s, at);
+            if n == 0 {
+                return false;
+            }
+            at += n;
+        }
+    }
+    true
+}
+
+// Whether the bytes are well-formed UTF-8, byte by byte.
+pub fn is_utf8_bytewise(s: &[u8]) -> bool
+    ensures { λ r. ⌜ r ≡ wellFormed (now (s .entry)) ⌝ }
+{
+    walk(&CLASSES, s)
+}
+
+// Whether the bytes are well-formed UTF-8, where those before `from` are characters. Runs of bytes below 128 are passed at once.
+fn walk_runs(table: &[u8; 256], s: &[u8], from: usize) -> bool
+    requires { ⌜ (now table ≡ classTable) × (wellFormed (now s) ≡ wellFormed (drop from (now s))) ⌝ }
+    ensures { λ r. ⌜ r ≡ wellFormed (now (s .entry)) ⌝ }
+{
+    let mut at = from;
+    while at < s.len() {
+        if is_single(s[at]) {
+            at = past_more(s, at + 1);
+        } else {
+            let width = width_at(table, s, at);
+            if width == 0 {
+                return false;
+            }
+            at += width;
+        }
+    }
+    true
+}
+
+// The same, with the table laid out here, so that it is only for texts that have a byte from 128 on.
+fn walk_from(s: &[u8], from: usize) -> bool
+    requires { ⌜ wellFormed (now s) ≡ wellFormed (drop from (now s)) ⌝ }
+    ensures { λ r. ⌜ r ≡ wellFormed (now (s .entry)) ⌝ }
+{
+    walk_runs(&CLASSES, s, from)
+}
+
+// Whether the bytes are well-formed UTF-8.
+pub fn is_utf8(s: &[u8]) -> bool
+    ensures { λ r. ⌜ r ≡ wellFormed (now (s .entry)) ⌝ }
+{
+    let front = past_front(s);
+    if front < s.len() {
+        return walk_from(s, front);
+    }
+    true
+}
+
+// Whether the two checks answer the same. They do, whatever the bytes.
+pub fn checks_agree(s: &[u8]) -> bool
+    ensures { λ r. ⌜ r ≡ true ⌝ }
+{
+    is_utf8(s) == is_utf8_bytewise(s)
+}
