@@ -2,7 +2,7 @@
 use mathlib.Core.Path.{_≡_, refl, sym, _∙_, ap}
 use mathlib.Core.Bool.{Bool, true, false, _&&_}
 use mathlib.Core.List.{List, [], _∷_, _++_, append-assoc}
-use Prim.Native.Nat.{ℕ, _+_, _-_, _*_, _≤_, _<_}
+use Prim.Native.Nat.{ℕ, _+_, _-_, _*_, _/_, _≤_, _<_}
 use native.Mathlib.Omega.{arith}
 use lib.ListN.{length, take, drop, replicate, length-append, length-replicate, replicate-append-replicate}
 use lib.Seq.{drop-at}
@@ -11,13 +11,14 @@ use borrow.Author.Tests.{le-ltb, ltb-true, ltb-false}
 use Rattle.draft.specs.declared.Refusal.the-variants.{Ended, TooLong}
 use Rattle.draft.specs.Read.{Reading, got, refused}
 use Rattle.reader.specs.Answers.{reading, tableOf}
+use Rattle.rereading.specs.Rereading.{refusedWithOne, pickList, tableRead}
+use Rattle.rereading.proofs.Words.{length-table, more-words}
 use Rattle.room.specs.Room.{taken}
 use Rattle.pieces.specs.declared.PieceRefusal.the-variants.{Message}
 use Rattle.pieces.specs.declared.State.{State}
 use Rattle.pieces.specs.declared.State.the-variants.{More, Accepted, Refused}
-use Rattle.pieces.specs.Pieces.{refusedWithOne, outcome, wanting, through, roomWith}
-use Rattle.pieces.specs.Steps.{pickState, pickList, stillMore, stateOf, tableRead, stateWent, roomWent, tableWent, Went}
-use Rattle.pieces.proofs.Words.{length-table, more-words}
+use Rattle.pieces.specs.Pieces.{outcome, wanting, through, roomWith}
+use Rattle.pieces.specs.Steps.{pickState, stillMore, stateOf, stateWent, roomWent, tableWent, Went}
 use Rattle.cuts.proofs.Outcomes.{View, cut-short, other, view, stays-cut, within, outcome-over, outcome-settled, wanting-within, through-more, through-done}
 use Rattle.cuts.proofs.Holding.{cut, length-cut, room-next, held-next, fits}
 
@@ -149,18 +150,18 @@ zeros-behind k words h =
 read-table :
     (wanted : ℕ) (s T : List ℕ) (words : ℕ) → length T ≡ words → (0 < wanted → T ≡ zeros words) → tableRead wanted s T ≡ tableOf words (reading s words)
 read-table wanted s T words l cleared =
-    rw l (by (ltb 0 wanted) refl (ltb (4 * length s) words) refl (reading s (4 * length s)) (view (reading s (4 * length s))) refl)
+    rw l (by (ltb 0 wanted) refl (ltb (length s) (words / 4)) refl (reading s (4 * length s)) (view (reading s (4 * length s))) refl)
   where
     full : List ℕ
     full = tableOf words (reading s words)
 
     by :
-        (x : Bool) → ltb 0 wanted ≡ x → (y : Bool) → ltb (4 * length s) words ≡ y → (o : Reading) → View o → reading s (4 * length s) ≡ o
+        (x : Bool) → ltb 0 wanted ≡ x → (y : Bool) → ltb (length s) (words / 4) ≡ y → (o : Reading) → View o → reading s (4 * length s) ≡ o
         → pickList (x && y) (pickList (refusedWithOne o) (replicate (4 * length s) 0 ++ drop (4 * length s) T) full) full ≡ full
     by false e y f o v g = refl
     by true e false f o v g = refl
     by true e true f _ (cut-short {q = q}) g =
-        let k : 4 * length s ≤ words = omega (arith, ltb-true (4 * length s) words f) in
+        let k : 4 * length s ≤ words = omega (arith, ltb-true (length s) (words / 4) f) in
         let z : T ≡ zeros words = cleared (ltb-true 0 wanted e) in
         let r : reading s words ≡ refused Ended q = more-words s (4 * length s) words k g refl in
         rw (z, r) (zeros-behind (4 * length s) words k)

@@ -1,2 +1,1 @@
 pub mod Piecing
-pub mod Words

@@ -1,22 +1,22 @@
 -- What each call does, for any state, room and table. Assumes nothing.
 use mathlib.Core.Path.{_≡_}
-use mathlib.Core.Bool.{Bool, true, false, _&&_}
-use mathlib.Core.List.{List, _++_}
-use Prim.Native.Nat.{ℕ, _+_, _-_, _*_}
-use lib.ListN.{length, take, drop, replicate}
+use mathlib.Core.Bool.{Bool, true, false}
+use mathlib.Core.List.{List}
+use Prim.Native.Nat.{ℕ, _+_, _-_}
+use lib.ListN.{length, take, replicate}
 use lib.Dec.{ltb, eqb}
 use Rattle.draft.specs.declared.Refusal.the-variants.{TooLong, Ended}
 use Rattle.draft.specs.Refusals.{numberOf, refusalOf}
 use Rattle.draft.specs.Read.{Reading, got, refused}
-use Rattle.draft.specs.Want.{wantOf}
-use Rattle.reader.specs.declared.Answer.{Answer}
-use Rattle.reader.specs.Answers.{reading, answerOf, tableOf}
+use Rattle.wanting.specs.Want.{wantOf}
+use Rattle.reader.specs.Answers.{reading}
+use Rattle.rereading.specs.Rereading.{pickList, tableRead}
 use Rattle.room.specs.Room.{taken, roomAfter}
 use Rattle.pieces.specs.declared.PieceRefusal.{PieceRefusal}
 use Rattle.pieces.specs.declared.PieceRefusal.the-variants.{Message, ShortRoom}
 use Rattle.pieces.specs.declared.State.{State}
 use Rattle.pieces.specs.declared.State.the-variants.{More, Accepted, Refused}
-use Rattle.pieces.specs.Pieces.{refusedWithOne, Told, more, accepted, refusal}
+use Rattle.pieces.specs.Pieces.{Told, more, accepted, refusal}
 
 -- the papers' number of a refusal
 abbrev pub numberFor : PieceRefusal → ℕ
@@ -41,10 +41,6 @@ abbrev pub pickState : Bool → State → State → State
 pickState true x y = x
 pickState false x y = y
 
-abbrev pub pickList : Bool → List ℕ → List ℕ → List ℕ
-pickList true x y = x
-pickList false x y = y
-
 -- after n bytes more, with `held` held before: more is wanted; or 10, if there is no room for one of them
 abbrev pub stillMore : ℕ → ℕ → ℕ → ℕ → State
 stillMore held n wanted place =
@@ -55,15 +51,6 @@ abbrev pub stateOf : ℕ → ℕ → List ℕ → Reading → State
 stateOf held n s (got rows used book) = Accepted (length rows) used
 stateOf held n s (refused m place) =
     pickState (eqb (numberOf m) 1) (stillMore held n (wantOf s place) place) (Refused (Message m) place)
-
--- the table after the bytes s in the room were read, first with k words of it: refused with 1, the other words are left as they were
-abbrev pub tableTried : ℕ → List ℕ → List ℕ → List ℕ
-tableTried k s T = pickList (refusedWithOne (reading s k)) (replicate k 0 ++ drop k T) (tableOf (length T) (reading s (length T)))
-
--- at first with all words; then with four for each byte, since a row takes a byte at least
-abbrev pub tableRead : ℕ → List ℕ → List ℕ → List ℕ
-tableRead wanted s T =
-    pickList (ltb 0 wanted && ltb (4 * length s) (length T)) (tableTried (4 * length s) s T) (tableOf (length T) (reading s (length T)))
 
 -- the bytes held after a piece
 abbrev pub bytesHeld : ℕ → List ℕ → List ℕ → List ℕ
@@ -93,15 +80,10 @@ tableWent (More held wanted place) p R T =
 tableWent (Accepted rows used) p R T = T
 tableWent (Refused m place) p R T = T
 
--- what reading the bytes s into the first k words of the table did
-pub record PartRead (s : List ℕ) (k : ℕ) (T T′ : List ℕ) (a : Answer) : Type 0 where
-  pub says : a ≡ answerOf (reading s k)
-  pub leaves : T′ ≡ tableOf k (reading s k) ++ drop k T
-
--- what reading the bytes s in the room did, with the table X after it
-pub record Settled (held n : ℕ) (s T X T′ : List ℕ) (state : State) : Type 0 where
+-- what reading the bytes s in the room did
+pub record Settled (held n wanted : ℕ) (s T T′ : List ℕ) (state : State) : Type 0 where
   pub says : state ≡ stateOf held n s (reading s (length T))
-  pub table : T′ ≡ X
+  pub table : T′ ≡ tableRead wanted s T
 
 -- what a call with a piece p did: 4 before all else
 pub record Went (state : State) (p R T R′ T′ : List ℕ) (state′ : State) : Type 0 where

@@ -4,8 +4,7 @@ use reader::Answer;
 ghost use mathlib.Core.Path.{_≡_};
 ghost use Prim.Native.Nat.{_≤_};
 ghost use lib.ListN.{length};
-ghost use Rattle.reader.specs.Answers.{reading, tableOf};
-ghost use Rattle.pieces.specs.Steps.{numberFor, refusalFor, stillMore, tableTried, tableRead, PartRead, Settled, Went, Closed};
+ghost use Rattle.pieces.specs.Steps.{numberFor, refusalFor, stillMore, Settled, Went, Closed};
 ghost use Rattle.pieces.specs.Runs.{begun};
 
 // Why a message in pieces is refused: as a whole message is, or with 4.
@@ -81,12 +80,12 @@ fn still(held: usize, brought: usize, wanted: usize, place: usize) -> State
     }
 }
 
-// Reads the bytes held into the table. Before the last piece and what it brought, the first `held` of them were.
-fn settle(message: &[u8], held: usize, brought: usize, table: &mut [u32]) -> State
+// Reads the bytes held. Before the last piece and what it brought, the first `held` of them were.
+fn settle(message: &[u8], held: usize, brought: usize, wanted: usize, table: &mut [u32]) -> State
     requires { ⌜ (held ≤ 65536) × (length (now message) ≤ 65536) ⌝ }
-    ensures { λ r. ⌜ Settled held brought (now (message .entry)) (now (table .entry)) (tableOf (length (now (table .entry))) (reading (now (message .entry)) (length (now (table .entry))))) (now (table .exit)) r ⌝ }
+    ensures { λ r. ⌜ Settled held brought wanted (now (message .entry)) (now (table .entry)) (now (table .exit)) r ⌝ }
 {
-    let answer = reader::read(message, table);
+    let answer = rereading::read_again(message, wanted, table);
     match answer {
         Answer::Accepted { rows, used } => State::Accepted { rows, used },
         Answer::Refused { refusal, place } => {
@@ -99,46 +98,6 @@ fn settle(message: &[u8], held: usize, brought: usize, table: &mut [u32]) -> Sta
             }
         }
     }
-}
-
-// Reads the bytes held into the first k words of the table.
-fn read_part(message: &[u8], table: &mut [u32], k: usize) -> Answer
-    requires { ⌜ k ≤ length (now table) ⌝ }
-    ensures { λ r. ⌜ PartRead (now (message .entry)) k (now (table .entry)) (now (table .exit)) r ⌝ }
-{
-    reader::read(message, &mut table[0..k])
-}
-
-// The same as settle, tried with the first k words of the table: refused with 1, a message is so with any more of them, and those are left alone.
-fn try_part(message: &[u8], held: usize, brought: usize, table: &mut [u32], k: usize) -> State
-    requires { ⌜ (held ≤ 65536) × (length (now message) ≤ 65536) × (k ≤ length (now table)) ⌝ }
-    ensures { λ r. ⌜ Settled held brought (now (message .entry)) (now (table .entry)) (tableTried k (now (message .entry)) (now (table .entry))) (now (table .exit)) r ⌝ }
-{
-    let answer = read_part(message, table, k);
-    match answer {
-        Answer::Accepted { rows: _, used: _ } => settle(message, held, brought, table),
-        Answer::Refused { refusal, place } => {
-            if draft::number(refusal) == 1 {
-                return still(held, brought, want::wants(message, place), place);
-            }
-            settle(message, held, brought, table)
-        }
-    }
-}
-
-// Reads the bytes held. Once all words were cleared, no more of them are than a message of so many bytes can need.
-fn look(message: &[u8], held: usize, brought: usize, wanted: usize, table: &mut [u32]) -> State
-    requires { ⌜ (held ≤ 65536) × (length (now message) ≤ 65536) ⌝ }
-    ensures { λ r. ⌜ Settled held brought (now (message .entry)) (now (table .entry)) (tableRead wanted (now (message .entry)) (now (table .entry))) (now (table .exit)) r ⌝ }
-{
-    if wanted == 0 {
-        return settle(message, held, brought, table);
-    }
-    let k = 4 * message.len();
-    if table.len() <= k {
-        return settle(message, held, brought, table);
-    }
-    try_part(message, held, brought, table, k)
 }
 
 // A piece where more is wanted.
@@ -163,7 +122,7 @@ fn go_on(
     if n < wanted {
         return still(held, piece.len(), wanted, place);
     }
-    look(&room[0..n], held, piece.len(), wanted, table)
+    settle(&room[0..n], held, piece.len(), wanted, table)
 }
 
 // Takes the next piece. The room and the table are those of the calls before it.
