@@ -2,6 +2,7 @@ pub mod Accepting
 pub mod Cases
 pub mod Jobs
 pub mod Lookups
+pub mod Pieces
 pub mod Reading
 pub mod Settled
 pub mod Writer
