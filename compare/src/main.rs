@@ -1,6 +1,6 @@
 //! Compares the proved library with the second implementation on generated
-//! messages, tables, job files and members: `compare SEED CALLS`. Ends with 1
-//! where they differ.
+//! messages, whole and in pieces, tables, job files and members: `compare SEED
+//! CALLS`. Ends with 1 where they differ.
 
 mod change;
 mod doubles_and_dates;
@@ -11,15 +11,18 @@ mod job;
 mod lent;
 mod library;
 mod lookup;
+mod pieces;
 mod reading;
 #[cfg(feature = "writer")]
 mod shortest;
+mod state;
 mod tally;
 #[cfg(feature = "writer")]
 mod writing;
 
 use job::Jobs;
 use lookup::Lookups;
+use pieces::InPieces;
 use reading::{Compared, Reading};
 use second::generate::Random;
 use std::process::ExitCode;
@@ -59,14 +62,18 @@ fn compare(run: &mut Run) -> Compared {
     let mut reading = Reading::new();
     let mut jobs = Jobs::new();
     let mut lookups = Lookups::new();
+    let mut pieces = InPieces::new();
     doubles_and_dates::read(&mut run.random, &mut reading)?;
     lookups.decimals(&mut run.random)?;
     reading.papers(run)?;
     reading.edges(run)?;
     jobs.edges(run)?;
+    pieces.papers(run)?;
+    pieces.limit(run)?;
     while !run.tally.is_over() {
         reading.round(run)?;
         lookups.round(run)?;
+        pieces.round(run)?;
         if run.random.one_in(4) {
             jobs.round(run)?;
         }
@@ -80,6 +87,7 @@ fn compare(run: &mut Run) -> Compared {
     let mut writing = writing::Writing::new();
     let mut jobs = Jobs::new();
     let mut lookups = Lookups::new();
+    let mut pieces = InPieces::new();
     shortest::tried(&mut run.random)?;
     doubles_and_dates::read(&mut run.random, &mut reading)?;
     doubles_and_dates::written(&mut run.random, &mut writing)?;
@@ -87,9 +95,12 @@ fn compare(run: &mut Run) -> Compared {
     reading.papers(run)?;
     reading.edges(run)?;
     jobs.edges(run)?;
+    pieces.papers(run)?;
+    pieces.limit(run)?;
     while !run.tally.is_over() {
         reading.round(run)?;
         lookups.round(run)?;
+        pieces.round(run)?;
         writing.round(run)?;
         if run.random.one_in(4) {
             jobs.round(run)?;
