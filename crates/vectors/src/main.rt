@@ -1,5 +1,7 @@
 // Reads the messages of document 01, the examples and counter-examples of the draft (document 002), and faults, Doubles and dates by
 // document 02's rules, and lists each.
+ghost use Prim.Native.Nat.{_≤_, _<_};
+ghost use lib.ListN.{length};
 
 fn run(name: &[u8], message: &[u8], table: &mut [u32]) {
     let mut space = [0u8; 430158];
@@ -154,20 +156,47 @@ fn run_other_faults(table: &mut [u32]) {
     );
 }
 
-// Responses with an item each: of some items one after the other, each with a tag, a size and a text. A text stands for its name.
-fn run_items(name: &[u8], items: &[u8], message: &mut [u8], table: &mut [u32]) {
+// A Response with an item of a tag, a size and a text. The text stands in its name.
+fn run_item(name: &[u8], item: &[u8], message: &mut [u8], table: &mut [u32]) {
     let start = spelling::put_text(message, 0, b"binmode-rpc:R");
+    let end = spelling::put_text(message, start, item);
+    console::write(name);
+    run(
+        content::part(item, 2, item.len()),
+        content::part(message, 0, end),
+        table,
+    );
+}
+
+fn wide(b: u8) -> usize
+    ensures { λ r. ⌜ r < 256 ⌝ }
+{
+    b as usize
+}
+
+// Where such an item ends.
+fn item_end(items: &[u8], at: usize) -> usize
+    requires { ⌜ at < length (now items) ⌝ }
+    ensures { λ r. ⌜ (at < r) × (r ≤ length (now (items .entry))) ⌝ }
+{
+    let left = items.len() - at;
+    if left < 2 {
+        return items.len();
+    }
+    let size = wide(items[at + 1]);
+    if left - 2 < size {
+        return items.len();
+    }
+    at + 2 + size
+}
+
+// Items one after the other, in a Response each.
+fn run_items(name: &[u8], items: &[u8], message: &mut [u8], table: &mut [u32]) {
     let mut at = 0;
-    while at + 1 < items.len() {
-        let size = items[at + 1] as usize;
-        let end = spelling::put_text(message, start, content::part(items, at, size + 2));
-        console::write(name);
-        run(
-            content::part(items, at + 2, size),
-            content::part(message, 0, end),
-            table,
-        );
-        at += size + 2;
+    while at < items.len() {
+        let end = item_end(items, at);
+        run_item(name, content::part(items, at, end - at), message, table);
+        at = end;
     }
 }
 
