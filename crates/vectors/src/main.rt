@@ -252,15 +252,20 @@ fn run_dates(message: &mut [u8], table: &mut [u32]) {
     );
 }
 
+// Document 02's rules for faults, Doubles and dates.
+fn run_rules(message: &mut [u8], table: &mut [u32]) {
+    run_faults(table);
+    run_other_faults(table);
+    run_doubles(message, table);
+    run_dates(message, table);
+}
+
 fn run_all(message: &mut [u8], table: &mut [u32], small: &mut [u32]) {
     run_examples(table);
     run_mixed_arrays(table);
     run_counter_examples(table);
     run_others(message, table);
-    run_faults(table);
-    run_other_faults(table);
-    run_doubles(message, table);
-    run_dates(message, table);
+    run_rules(message, table);
     run(
         b"01: that count and a t, into 8 words (P11)",
         b"binmode-rpc:RA\xff\xff\xff\xfft",
