@@ -1,11 +1,13 @@
 -- What answers the returns of the functions that look at a date's digits and at what stands between them. Assumes nothing.
-use mathlib.Core.Path.{_≡_, refl}
+use mathlib.Core.Path.{_≡_, refl, sym}
 use mathlib.Core.Bool.{Bool, true, false, _&&_}
 use mathlib.Core.List.{List}
 use Prim.Native.Nat.{ℕ, _+_, _-_, _*_, _<_}
 use lib.ListN.{length, getD}
 use lib.Dec.{leb, eqb}
-use borrow.Author.Tests.{eq-eqb, ne-eqb}
+use native.Mathlib.Omega.{arith}
+use borrow.Author.Tests.{leb-true, le-leb, eq-eqb, ne-eqb}
+use Rattle.text.proofs.Comparing.{both}
 use Rattle.lexical.specs.Digits.{digit, pair, two}
 use Rattle.lexical.specs.DateTime.{isDay, isDate, pairTo, isTime, parted, isDateTime}
 
@@ -18,18 +20,56 @@ module _ (s : List ℕ) (at : ℕ) where
   unfolding two
   two-is e f = rw (e .0, f .0)
 
-  pub pair-to-is : {a : Bool} {n : ℕ} (most : ℕ) → a ≡ pair s at → (n ≡ two s at) × (n < 2816) → (a && leb n most) ≡ pairTo s at most
+  pub pair-to-is : {a : Bool} {n : ℕ} (most : ℕ) → a ≡ pair s at → a ≡ true → (n ≡ two s at) × (n < 2816) → leb n most ≡ pairTo s at most
   unfolding pairTo
-  pair-to-is most e f = rw (e, f .0)
+  pair-to-is most e t f = rw (← e, t, f .0)
+
+  pub no-pair : {a : Bool} (most : ℕ) → a ≡ pair s at → a ≡ false → false ≡ pairTo s at most
+  unfolding pairTo
+  no-pair most e t = rw (← e, t)
+
+-- two tests that pass together
+together : (x y : Bool) → (x ≡ true → y ≡ true) → (y ≡ true → x ≡ true) → x ≡ y
+together true y f g = sym (f refl)
+together false true f g = g refl
+together false false f g = refl
+
+-- digits write at most 59 if the first is at most 5
+pub tens : (s : List ℕ) (at : ℕ) {d : Bool} → d ≡ digit (getD s (at + 1) 0) → (leb 48 (getD s at 0) && leb (getD s at 0) 53 && d) ≡ pairTo s at 59
+unfolding pairTo pair digit two
+tens s at e = rw e (together _ _ (up (getD s at 0) (getD s (at + 1) 0)) (down (getD s at 0) (getD s (at + 1) 0)))
+  where
+    up : (a b : ℕ) → (leb 48 a && leb a 53 && (leb 48 b && leb b 57)) ≡ true → (((leb 48 a && leb a 57) && (leb 48 b && leb b 57)) && leb (10 * (a - 48) + (b - 48)) 59) ≡ true
+    up a b e =
+        let h = both (leb 48 a && leb a 53) (leb 48 b && leb b 57) e in
+        let k = both (leb 48 a) (leb a 53) (h .0) in
+        let l = both (leb 48 b) (leb b 57) (h .1) in
+        let least = leb-true 48 a (k .0) in
+        let most = leb-true a 53 (k .1) in
+        let second = leb-true b 57 (l .1) in
+        rw (k .0, le-leb a 57 (omega arith), l .0, l .1, le-leb (10 * (a - 48) + (b - 48)) 59 (omega arith))
+
+    down : (a b : ℕ) → (((leb 48 a && leb a 57) && (leb 48 b && leb b 57)) && leb (10 * (a - 48) + (b - 48)) 59) ≡ true → (leb 48 a && leb a 53 && (leb 48 b && leb b 57)) ≡ true
+    down a b e =
+        let h = both ((leb 48 a && leb a 57) && (leb 48 b && leb b 57)) (leb (10 * (a - 48) + (b - 48)) 59) e in
+        let g = both (leb 48 a && leb a 57) (leb 48 b && leb b 57) (h .0) in
+        let k = both (leb 48 a) (leb a 57) (g .0) in
+        let sum = leb-true (10 * (a - 48) + (b - 48)) 59 (h .1) in
+        rw (k .0, le-leb a 53 (omega arith)) (g .1)
 
 module _ (s : List ℕ) where
   pub parted-is : (eqb (getD s 8 0) 84 && eqb (getD s 11 0) 58 && eqb (getD s 14 0) 58) ≡ parted s
   unfolding parted
   parted-is = refl
 
-  pub time-is : {a b c : Bool} → a ≡ pairTo s 9 23 → b ≡ pairTo s 12 59 → c ≡ pairTo s 15 59 → (a && b && c) ≡ isTime s
-  unfolding isTime
-  time-is e f g = rw (e, f, g)
+  module _ {a : Bool} (e : a ≡ pairTo s 9 23) where
+    pub no-hour : a ≡ false → false ≡ isTime s
+    unfolding isTime
+    no-hour i = rw (← e, i)
+
+    pub time-is : {b c : Bool} → a ≡ true → b ≡ pairTo s 12 59 → c ≡ pairTo s 15 59 → (b && c) ≡ isTime s
+    unfolding isTime
+    time-is i f g = rw (← e, i, f, g)
 
   module _ {a b c d : Bool} (e : a ≡ pair s 0) (f : b ≡ pair s 2) (g : c ≡ pair s 4) (h : d ≡ pair s 6) where
     pub no-digits : (a && b && c && d) ≡ false → false ≡ isDate s
@@ -53,4 +93,4 @@ module _ (s : List ℕ) where
     unfolding isDateTime
     datetime-is i g = rw (eq-eqb _ _ l, ← e, ← f, i, g)
 
-pub ruleset shaping = (pair-is, two-is, pair-to-is, parted-is, time-is, no-digits, date-is, other-length, no-time, datetime-is)
+pub ruleset shaping = (pair-is, two-is, pair-to-is, no-pair, tens, parted-is, no-hour, time-is, no-digits, date-is, other-length, no-time, datetime-is)

@@ -74,7 +74,18 @@ fn is_pair_to(s: &[u8], at: usize, most: usize) -> bool
     requires { ⌜ at + 1 < length (now s) ⌝ }
     ensures { λ r. ⌜ r ≡ pairTo (now (s .entry)) at most ⌝ }
 {
-    is_pair(s, at) & (two_digits(s, at) <= most)
+    if is_pair(s, at) {
+        return two_digits(s, at) <= most;
+    }
+    false
+}
+
+// Whether they are a minute or a second, digits that write at most 59: the first of them says it.
+fn is_sixtieth(s: &[u8], at: usize) -> bool
+    requires { ⌜ at + 1 < length (now s) ⌝ }
+    ensures { λ r. ⌜ r ≡ pairTo (now (s .entry)) at 59 ⌝ }
+{
+    (b'0' <= s[at]) & (s[at] <= b'5') & is_digit(s[at + 1])
 }
 
 // Whether 17 bytes have a `T` and each `:` in their places.
@@ -90,7 +101,10 @@ fn is_time(s: &[u8]) -> bool
     requires { ⌜ length (now s) ≡ 17 ⌝ }
     ensures { λ r. ⌜ r ≡ isTime (now (s .entry)) ⌝ }
 {
-    is_pair_to(s, 9, 23) & is_pair_to(s, 12, 59) & is_pair_to(s, 15, 59)
+    if is_pair_to(s, 9, 23) {
+        return is_sixtieth(s, 12) & is_sixtieth(s, 15);
+    }
+    false
 }
 
 // Whether 17 bytes have the date of a day that there is.
