@@ -1,7 +1,7 @@
 /*
- * Reading and writing Binmode RPC messages, and reading the cards of job files: the functions that libinterface.a exports (x86-64, C's calling convention).
+ * Reading and writing Binmode RPC messages, whole or in pieces, and reading the cards of job files: the functions that libinterface.a exports (x86-64, C's calling convention).
  *
- * No memory is allocated, nothing is kept from call to call, and of the C library only memset and its like are used,
+ * No memory is allocated, nothing is kept from call to call but what the caller hands on, and of the C library only memset and its like are used,
  * so calls may run at the same time as long as each has its own buffers.
  *
  * What the caller owes, since no function can test it:
@@ -25,11 +25,12 @@
 extern "C" {
 #endif
 
-/* The answers: 0, or the number of a refusal. 4 and those not named are not used. */
+/* The answers: 0, or the number of a refusal; for a message in pieces also BINMODE_MORE_WANTED. Those not named are not used. */
 #define BINMODE_ACCEPTED 0
 #define BINMODE_ENDED 1             /* read: the bytes end inside or before a needed item */
 #define BINMODE_WRONG_PREFIX 2      /* read: the first bytes differ from "binmode-rpc:" */
 #define BINMODE_UNEXPECTED_BYTE 3   /* read: a byte that begins nothing allowed there */
+#define BINMODE_SHORT_ROOM 4        /* pieces: the room is shorter than 65,536 bytes */
 #define BINMODE_BAD_TEXT 5          /* read: bad UTF-8, or a byte of 128 or more in a Double or DateTime */
 #define BINMODE_UNSET_POSITION 6    /* read: recall of a position never set in this message */
 #define BINMODE_STANDARD_NAME 7     /* read: an Other with a standard name */
@@ -44,6 +45,7 @@ extern "C" {
 #define BINMODE_WRONG_END 16        /* job file: a kind 2 body of wrong length or number */
 #define BINMODE_BAD_VALUE 17        /* read: a Double or DateTime in ASCII that is no such text, as "5." or 30 February */
 #define BINMODE_NO_CARD 26          /* job file: a sound job ends before the card asked for */
+#define BINMODE_MORE_WANTED 255     /* pieces: no answer yet */
 
 /* The limits. */
 #define BINMODE_MOST_BYTES 65536 /* of a message, and of a writer's text bytes */
@@ -148,6 +150,64 @@ uint8_t binmode_read_card(const uint8_t *file, size_t file_len, size_t number, u
  */
 uint8_t binmode_next_card(const uint8_t *file, size_t file_len, size_t number, size_t from, uint64_t *start,
                           uint64_t *length, uint64_t *place);
+
+/*
+ * Messages in pieces, as a serial port or a pipe brings them. The pieces are held in a room that the caller lends, and after
+ * each the answer is BINMODE_MORE_WANTED, BINMODE_ACCEPTED or the number of a refusal, as soon as it is settled:
+ *
+ *     struct binmode_pieces state;
+ *     binmode_pieces_start(&state);
+ *     while (state.answer == BINMODE_MORE_WANTED && (a piece comes))
+ *         binmode_pieces_next(&state, piece, piece_len, room, room_len, table, table_words);
+ *     binmode_pieces_end(&state, room, room_len, table, table_words);
+ *
+ * The caller hands back the state as it was last given, with one room and one table that are left alone in between. Then the
+ * answer and the table are those of binmode_read on all the bytes at once, however they are cut, if they are at most 65,536.
+ *
+ * The state of a message in pieces: the answer so far, with its numbers.
+ */
+struct binmode_pieces {
+    uint64_t answer; /* BINMODE_MORE_WANTED, BINMODE_ACCEPTED or the number of a refusal */
+    uint64_t rows;   /* the number of rows; 0 unless accepted */
+    uint64_t used;   /* the number of bytes used; 0 unless accepted */
+    uint64_t place;  /* the place of a refusal; where more is wanted, the place that BINMODE_ENDED would have if it ended here */
+    uint64_t held;   /* where more is wanted, how many bytes are held in the room; else 0 */
+    uint64_t wanted; /* where more is wanted, how many bytes have to be held before another answer is possible; else 0 */
+};
+
+/* Sets the state for a message of which nothing has come: more is wanted. */
+void binmode_pieces_start(struct binmode_pieces *state);
+
+/*
+ * Takes the next piece.
+ *
+ *   state                 as the last call left it; it is set to what stands after this piece
+ *   piece, piece_len      the bytes of the piece; there may be none
+ *   room, room_len        where the bytes are held, of at least 65,536 bytes. It begins with the bytes of the pieces up to the
+ *                         one that decides, cut at 65,536; no other byte of it is ever changed. Offsets in rows count from its
+ *                         first byte
+ *   table, table_words    the table, as for binmode_read. While more is wanted it is zeros
+ *
+ * Gives state->answer. Once it is not BINMODE_MORE_WANTED, later pieces change nothing. Refusals are those of binmode_read on the bytes
+ * so far, but for:
+ *   BINMODE_ENDED         is not given: it says that more is wanted
+ *   BINMODE_TOO_LONG      only if the first 65,536 bytes have no answer and another byte comes. A message that is accepted
+ *                         or refused within them stays so, however far its last piece goes on
+ *   BINMODE_SHORT_ROOM    before all else, whatever the state: the room is shorter than 65,536. The room is unchanged, the table zeros,
+ *                         the place 0
+ * Nothing is read again until state->wanted bytes are held. A state that no call gave, or a room or table that was changed in
+ * between, has an answer too, but it says nothing of any message.
+ */
+uint8_t binmode_pieces_next(struct binmode_pieces *state, const uint8_t *piece, size_t piece_len, uint8_t *room,
+                            size_t room_len, uint32_t *table, size_t table_words);
+
+/*
+ * Says that no more pieces come. Where more is wanted the answer becomes BINMODE_ENDED, at its place, and the table is zeros; any
+ * other answer stays, and so does the table. BINMODE_SHORT_ROOM comes before all else here too. The room's bytes are not looked at.
+ * Gives state->answer.
+ */
+uint8_t binmode_pieces_end(struct binmode_pieces *state, const uint8_t *room, size_t room_len, uint32_t *table,
+                           size_t table_words);
 
 #ifdef __cplusplus
 }

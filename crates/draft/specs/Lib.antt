@@ -10,3 +10,4 @@ pub mod Meaning
 pub mod Writable
 pub mod Strings
 pub mod Written
+pub mod Want

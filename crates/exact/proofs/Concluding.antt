@@ -24,26 +24,26 @@ use Rattle.exact.proofs.Deriving.{refused-got, Derived}
 use Rattle.exact.proofs.Growing.{little-nesting, little-room, few-bytes, OfReading, Stays, accepts, refuses, changes, no-longer, message-stays}
 
 -- what stays when there is more
-stays-got : {more : Bool} {o o′ : Reading} → Stays more o o′ → {rows : List Row} {to : ℕ} {book : Book} → o ≡ got rows to book → o′ ≡ got rows to book
+stays-got : {more : Bool} {s s′ : List ℕ} {o o′ : Reading} → Stays more true s s′ o o′ → {rows : List Row} {to : ℕ} {book : Book} → o ≡ got rows to book → o′ ≡ got rows to book
 stays-got accepts e = e
 stays-got (refuses h) e = refused-got e
 stays-got (changes h) e = refused-got e
 
 pub stays-but :
-    {more : Bool} {o o′ : Reading} → Stays more o o′ → (more ≡ true → (p : ℕ) → o ≢ refused Ended p) → ((p : ℕ) → o ≢ refused TooDeep p)
+    {more : Bool} {s s′ : List ℕ} {o o′ : Reading} → Stays more true s s′ o o′ → (more ≡ true → (p : ℕ) → o ≢ refused Ended p) → ((p : ℕ) → o ≢ refused TooDeep p)
     → ((p : ℕ) → o ≢ refused NoRow p) → o′ ≡ o
 stays-but accepts e f g = refl
 stays-but (refuses h) e f g = refl
-stays-but (changes {at = p} little-nesting) e f g = absurd (f p refl)
-stays-but (changes {at = p} little-room) e f g = absurd (g p refl)
-stays-but (changes {at = p} (few-bytes h)) e f g = absurd (e h p refl)
+stays-but (changes {at = p} (little-nesting i)) e f g = absurd (f p refl)
+stays-but (changes {at = p} (little-room i)) e f g = absurd (g p refl)
+stays-but (changes {at = p} (few-bytes h w)) e f g = absurd (e h p refl)
 
-says : {o o′ : Reading} → Stays false o o′ → {m : Refusal} {p : ℕ} → o ≡ refused m p → OfReading m
+says : {s s′ : List ℕ} {o o′ : Reading} → Stays false true s s′ o o′ → {m : Refusal} {p : ℕ} → o ≡ refused m p → OfReading m
 says accepts e = refused-got (sym e)
 says (refuses {m = n} h) {m} e = let i : n ≡ m = cc in rw i at h
-says (changes little-nesting) {m} e = let i : TooDeep ≡ m = cc in rw (← i) tt
-says (changes little-room) {m} e = let i : NoRow ≡ m = cc in rw (← i) tt
-says (changes (few-bytes h)) e = clash h refl
+says (changes (little-nesting h)) {m} e = let i : TooDeep ≡ m = cc in rw (← i) tt
+says (changes (little-room h)) {m} e = let i : NoRow ≡ m = cc in rw (← i) tt
+says (changes (few-bytes h w)) e = clash h refl
 
 module _ (s : List ℕ) where
   -- no test of the number of bytes, no 10

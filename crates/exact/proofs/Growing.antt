@@ -9,7 +9,7 @@ use native.Mathlib.Omega.{arith}
 use lib.Dec.{eqb, ltb, leb}
 use lib.ListN.{length, drop, length-append, length-drop, List·getD-append}
 use lib.Seq.{take-append-le, drop-append-le}
-use borrow.Author.Tests.{ltb-true, ltb-false, leb-true, leb-false, lt-ltb, le-leb}
+use borrow.Author.Tests.{ltb-true, ltb-false, leb-true, leb-false, lt-ltb, le-leb, eqb-true}
 use Rattle.text.specs.Utf8.{wellFormed}
 use Rattle.text.proofs.Comparing.{clash}
 use Rattle.text.specs.Texts.{ascii, standardName}
@@ -30,9 +30,11 @@ use Rattle.draft.specs.declared.Form.{Form}
 use Rattle.draft.specs.declared.Form.the-variants.{Regular, Recorded, Recalled}
 use Rattle.draft.specs.declared.Entry.{Entry}
 use Rattle.draft.specs.declared.Entry.the-variants.{Unset, Text}
-use Rattle.draft.specs.Bytes.{byteAt, unsignedAt, part}
+use Rattle.draft.specs.Bytes.{bytes, byteAt, unsignedAt, part}
 use Rattle.draft.specs.Rows.{below}
 use Rattle.draft.specs.Content.{contentRule, fineIf, asciiThen, badIf, allThere, verdict, nameRule, Held, isFault, faultRule}
+use Rattle.draft.specs.Want.{fieldsOf, announced, wantOf}
+use Rattle.draft.proofs.Wanting.{want-none, want-fields, want-content}
 use Rattle.draft.specs.Codebook.{Book, clear, recorded as record-text}
 use Rattle.draft.specs.Grammar.{Payload, Cell, Sent, Recording, after, Pair}
 use Rattle.draft.specs.Meaning.{Realises, no-more, and-then, means, Says, says-holding, says-number, says-contents}
@@ -42,11 +44,11 @@ use Rattle.exact.proofs.Realising.{held-below}
 use Rattle.exact.proofs.Completing.{value-is}
 use Rattle.exact.proofs.Deriving.{Production, Sound, OneString, one-string, pair-join, string-sound, only-sound, name-sound, value-sound, struct-sound, pair-sound}
 
--- what says that there is too little; bytes only if there may be more of them
-pub data TooLittle (more : Bool) : Refusal → Type 0 where
-  little-nesting : TooLittle more TooDeep
-  little-room : TooLittle more NoRow
-  few-bytes : more ≡ true → TooLittle more Ended
+-- what says that there is too little; bytes only if there may be more of them, and are as many as are wanted
+pub data TooLittle (more limits : Bool) (s s′ : List ℕ) : Refusal → ℕ → Type 0 where
+  little-nesting : {at : ℕ} → limits ≡ true → TooLittle more limits s s′ TooDeep at
+  little-room : {at : ℕ} → limits ≡ true → TooLittle more limits s s′ NoRow at
+  few-bytes : {at : ℕ} → more ≡ true → wantOf s at ≤ length s′ → TooLittle more limits s s′ Ended at
 
 -- what reading a message says, without the test of the number of bytes
 abbrev pub OfReading : Refusal → Type 0
@@ -66,10 +68,10 @@ OfReading BadFault = Unit {0}
 OfReading BadValue = Unit {0}
 
 -- an answer, and the answer when there is more: acceptance stays, and so does a refusal that does not say that there is too little
-pub data Stays (more : Bool) : Reading → Reading → Type 0 where
-  accepts : {rows : List Row} {to : ℕ} {book : Book} → Stays more (got rows to book) (got rows to book)
-  refuses : {m : Refusal} {at : ℕ} → OfReading m → Stays more (refused m at) (refused m at)
-  changes : {m : Refusal} {at : ℕ} {o : Reading} → TooLittle more m → Stays more (refused m at) o
+pub data Stays (more limits : Bool) (s s′ : List ℕ) : Reading → Reading → Type 0 where
+  accepts : {rows : List Row} {to : ℕ} {book : Book} → Stays more limits s s′ (got rows to book) (got rows to book)
+  refuses : {m : Refusal} {at : ℕ} → OfReading m → Stays more limits s s′ (refused m at) (refused m at)
+  changes : {m : Refusal} {at : ℕ} {o : Reading} → TooLittle more limits s s′ m at → Stays more limits s s′ (refused m at) o
 
 -- the same bytes, with more behind them if there may be more
 pub record Longer (more : Bool) (s s′ : List ℕ) : Type 0 where
@@ -93,43 +95,54 @@ module _ {more : Bool} {s s′ : List ℕ} (l : Longer more s s′) where
   same-part : (o n : ℕ) → o + n ≤ length s → part s′ o n ≡ part s o n
   same-part o n h = rw (l .is, drop-append-le o s (l .rest) (omega arith)) (take-append-le n (drop o s) (l .rest) (omega (arith, length-drop o s)))
 
+  same-short : length s′ ≤ length s → s′ ≡ s
+  same-short h = l .is ∙ rw (none (l .rest) (omega (arith, ap length (l .is) ∙ length-append s (l .rest)))) (append-nil s)
+    where
+      none : (ys : List ℕ) → length ys ≤ 0 → ys ≡ []
+      none [] k = refl
+      none (y ∷ ys) k = absurd (omega arith)
+
   same-all : more ≡ false → s′ ≡ s
   same-all e = l .is ∙ rw (l .none e) (append-nil s)
 
-  cut : (n : ℕ) → length s < n → n ≤ length s′ → TooLittle more Ended
-  cut n h k = go more refl
+  cut : (limits : Bool) (n at : ℕ) → wantOf s at ≤ n → length s < n → n ≤ length s′ → TooLittle more limits s s′ Ended at
+  cut limits n at w h k = go more refl
     where
-      go : (m : Bool) → more ≡ m → TooLittle more Ended
-      go true e = few-bytes e
+      go : (m : Bool) → more ≡ m → TooLittle more limits s s′ Ended at
+      go true e = few-bytes {at = at} e (omega arith)
       go false e = absurd (omega (arith, ap length (same-all e)))
 
-module _ {more : Bool} where
+module _ {more limits : Bool} {s s′ : List ℕ} where
   then-stays :
-      {o o′ : Reading} {k k′ : List Row → ℕ → Book → Reading} → Stays more o o′
-      → ((rows : List Row) (at : ℕ) (book : Book) → o ≡ got rows at book → Stays more (k rows at book) (k′ rows at book))
-      → Stays more (then o k) (then o′ k′)
+      {o o′ : Reading} {k k′ : List Row → ℕ → Book → Reading} → Stays more limits s s′ o o′
+      → ((rows : List Row) (at : ℕ) (book : Book) → o ≡ got rows at book → Stays more limits s s′ (k rows at book) (k′ rows at book))
+      → Stays more limits s s′ (then o k) (then o′ k′)
   then-stays (accepts {rows} {to} {book}) h = h rows to book refl
   then-stays (refuses e) h = refuses e
   then-stays (changes e) h = changes e
 
-  behind-stays : (rows : List Row) {o o′ : Reading} → Stays more o o′ → Stays more (behind rows o) (behind rows o′)
+  behind-stays : (rows : List Row) {o o′ : Reading} → Stays more limits s s′ o o′ → Stays more limits s s′ (behind rows o) (behind rows o′)
   behind-stays rows accepts = accepts
   behind-stays rows (refuses e) = refuses e
   behind-stays rows (changes e) = changes e
 
-  over-stays : (kind b r : ℕ) {o o′ : Reading} → Stays more o o′ → Stays more (over kind b r o) (over kind b r o′)
+  over-stays : (kind b r : ℕ) {o o′ : Reading} → Stays more limits s s′ o o′ → Stays more limits s s′ (over kind b r o) (over kind b r o′)
   over-stays kind b r accepts = accepts
   over-stays kind b r (refuses e) = refuses e
   over-stays kind b r (changes e) = changes e
 
-  pick-stays : (b : Bool) {o o′ u u′ : Reading} → Stays more o o′ → Stays more u u′ → Stays more (pick b o u) (pick b o′ u′)
+  pick-stays : (b : Bool) {o o′ u u′ : Reading} → Stays more limits s s′ o o′ → Stays more limits s s′ u u′ → Stays more limits s s′ (pick b o u) (pick b o′ u′)
   pick-stays true h k = h
   pick-stays false h k = k
 
+  pick-stays-if : (b : Bool) {o o′ u u′ : Reading} → (b ≡ true → Stays more limits s s′ o o′) → Stays more limits s s′ u u′ → Stays more limits s s′ (pick b o u) (pick b o′ u′)
+  pick-stays-if true h k = h refl
+  pick-stays-if false h k = k
+
   -- a test of the bytes' number
   enough-stays :
-      (at : ℕ) (b b′ : Bool) {o o′ : Reading} → (b ≡ true → (b′ ≡ true) × Stays more o o′) → (b ≡ false → b′ ≡ true → TooLittle more Ended)
-      → Stays more (pick b o (refused Ended at)) (pick b′ o′ (refused Ended at))
+      (at : ℕ) (b b′ : Bool) {o o′ : Reading} → (b ≡ true → (b′ ≡ true) × Stays more limits s s′ o o′) → (b ≡ false → b′ ≡ true → TooLittle more limits s s′ Ended at)
+      → Stays more limits s s′ (pick b o (refused Ended at)) (pick b′ o′ (refused Ended at))
   enough-stays at true true h k = h refl .1
   enough-stays at true false h k = clash (h refl .0) refl
   enough-stays at false true h k = changes (k refl refl)
@@ -164,8 +177,8 @@ unfolding faultRule
 fault-of items e = fine-of (isFault items) BadFault tt e
 
 judged-stays :
-    {more : Bool} (v : Verdict) (at : ℕ) (rows : List Row) (to : ℕ) (book : Book) → ((m : Refusal) → v ≡ Bad m → OfReading m)
-    → Stays more (judged v at (got rows to book)) (judged v at (got rows to book))
+    {more limits : Bool} {s s′ : List ℕ} (v : Verdict) (at : ℕ) (rows : List Row) (to : ℕ) (book : Book) → ((m : Refusal) → v ≡ Bad m → OfReading m)
+    → Stays more limits s s′ (judged v at (got rows to book)) (judged v at (got rows to book))
 judged-stays Fine at rows to book h = accepts
 judged-stays (Bad m) at rows to book h = refuses (h m refl)
 
@@ -196,83 +209,157 @@ agree-on (x ∷ s) ys (y ∷ p) e h = go (eqb x y) e (λ i. agree-on s ys p i (o
     go true e h = h e
     go false e h = e
 
+tag-b : tagOf (code "b") ≡ tag.Unknown
+unfolding tagOf
+tag-b = refl
+
+-- no more than one byte is wanted in the prefix
+want-prefix : (s : List ℕ) → agree s prefix ≡ true → wantOf s 0 ≤ length s + 1
+unfolding agree
+want-prefix [] e = omega (arith, want-none [] 0 (omega arith))
+want-prefix (x ∷ s) e = by (eqb x (code "b")) refl e
+  where
+    by : (b : Bool) → eqb x (code "b") ≡ b → b && agree s (bytes "inmode-rpc:") ≡ true → wantOf (x ∷ s) 0 ≤ length (x ∷ s) + 1
+    by true f g = omega (arith, want-content (x ∷ s) 0 tag.Unknown (ap tagOf (eqb-true x (code "b") f) ∙ tag-b) (omega arith) (omega arith))
+    by false f g = clash g refl
+
+tag-binary : tagOf (code "B") ≡ tag.Plain plain.Binary
+unfolding tagOf
+tag-binary = refl
+
+tag-array : tagOf (code "A") ≡ tag.Array
+unfolding tagOf
+tag-array = refl
+
+tag-struct : tagOf (code "S") ≡ tag.Struct
+unfolding tagOf
+tag-struct = refl
+
 -- a message's bytes and room, and those when there is more
-module _ {more : Bool} (s s′ : List ℕ) (room room′ : ℕ) (l : Longer more s s′) (k : room ≤ room′) where
-  present-stays : (at : ℕ) {o o′ : Reading} → (at < length s → Stays more o o′) → Stays more (present s room at o) (present s′ room′ at o′)
+module _ {more : Bool} (limits : Bool) (s s′ : List ℕ) (room room′ : ℕ) (l : Longer more s s′) (k : room ≤ room′) (k′ : limits ≡ false → room′ ≤ room) where
+  -- what makes a difference in the limits
+  roomier : (r : ℕ) → room ≤ r → r < room′ → limits ≡ true
+  roomier r h j = by limits refl
+    where
+      by : (b : Bool) → limits ≡ b → limits ≡ true
+      by true e = e
+      by false e = let i = k′ e in absurd (omega arith)
+
+  deeper : (d : ℕ) → (limits ≡ false → suc d ≤ 0) → limits ≡ true
+  deeper d h = by limits refl
+    where
+      by : (b : Bool) → limits ≡ b → limits ≡ true
+      by true e = e
+      by false e = let i = h e in absurd (omega arith)
+
+  present-stays : (at : ℕ) {o o′ : Reading} → (at < length s → Stays more limits s s′ o o′) → Stays more limits s s′ (present s room at o) (present s′ room′ at o′)
   present-stays at h =
       enough-stays at (ltb at (length s)) (ltb at (length s′))
       (λ e. let i = ltb-true at (length s) e in (lt-ltb at (length s′) (omega (arith, least l)), h i))
-      (λ e f. cut l (suc at) (omega (arith, ltb-false at (length s) e)) (ltb-true at (length s′) f))
+      (λ e f. cut l limits (suc at) at (omega (arith, want-none s at (ltb-false at (length s) e), ltb-false at (length s) e)) (omega (arith, ltb-false at (length s) e)) (ltb-true at (length s′) f))
 
   there-stays :
-      (n at : ℕ) {o o′ : Reading} → (n ≤ length s → Stays more o o′)
-      → Stays more (pick (leb n (length s)) o (refused Ended at)) (pick (leb n (length s′)) o′ (refused Ended at))
-  there-stays n at h =
+      (n at : ℕ) {o o′ : Reading} → (length s < n → wantOf s at ≤ n) → (n ≤ length s → Stays more limits s s′ o o′)
+      → Stays more limits s s′ (pick (leb n (length s)) o (refused Ended at)) (pick (leb n (length s′)) o′ (refused Ended at))
+  there-stays n at w h =
       enough-stays at (leb n (length s)) (leb n (length s′))
       (λ e. let i = leb-true n (length s) e in (le-leb n (length s′) (omega (arith, least l)), h i))
-      (λ e f. cut l n (leb-false n (length s) e) (leb-true n (length s′) f))
+      (λ e f. cut l limits n at (w (leb-false n (length s) e)) (leb-false n (length s) e) (leb-true n (length s′) f))
 
   opened-stays :
-      (size at r : ℕ) {o o′ : Reading} → (at + size ≤ length s → Stays more o o′)
-      → Stays more (opened s room size at r o) (opened s′ room′ size at r o′)
-  opened-stays size at r {o} {o′} h = go (ltb r room) refl
+      (size at r : ℕ) {o o′ : Reading} → (length s < at + size → wantOf s at ≤ at + size) → (at + size ≤ length s → Stays more limits s s′ o o′)
+      → Stays more limits s s′ (opened s room size at r o) (opened s′ room′ size at r o′)
+  opened-stays size at r {o} {o′} w h = go (ltb r room) refl
     where
       go :
           (b : Bool) → ltb r room ≡ b
-          → Stays more (pick b (pick (leb (at + size) (length s)) o (refused Ended at)) (refused NoRow at)) (opened s′ room′ size at r o′)
-      go true e = rw (lt-ltb r room′ (omega (arith, ltb-true r room e))) (there-stays (at + size) at h)
-      go false e = changes little-room
+          → Stays more limits s s′ (pick b (pick (leb (at + size) (length s)) o (refused Ended at)) (refused NoRow at)) (opened s′ room′ size at r o′)
+      go true e = rw (lt-ltb r room′ (omega (arith, ltb-true r room e))) (there-stays (at + size) at w h)
+      go false e = fuller (ltb r room′) refl
+        where
+          fuller :
+              (b : Bool) → ltb r room′ ≡ b
+              → Stays more limits s s′ (refused NoRow at) (pick b (pick (leb (at + size) (length s′)) o′ (refused Ended at)) (refused NoRow at))
+          fuller true f = changes (little-room (roomier r (ltb-false r room e) (ltb-true r room′ f)))
+          fuller false f = refuses {m = NoRow} tt
 
   contents-stays :
-      (c : Content) (o n at r : ℕ) (book : Book) → Stays more (read-contents s room c o n at r book) (read-contents s′ room′ c o n at r book)
+      (c : Content) (o n at r : ℕ) (book : Book) → (length s < o + n → wantOf s at ≤ o + n) → Stays more limits s s′ (read-contents s room c o n at r book) (read-contents s′ room′ c o n at r book)
   unfolding verdict read-contents
-  contents-stays c o n at r book =
+  contents-stays c o n at r book w =
       rw (there-is (leb (o + n) (length s)), there-is (leb (o + n) (length s′)))
-      (there-stays (o + n) at (λ i. rw (same-part l o n i) (judged-stays (contentRule c (part s o n)) at _ _ _ (λ m. content-of c (part s o n)))))
+      (there-stays (o + n) at w (λ i. rw (same-part l o n i) (judged-stays (contentRule c (part s o n)) at _ _ _ (λ m. content-of c (part s o n)))))
 
   unsigned-same : (at : ℕ) → at + 4 ≤ length s → unsignedAt s′ at ≡ unsignedAt s at
   unsigned-same at h = rw (same-byte l at (omega arith), same-byte l (at + 1) (omega arith), same-byte l (at + 2) (omega arith), same-byte l (at + 3) (omega arith))
 
-  recalled-stays : (x : Entry) (at r : ℕ) (book : Book) → Stays more (recalledEntry s room x at r book) (recalledEntry s′ room′ x at r book)
+  recalled-stays : (x : Entry) (at r : ℕ) (book : Book) → Stays more limits s s′ (recalledEntry s room x at r book) (recalledEntry s′ room′ x at r book)
   recalled-stays Unset at r book = refuses {m = UnsetPosition} tt
   recalled-stays (Text o n) at r book = accepts
 
-  short-stays : (c : Content) (at r : ℕ) (book : Book) → Stays more (shortItem s room c at r book) (shortItem s′ room′ c at r book)
-  short-stays c at r book = opened-stays 2 at r (λ h. rw (same-byte l (at + 1) (omega arith)) (contents-stays c (at + 2) (byteAt s (at + 1)) at r book))
+  short-stays :
+      (c : Content) (at r : ℕ) (book : Book) → (length s < at + 2 → wantOf s at ≤ at + 2)
+      → (at + 2 ≤ length s → wantOf s at ≤ at + 2 + byteAt s (at + 1)) → Stays more limits s s′ (shortItem s room c at r book) (shortItem s′ room′ c at r book)
+  short-stays c at r book w v =
+      opened-stays 2 at r w
+      (λ h. rw (same-byte l (at + 1) (omega arith)) (contents-stays c (at + 2) (byteAt s (at + 1)) at r book (λ k. v h)))
 
-  long-stays : (c : Content) (at r : ℕ) (book : Book) → Stays more (longItem s room c at r book) (longItem s′ room′ c at r book)
-  long-stays c at r book = opened-stays 5 at r (λ h. rw (unsigned-same (at + 1) (omega arith)) (contents-stays c (at + 5) (unsignedAt s (at + 1)) at r book))
+  long-stays :
+      (c : Content) (at r : ℕ) (book : Book) → (length s < at + 5 → wantOf s at ≤ at + 5)
+      → (at + 5 ≤ length s → wantOf s at ≤ at + 5 + unsignedAt s (at + 1)) → Stays more limits s s′ (longItem s room c at r book) (longItem s′ room′ c at r book)
+  long-stays c at r book w v =
+      opened-stays 5 at r w
+      (λ h. rw (unsigned-same (at + 1) (omega arith)) (contents-stays c (at + 5) (unsignedAt s (at + 1)) at r book (λ k. v h)))
 
-  string-item-stays : (form : Form) (at r : ℕ) (book : Book) → Stays more (stringItem s room form at r book) (stringItem s′ room′ form at r book)
-  string-item-stays Regular at r book = long-stays content.Text at r book
-  string-item-stays Recorded at r book =
-      opened-stays 6 at r
+  -- the item at a place, by its tag: its fields and its content end where they are wanted
+  record Tagged (t : Tag) (at : ℕ) : Type 0 where
+    tagged : tagOf (byteAt s at) ≡ t
+    there : at < length s
+
+  fields-end : (t : Tag) (at : ℕ) → Tagged t at → length s < at + fieldsOf t → wantOf s at ≤ at + fieldsOf t
+  fields-end t at g h = omega (arith, want-fields s at t (g .tagged) (g .there) h)
+
+  content-ends : (t : Tag) (at : ℕ) → Tagged t at → at + fieldsOf t ≤ length s → wantOf s at ≤ at + fieldsOf t + announced s at t
+  content-ends t at g h = omega (arith, want-content s at t (g .tagged) (g .there) h)
+
+  string-item-stays : (form : Form) (at r : ℕ) (book : Book) → Tagged (tag.String form) at → Stays more limits s s′ (stringItem s room form at r book) (stringItem s′ room′ form at r book)
+  string-item-stays Regular at r book g =
+      long-stays content.Text at r book (fields-end (tag.String Regular) at g) (content-ends (tag.String Regular) at g)
+  string-item-stays Recorded at r book g =
+      opened-stays 6 at r (fields-end (tag.String Recorded) at g)
       (λ h.
       let n = unsignedAt s (at + 2) in
       rw (same-byte l (at + 1) (omega arith), unsigned-same (at + 2) (omega arith))
-      (contents-stays content.Text (at + 6) n at r (record-text book (byteAt s (at + 1)) (at + 6) n)))
-  string-item-stays Recalled at r book = opened-stays 2 at r (λ h. rw (same-byte l (at + 1) (omega arith)) (recalled-stays (book (byteAt s (at + 1))) at r book))
+      (contents-stays content.Text (at + 6) n at r (record-text book (byteAt s (at + 1)) (at + 6) n) (λ k. content-ends (tag.String Recorded) at g h)))
+  string-item-stays Recalled at r book g = opened-stays 2 at r (fields-end (tag.String Recalled) at g) (λ h. rw (same-byte l (at + 1) (omega arith)) (recalled-stays (book (byteAt s (at + 1))) at r book))
 
   -- two readers, of which the second has more
   record Grows (f f′ : Reader) : Type 0 where
-    stays : (at r : ℕ) (book : Book) (R : List Recording) → Agrees s book R → Stays more (f at r book) (f′ at r book)
+    stays : (at r : ℕ) (book : Book) (R : List Recording) → Agrees s book R → Stays more limits s s′ (f at r book) (f′ at r book)
+
+  -- the same where an item of a tag stands, and where any byte stands
+  record GrowsAt (t : Tag) (f f′ : Reader) : Type 0 where
+    stays : (at r : ℕ) (book : Book) (R : List Recording) → Agrees s book R → Tagged t at → Stays more limits s s′ (f at r book) (f′ at r book)
+
+  record GrowsThere (f f′ : Reader) : Type 0 where
+    stays : (at r : ℕ) (book : Book) (R : List Recording) → Agrees s book R → at < length s → Stays more limits s s′ (f at r book) (f′ at r book)
 
   string-grows : Grows (read-string s room) (read-string s′ room′)
   unfolding read-string
   string-grows =
-      record { stays = λ at r book R a. present-stays at (λ h. rw (same-byte l at h) (go (tagOf (byteAt s at)) at r book)) }
+      record { stays = λ at r book R a. present-stays at (λ h. rw (same-byte l at h) (go (tagOf (byteAt s at)) at r book (record { tagged = refl; there = h }))) }
     where
-      go : (t : Tag) (at r : ℕ) (book : Book) → Stays more (ifString s room t at r book) (ifString s′ room′ t at r book)
-      go (tag.String form) at r book = string-item-stays form at r book
-      go (tag.Plain x) at r book = refuses {m = UnexpectedByte} tt
-      go tag.Array at r book = refuses {m = UnexpectedByte} tt
-      go tag.Struct at r book = refuses {m = UnexpectedByte} tt
-      go tag.Unknown at r book = refuses {m = UnexpectedByte} tt
+      go : (t : Tag) (at r : ℕ) (book : Book) → Tagged t at → Stays more limits s s′ (ifString s room t at r book) (ifString s′ room′ t at r book)
+      go (tag.String form) at r book g = string-item-stays form at r book g
+      go (tag.Plain x) at r book g = refuses {m = UnexpectedByte} tt
+      go tag.Array at r book g = refuses {m = UnexpectedByte} tt
+      go tag.Struct at r book g = refuses {m = UnexpectedByte} tt
+      go tag.Unknown at r book g = refuses {m = UnexpectedByte} tt
 
-  only-grows : (b : ℕ) {f f′ : Reader} → Grows f f′ → Grows (only s room b f) (only s′ room′ b f′)
+  only-grows : (b : ℕ) (t : Tag) → tagOf b ≡ t → {f f′ : Reader} → GrowsAt t f f′ → Grows (only s room b f) (only s′ room′ b f′)
   unfolding only
-  only-grows b g =
-      record { stays = λ at r book R a. present-stays at (λ h. rw (same-byte l at h) (pick-stays (eqb (byteAt s at) b) (g .stays at r book R a) (refuses {m = UnexpectedByte} tt))) }
+  only-grows b t i g =
+      record { stays = λ at r book R a. present-stays at (λ h. rw (same-byte l at h) (pick-stays-if (eqb (byteAt s at) b) (λ e. g .stays at r book R a (record { tagged = ap tagOf (eqb-true (byteAt s at) b e) ∙ i; there = h })) (refuses {m = UnexpectedByte} tt))) }
 
   -- the text of a String that was read lies in the bytes
   first-same :
@@ -309,7 +396,7 @@ module _ {more : Bool} (s s′ : List ℕ) (room room′ : ℕ) (l : Longer more
   items-stay :
       {P : Production} {f f′ : Reader} → Sound s room f P → Grows f f′
       → (n : ℕ) (acc : List Row) (at r : ℕ) (book : Book) (R : List Recording) → Agrees s book R
-      → Stays more (items (alike f) n acc at r book) (items (alike f′) n acc at r book)
+      → Stays more limits s s′ (items (alike f) n acc at r book) (items (alike f′) n acc at r book)
   unfolding items alike
   items-stay sound p zero acc at r book R a = accepts
   items-stay sound p (suc n) acc at r book R a =
@@ -319,93 +406,104 @@ module _ {more : Bool} (s s′ : List ℕ) (room room′ : ℕ) (l : Longer more
       items-stay sound p n (acc ++ rows) to r book′ (after R (h .sents)) (h .agrees))
 
   counted-grows :
-      (kind : ℕ) {P : Production} {f f′ : Reader} → Sound s room f P → Grows f f′
-      → Grows (counted s room kind (alike f)) (counted s′ room′ kind (alike f′))
-  counted-grows kind {f = f} {f′} sound p =
+      (kind : ℕ) (t : Tag) → fieldsOf t ≡ 5 → {P : Production} {f f′ : Reader} → Sound s room f P → Grows f f′
+      → GrowsAt t (counted s room kind (alike f)) (counted s′ room′ kind (alike f′))
+  counted-grows kind t five {f = f} {f′} sound p =
       record {
-        stays = λ at r book R a.
-            opened-stays 5 at r
+        stays = λ at r book R a g.
+            opened-stays 5 at r (λ k. omega (arith, five, fields-end t at g (omega (arith, five))))
             (λ h. rw (unsigned-same (at + 1) (omega arith)) (over-stays kind (unsignedAt s (at + 1)) r (items-stay sound p (unsignedAt s (at + 1)) [] (at + 5) (r + 1) book R a)));
       }
 
-  binary-grows : Grows (longItem s room content.Binary) (longItem s′ room′ content.Binary)
-  binary-grows = record { stays = λ at r book R a. long-stays content.Binary at r book }
+  binary-grows : GrowsAt (tag.Plain plain.Binary) (longItem s room content.Binary) (longItem s′ room′ content.Binary)
+  binary-grows =
+      record {
+        stays = λ at r book R a g.
+            long-stays content.Binary at r book (fields-end (tag.Plain plain.Binary) at g) (content-ends (tag.Plain plain.Binary) at g);
+      }
 
-  other-grows : Grows (otherItem s room) (otherItem s′ room′)
+  other-grows : GrowsThere (otherItem s room) (otherItem s′ room′)
   other-grows =
       record {
-        stays = λ at r book R a.
-            opened-stays 1 at r
-            (λ h. over-stays 12 2 r (pair-grows (name-sound s room at) (name-grows at) (only-grows (code "B") binary-grows) .stays (at + 1) (r + 1) book R a));
+        stays = λ at r book R a i.
+            opened-stays 1 at r (λ k. absurd (omega arith))
+            (λ h. over-stays 12 2 r (pair-grows (name-sound s room at) (name-grows at) (only-grows (code "B") (tag.Plain plain.Binary) tag-binary binary-grows) .stays (at + 1) (r + 1) book R a));
       }
 
   -- a Value by its tag
   item-stays :
-      (nest nest′ : Nest) → Grows (arrayItem s room nest) (arrayItem s′ room′ nest′) → Grows (structItem s room nest) (structItem s′ room′ nest′)
-      → (t : Tag) (at r : ℕ) (book : Book) (R : List Recording) → Agrees s book R
-      → Stays more (item s room t nest at r book) (item s′ room′ t nest′ at r book)
-  item-stays nest nest′ p q (tag.Plain plain.Integer) at r book R a = opened-stays 5 at r (λ h. rw (unsigned-same (at + 1) (omega arith)) accepts)
-  item-stays nest nest′ p q (tag.Plain plain.True) at r book R a = opened-stays 1 at r (λ h. accepts)
-  item-stays nest nest′ p q (tag.Plain plain.False) at r book R a = opened-stays 1 at r (λ h. accepts)
-  item-stays nest nest′ p q (tag.Plain plain.Double) at r book R a = short-stays content.Double at r book
-  item-stays nest nest′ p q (tag.Plain plain.DateTime) at r book R a = short-stays content.DateTime at r book
-  item-stays nest nest′ p q (tag.Plain plain.Binary) at r book R a = long-stays content.Binary at r book
-  item-stays nest nest′ p q (tag.Plain plain.Other) at r book R a = other-grows .stays at r book R a
-  item-stays nest nest′ p q (tag.String form) at r book R a = string-item-stays form at r book
-  item-stays nest nest′ p q tag.Array at r book R a = p .stays at r book R a
-  item-stays nest nest′ p q tag.Struct at r book R a = q .stays at r book R a
-  item-stays nest nest′ p q tag.Unknown at r book R a = refuses {m = UnexpectedByte} tt
+      (nest nest′ : Nest) → GrowsAt tag.Array (arrayItem s room nest) (arrayItem s′ room′ nest′) → GrowsAt tag.Struct (structItem s room nest) (structItem s′ room′ nest′)
+      → (t : Tag) (at r : ℕ) (book : Book) (R : List Recording) → Agrees s book R → Tagged t at
+      → Stays more limits s s′ (item s room t nest at r book) (item s′ room′ t nest′ at r book)
+  item-stays nest nest′ p q (tag.Plain plain.Integer) at r book R a g =
+      opened-stays 5 at r (fields-end (tag.Plain plain.Integer) at g) (λ h. rw (unsigned-same (at + 1) (omega arith)) accepts)
+  item-stays nest nest′ p q (tag.Plain plain.True) at r book R a g = opened-stays 1 at r (fields-end (tag.Plain plain.True) at g) (λ h. accepts)
+  item-stays nest nest′ p q (tag.Plain plain.False) at r book R a g = opened-stays 1 at r (fields-end (tag.Plain plain.False) at g) (λ h. accepts)
+  item-stays nest nest′ p q (tag.Plain plain.Double) at r book R a g =
+      short-stays content.Double at r book (fields-end (tag.Plain plain.Double) at g) (content-ends (tag.Plain plain.Double) at g)
+  item-stays nest nest′ p q (tag.Plain plain.DateTime) at r book R a g =
+      short-stays content.DateTime at r book (fields-end (tag.Plain plain.DateTime) at g) (content-ends (tag.Plain plain.DateTime) at g)
+  item-stays nest nest′ p q (tag.Plain plain.Binary) at r book R a g = binary-grows .stays at r book R a g
+  item-stays nest nest′ p q (tag.Plain plain.Other) at r book R a g = other-grows .stays at r book R a (g .there)
+  item-stays nest nest′ p q (tag.String form) at r book R a g = string-item-stays form at r book g
+  item-stays nest nest′ p q tag.Array at r book R a g = p .stays at r book R a g
+  item-stays nest nest′ p q tag.Struct at r book R a g = q .stays at r book R a g
+  item-stays nest nest′ p q tag.Unknown at r book R a g = refuses {m = UnexpectedByte} tt
 
   by-tag :
-      (d d′ : ℕ) → Grows (arrayItem s room (nested s room d)) (arrayItem s′ room′ (nested s′ room′ d′))
-      → Grows (structItem s room (nested s room d)) (structItem s′ room′ (nested s′ room′ d′)) → Grows (value s room d) (value s′ room′ d′)
+      (d d′ : ℕ) → GrowsAt tag.Array (arrayItem s room (nested s room d)) (arrayItem s′ room′ (nested s′ room′ d′))
+      → GrowsAt tag.Struct (structItem s room (nested s room d)) (structItem s′ room′ (nested s′ room′ d′)) → Grows (value s room d) (value s′ room′ d′)
   by-tag d d′ p q =
       record {
         stays = λ at r book R a.
             rw (value-is s room d at r book, value-is s′ room′ d′ at r book)
-            (present-stays at (λ h. rw (same-byte l at h) (item-stays (nested s room d) (nested s′ room′ d′) p q (tagOf (byteAt s at)) at r book R a)));
+            (present-stays at (λ h. rw (same-byte l at h) (item-stays (nested s room d) (nested s′ room′ d′) p q (tagOf (byteAt s at)) at r book R a (record { tagged = refl; there = h }))));
       }
 
   -- Arrays and Structs, at the floor and under what grows
-  array-floor : (nest : Nest) → Grows (arrayItem s room floor) (arrayItem s′ room′ nest)
-  array-floor nest = record { stays = λ at r book R a. changes little-nesting }
+  array-floor : (d′ : ℕ) → (limits ≡ false → d′ ≤ 0) → GrowsAt tag.Array (arrayItem s room floor) (arrayItem s′ room′ (nested s′ room′ d′))
+  unfolding nested
+  array-floor zero i = record { stays = λ at r book R a g. refuses {m = TooDeep} tt }
+  array-floor (suc d′) i = record { stays = λ at r book R a g. changes (little-nesting (deeper d′ i)) }
 
-  struct-floor : (nest : Nest) → Grows (structItem s room floor) (structItem s′ room′ nest)
-  struct-floor nest = record { stays = λ at r book R a. changes little-nesting }
+  struct-floor : (d′ : ℕ) → (limits ≡ false → d′ ≤ 0) → GrowsAt tag.Struct (structItem s room floor) (structItem s′ room′ (nested s′ room′ d′))
+  unfolding nested
+  struct-floor zero i = record { stays = λ at r book R a g. refuses {m = TooDeep} tt }
+  struct-floor (suc d′) i = record { stays = λ at r book R a g. changes (little-nesting (deeper d′ i)) }
 
   struct-under :
       (d d′ : ℕ) → Grows (value s room d) (value s′ room′ d′)
-      → Grows (structItem s room (under (value s room d))) (structItem s′ room′ (under (value s′ room′ d′)))
+      → GrowsAt tag.Struct (structItem s room (under (value s room d))) (structItem s′ room′ (under (value s′ room′ d′)))
   struct-under d d′ g =
-      counted-grows 10 (pair-sound s room (Pair d) pair-join (string-sound s room) (value-sound s room d))
+      counted-grows 10 tag.Struct refl (pair-sound s room (Pair d) pair-join (string-sound s room) (value-sound s room d))
       (pair-grows (string-sound s room) string-grows g)
 
-  value-grows : (d d′ : ℕ) → d ≤ d′ → Grows (value s room d) (value s′ room′ d′)
+  value-grows : (d d′ : ℕ) → d ≤ d′ → (limits ≡ false → d′ ≤ d) → Grows (value s room d) (value s′ room′ d′)
   unfolding nested
-  value-grows zero d′ h = by-tag zero d′ (array-floor (nested s′ room′ d′)) (struct-floor (nested s′ room′ d′))
-  value-grows (suc d) zero h = absurd (omega arith)
-  value-grows (suc d) (suc d′) h =
-      by-tag (suc d) (suc d′) (counted-grows 9 (value-sound s room d) (value-grows d d′ (omega arith)))
-      (struct-under d d′ (value-grows d d′ (omega arith)))
+  value-grows zero d′ h eq = by-tag zero d′ (array-floor d′ eq) (struct-floor d′ eq)
+  value-grows (suc d) zero h eq = absurd (omega arith)
+  value-grows (suc d) (suc d′) h eq =
+      by-tag (suc d) (suc d′) (counted-grows 9 tag.Array refl (value-sound s room d) (value-grows d d′ (omega arith) (λ e. let i = eq e in omega arith)))
+      (struct-under d d′ (value-grows d d′ (omega arith) (λ e. let i = eq e in omega arith)))
 
-  array-grows : (d d′ : ℕ) → d ≤ d′ → Grows (arrayItem s room (nested s room d)) (arrayItem s′ room′ (nested s′ room′ d′))
+  array-grows : (d d′ : ℕ) → d ≤ d′ → (limits ≡ false → d′ ≤ d) → GrowsAt tag.Array (arrayItem s room (nested s room d)) (arrayItem s′ room′ (nested s′ room′ d′))
   unfolding nested
-  array-grows zero d′ h = array-floor (nested s′ room′ d′)
-  array-grows (suc d) zero h = absurd (omega arith)
-  array-grows (suc d) (suc d′) h = counted-grows 9 (value-sound s room d) (value-grows d d′ (omega arith))
+  array-grows zero d′ h eq = array-floor d′ eq
+  array-grows (suc d) zero h eq = absurd (omega arith)
+  array-grows (suc d) (suc d′) h eq = counted-grows 9 tag.Array refl (value-sound s room d) (value-grows d d′ (omega arith) (λ e. let i = eq e in omega arith))
 
-  struct-grows : (d d′ : ℕ) → d ≤ d′ → Grows (structItem s room (nested s room d)) (structItem s′ room′ (nested s′ room′ d′))
+  struct-grows : (d d′ : ℕ) → d ≤ d′ → (limits ≡ false → d′ ≤ d) → GrowsAt tag.Struct (structItem s room (nested s room d)) (structItem s′ room′ (nested s′ room′ d′))
   unfolding nested
-  struct-grows zero d′ h = struct-floor (nested s′ room′ d′)
-  struct-grows (suc d) zero h = absurd (omega arith)
-  struct-grows (suc d) (suc d′) h = struct-under d d′ (value-grows d d′ (omega arith))
+  struct-grows zero d′ h eq = struct-floor d′ eq
+  struct-grows (suc d) zero h eq = absurd (omega arith)
+  struct-grows (suc d) (suc d′) h eq = struct-under d d′ (value-grows d d′ (omega arith) (λ e. let i = eq e in omega arith))
 
-  call-grows : (d d′ : ℕ) → d ≤ d′ → Grows (callItem s room d) (callItem s′ room′ d′)
-  call-grows d d′ h =
+  call-grows : (d d′ : ℕ) → d ≤ d′ → (limits ≡ false → d′ ≤ d) → GrowsThere (callItem s room d) (callItem s′ room′ d′)
+  call-grows d d′ h eq =
       record {
-        stays = λ at r book R a.
-            opened-stays 1 at r
-            (λ i. over-stays 1 2 r (pair-grows (string-sound s room) string-grows (only-grows (code "A") (array-grows d d′ h)) .stays (at + 1) (r + 1) book R a));
+        stays = λ at r book R a j.
+            opened-stays 1 at r (λ k. absurd (omega arith))
+            (λ i. over-stays 1 2 r (pair-grows (string-sound s room) string-grows (only-grows (code "A") tag.Array tag-array (array-grows d d′ h eq)) .stays (at + 1) (r + 1) book R a));
       }
 
   -- rows that were read mean the same with more bytes behind them
@@ -418,52 +516,92 @@ module _ {more : Bool} (s s′ : List ℕ) (room room′ : ℕ) (l : Longer more
   realises-more no-more = no-more
   realises-more (and-then (means i e p) m) = and-then (means i e (says-more p)) (realises-more m)
 
-  fault-grows : (d d′ : ℕ) → d ≤ d′ → Grows (faultStruct s room d) (faultStruct s′ room′ d′)
+  fault-grows : (d d′ : ℕ) → d ≤ d′ → (limits ≡ false → d′ ≤ d) → Grows (faultStruct s room d) (faultStruct s′ room′ d′)
   unfolding faultStruct
-  fault-grows d d′ h =
+  fault-grows d d′ h eq =
       record {
         stays = λ at r book R a.
-            then-stays (only-grows (code "S") (struct-grows d d′ h) .stays at r book R a)
+            then-stays (only-grows (code "S") tag.Struct tag-struct (struct-grows d d′ h eq) .stays at r book R a)
             (λ rows to book′ e.
             let g = only-sound s room (code "S") (struct-sound s room d) .derived at r book R rows to book′ e a in
             let i : heldRows s′ (below rows) ≡ heldRows s (below rows) = held-below (realises-more (g .realises)) ∙ sym (held-below (g .realises)) in
             rw i (judged-stays (faultRule (heldRows s (below rows))) at rows to book′ (λ m. fault-of (heldRows s (below rows)))));
       }
 
-  response-grows : (d d′ : ℕ) → d ≤ d′ → Grows (responseItem s room d) (responseItem s′ room′ d′)
-  response-grows d d′ h =
+  response-grows : (d d′ : ℕ) → d ≤ d′ → (limits ≡ false → d′ ≤ d) → GrowsThere (responseItem s room d) (responseItem s′ room′ d′)
+  response-grows d d′ h eq =
       record {
-        stays = λ at r book R a.
-            opened-stays 1 at r
+        stays = λ at r book R a i₀.
+            opened-stays 1 at r (λ k. absurd (omega arith))
             (λ i. present-stays (at + 1)
             (λ j. rw (same-byte l (at + 1) j)
             (pick-stays (eqb (byteAt s (at + 1)) (code "F"))
-            (over-stays 3 1 r (fault-grows d d′ h .stays (at + 2) (r + 1) book R a))
-            (over-stays 2 1 r (value-grows d d′ h .stays (at + 1) (r + 1) book R a)))));
+            (over-stays 3 1 r (fault-grows d d′ h eq .stays (at + 2) (r + 1) book R a))
+            (over-stays 2 1 r (value-grows d d′ h eq .stays (at + 1) (r + 1) book R a)))));
       }
 
-  whole-grows : (d d′ : ℕ) → d ≤ d′ → Grows (callOrResponse s room d) (callOrResponse s′ room′ d′)
+  whole-grows : (d d′ : ℕ) → d ≤ d′ → (limits ≡ false → d′ ≤ d) → Grows (callOrResponse s room d) (callOrResponse s′ room′ d′)
   unfolding callOrResponse
-  whole-grows d d′ h =
+  whole-grows d d′ h eq =
       record {
         stays = λ at r book R a.
             present-stays at
             (λ i. rw (same-byte l at i)
-            (pick-stays (eqb (byteAt s at) (code "C")) (call-grows d d′ h .stays at r book R a)
-            (pick-stays (eqb (byteAt s at) (code "R")) (response-grows d d′ h .stays at r book R a) (refuses {m = UnexpectedByte} tt))));
+            (pick-stays (eqb (byteAt s at) (code "C")) (call-grows d d′ h eq .stays at r book R a i)
+            (pick-stays (eqb (byteAt s at) (code "R")) (response-grows d d′ h eq .stays at r book R a i) (refuses {m = UnexpectedByte} tt))));
       }
 
-  pub message-stays : (d d′ : ℕ) → d ≤ d′ → Stays more (message s room d) (message s′ room′ d′)
+  message-grows : (d d′ : ℕ) → d ≤ d′ → (limits ≡ false → d′ ≤ d) → Stays more limits s s′ (message s room d) (message s′ room′ d′)
   unfolding message
-  message-stays d d′ h = go (agree s prefix) refl (leb 12 (length s)) refl more refl
+  message-grows d d′ h eq = go (agree s prefix) refl (leb 12 (length s)) refl more refl
     where
       go :
           (b : Bool) → agree s prefix ≡ b → (c : Bool) → leb 12 (length s) ≡ c → (m : Bool) → more ≡ m
-          → Stays more (pick b (pick c (callOrResponse s room d 12 0 clear) (refused Ended 0)) (refused WrongPrefix 0)) (message s′ room′ d′)
+          → Stays more limits s s′ (pick b (pick c (callOrResponse s room d 12 0 clear) (refused Ended 0)) (refused WrongPrefix 0)) (message s′ room′ d′)
       go false e c f m g = rw (l .is, agree-off s (l .rest) prefix e) (refuses {m = WrongPrefix} tt)
       go true e true f m g =
           let i = leb-true 12 (length s) f in
           let j : agree s′ prefix ≡ true = rw (l .is) (agree-on s (l .rest) prefix e i) in
-          rw (j, le-leb 12 (length s′) (omega (arith, least l))) (whole-grows d d′ h .stays 12 0 clear [] agrees-clear)
-      go true e false f true g = changes (few-bytes g)
+          rw (j, le-leb 12 (length s′) (omega (arith, least l))) (whole-grows d d′ h eq .stays 12 0 clear [] agrees-clear)
+      go true e false f true g = waiting (leb (wantOf s 0) (length s′)) refl
+        where
+          waiting : (b : Bool) → leb (wantOf s 0) (length s′) ≡ b → Stays more limits s s′ (refused Ended 0) (message s′ room′ d′)
+          waiting true i = changes (few-bytes {at = 0} g (leb-true (wantOf s 0) (length s′) i))
+          waiting false i =
+              let j : s′ ≡ s = same-short l (omega (arith, leb-false (wantOf s 0) (length s′) i, want-prefix s e)) in
+              rw (j, e, f) (refuses {m = Ended} tt)
       go true e false f false g = rw (same-all l g, e, f) (refuses {m = Ended} tt)
+
+-- with more bytes, room or nesting
+pub message-stays :
+    {more : Bool} (s s′ : List ℕ) (room room′ : ℕ) → Longer more s s′ → room ≤ room′ → (d d′ : ℕ) → d ≤ d′
+    → Stays more true s s′ (message s room d) (message s′ room′ d′)
+message-stays s s′ room room′ l k d d′ h = message-grows true s s′ room room′ l k (λ e. clash refl e) d d′ h (λ e. clash refl e)
+
+-- with more bytes alone: every answer stays but 1, and 1 as long as there are fewer bytes than are wanted
+pub message-waits : (s ys : List ℕ) (room d : ℕ) → Stays true false s (s ++ ys) (message s room d) (message (s ++ ys) room d)
+message-waits s ys room d =
+    message-grows false s (s ++ ys) room room (longer s ys) (omega arith) (λ e. omega arith) d d (omega arith) (λ e. omega arith)
+
+pub waits :
+    (s ys : List ℕ) (room d p : ℕ) → message s room d ≡ refused Ended p → length (s ++ ys) < wantOf s p
+    → message (s ++ ys) room d ≡ refused Ended p
+waits s ys room d p e h = by (message-waits s ys room d) e
+  where
+    by : {o o′ : Reading} → Stays true false s (s ++ ys) o o′ → o ≡ refused Ended p → o′ ≡ refused Ended p
+    by accepts f = f
+    by (refuses g) f = f
+    by (changes (little-nesting g)) f = clash g refl
+    by (changes (little-room g)) f = clash g refl
+    by (changes (few-bytes {at = q} g w)) f = let i : q ≡ p = cc in let j : wantOf s p ≤ length (s ++ ys) = rw i at w in absurd (omega arith)
+
+pub decided :
+    (s ys : List ℕ) (room d : ℕ) → ((p : ℕ) → message s room d ≡ refused Ended p → ⊥) → message (s ++ ys) room d ≡ message s room d
+decided s ys room d no-end = by (message-waits s ys room d) no-end
+  where
+    by : {o o′ : Reading} → Stays true false s (s ++ ys) o o′ → ((p : ℕ) → o ≡ refused Ended p → ⊥) → o′ ≡ o
+    by accepts f = refl
+    by (refuses g) f = refl
+    by (changes (little-nesting g)) f = clash g refl
+    by (changes (little-room g)) f = clash g refl
+    by (changes (few-bytes {at = q} g w)) f = absurd (f q refl)

@@ -9,8 +9,10 @@
 compile_error!("the proved library is built for x86-64 Linux");
 
 mod job;
+mod pieces;
 
 pub use job::{CardAnswer, CardFound, next_card, read_card};
+pub use pieces::{Pieces, Progress};
 
 /// Most bytes in a message, and in the bytes a writer's texts lie in.
 pub const MOST_BYTES: usize = 65_536;
@@ -19,7 +21,7 @@ pub const MOST_ROWS: usize = 4_096;
 /// Words in a row: kind, a, b, end.
 pub const ROW_WORDS: usize = 4;
 
-/// The numbers of answers. 4 is not used.
+/// The numbers of answers.
 pub mod number {
     pub const ACCEPTED: u8 = 0;
     /// The bytes end inside or before a needed item.
@@ -28,6 +30,8 @@ pub mod number {
     pub const WRONG_PREFIX: u8 = 2;
     /// A byte that begins nothing allowed there.
     pub const UNEXPECTED_BYTE: u8 = 3;
+    /// The room for a message in pieces is shorter than 65,536 bytes.
+    pub const SHORT_ROOM: u8 = 4;
     /// Bad UTF-8, or a byte of 128 or more in a Double or DateTime.
     pub const BAD_TEXT: u8 = 5;
     /// Recall of a position never set in this message.
@@ -56,6 +60,8 @@ pub mod number {
     pub const BAD_VALUE: u8 = 17;
     /// A sound job ends before the card asked for.
     pub const NO_CARD: u8 = 26;
+    /// A message in pieces: no answer yet.
+    pub const MORE_WANTED: u8 = 255;
 }
 
 /// What reading a message answers.

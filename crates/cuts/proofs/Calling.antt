@@ -1,0 +1,240 @@
+-- A call with a piece, from a state that stands for the bytes so far to one that stands for them and the piece. Assumes nothing.
+use mathlib.Core.Path.{_≡_, refl, sym, _∙_, ap}
+use mathlib.Core.Bool.{Bool, true, false}
+use mathlib.Core.List.{List, [], _∷_, _++_, append-assoc}
+use Prim.Native.Nat.{ℕ, _+_, _-_, _≤_, _<_}
+use native.Mathlib.Omega.{arith}
+use lib.ListN.{length, take, replicate, length-append, length-replicate}
+use lib.Dec.{ltb}
+use borrow.Author.Tests.{le-ltb, ltb-true, ltb-false}
+use Rattle.draft.specs.declared.Refusal.the-variants.{Ended, TooLong}
+use Rattle.draft.specs.Table.{roomOf}
+use Rattle.draft.specs.Read.{Reading, got, refused}
+use Rattle.table.proofs.Rows.{length-putRows}
+use Rattle.reader.specs.Answers.{reading, tableOf}
+use Rattle.room.specs.Room.{taken}
+use Rattle.pieces.specs.declared.PieceRefusal.the-variants.{Message}
+use Rattle.pieces.specs.declared.State.{State}
+use Rattle.pieces.specs.declared.State.the-variants.{More, Accepted, Refused}
+use Rattle.pieces.specs.Pieces.{refusedWithOne, outcome, wanting, through, roomWith}
+use Rattle.pieces.specs.Steps.{pickState, pickList, stillMore, stateOf, stateWent, roomWent, tableWent, Went}
+use Rattle.cuts.proofs.Outcomes.{View, cut-short, other, view, stays-cut, within, outcome-over, outcome-settled, wanting-within, through-more, through-done}
+use Rattle.cuts.proofs.Holding.{cut, length-cut, room-next, held-next, fits}
+
+-- the state of a reading that decides
+abbrev pub decidedAs : Reading → State
+decidedAs (got rows used book) = Accepted (length rows) used
+decidedAs (refused m place) = Refused (Message m) place
+
+-- a state, against the bytes through the deciding piece. Of `wanted` it says: with fewer bytes, whatever they are, nothing changes
+pub data Is (s : List ℕ) (words : ℕ) (T : List ℕ) : State → Type 0 where
+  waiting :
+      {held wanted q : ℕ} → held ≡ length s → outcome s words ≡ refused Ended q
+      → ((ys : List ℕ) → length (s ++ ys) ≤ 65536 → length (s ++ ys) < wanted → reading (s ++ ys) words ≡ refused Ended q)
+      → (0 < wanted → T ≡ replicate words 0) → Is s words T (More held wanted q)
+  done : {state : State} → wanting s words ≡ false → state ≡ decidedAs (outcome s words) → T ≡ tableOf words (outcome s words) → Is s words T state
+
+-- and with the table that the outcome has
+pub record Known (s : List ℕ) (words : ℕ) (T : List ℕ) (state : State) : Type 0 where
+  pub is : Is s words T state
+  pub table : T ≡ tableOf words (outcome s words)
+
+known-done : (s : List ℕ) (words : ℕ) (T : List ℕ) (o : Reading) → outcome s words ≡ o → refusedWithOne o ≡ false → T ≡ tableOf words o → Known s words T (decidedAs o)
+known-done s words T o e f t =
+    let z : T ≡ tableOf words (outcome s words) = rw e t in
+    record { is = done (ap refusedWithOne e ∙ f) (ap decidedAs (sym e)) z; table = z }
+
+module _ (s p : List ℕ) (words : ℕ) (short : length s ≤ 65536) where
+  outcome-fits : length p ≤ 65536 - length s → outcome (s ++ p) words ≡ reading (take 65536 (s ++ p)) words
+  outcome-fits h = within words (s ++ p) (omega (arith, length-append s p)) ∙ ap (λ (x : List ℕ). reading x words) (sym (fits s p [] short h))
+
+  over-by : 65536 - length s < length p → 65536 < length (s ++ p)
+  over-by h = omega (arith, length-append s p)
+
+  ten :
+      (T : List ℕ) {q : ℕ} → reading (take 65536 (s ++ p)) words ≡ refused Ended q → T ≡ replicate words 0 → 65536 - length s < length p
+      → Known (s ++ p) words T (Refused (Message TooLong) 0)
+  ten T e z h = known-done (s ++ p) words T (refused TooLong 0) (outcome-over words (s ++ p) (over-by h) e) refl z
+
+  -- fewer bytes are held than are wanted: nothing is read
+  skipped :
+      (wanted q : ℕ) (T : List ℕ)
+      → ((ys : List ℕ) → length (s ++ ys) ≤ 65536 → length (s ++ ys) < wanted → reading (s ++ ys) words ≡ refused Ended q) → T ≡ replicate words 0
+      → length s + taken (length s) p < wanted → Known (s ++ p) words T (stillMore (length s) (length p) wanted q)
+  skipped wanted q T law zeros h = by (ltb (65536 - length s) (length p)) refl
+    where
+      here : reading (take 65536 (s ++ p)) words ≡ refused Ended q
+      here =
+          rw (cut s p [] short)
+          (law (take (taken (length s) p) p)
+          (omega (arith, ap length (cut s p [] short), length-cut s p [] short))
+          (omega (arith, ap length (cut s p [] short), length-cut s p [] short)))
+
+      by :
+          (b : Bool) → ltb (65536 - length s) (length p) ≡ b
+          → Known (s ++ p) words T (pickState b (Refused (Message TooLong) 0) (More (length s + length p) wanted q))
+      by true e = ten T here zeros (ltb-true _ _ e)
+      by false e =
+          let o : outcome (s ++ p) words ≡ refused Ended q = outcome-fits (ltb-false _ _ e) ∙ here in
+          record {
+            is =
+                waiting {wanted = wanted} (sym (length-append s p)) o
+                (λ ys k l. rw (append-assoc s p ys) (law (p ++ ys) (rw (append-assoc s p ys) at k) (rw (append-assoc s p ys) at l))) (λ k. zeros);
+            table = rw o zeros;
+          }
+
+  -- all that is held is read
+  again :
+      (T : List ℕ) → T ≡ tableOf words (reading (take 65536 (s ++ p)) words)
+      → Known (s ++ p) words T (stateOf (length s) (length p) (take 65536 (s ++ p)) (reading (take 65536 (s ++ p)) words))
+  again T t = of (reading (take 65536 (s ++ p)) words) (view (reading (take 65536 (s ++ p)) words)) refl (ltb (65536 - length s) (length p)) refl
+    where
+      settled : (o : Reading) → refusedWithOne o ≡ false → stateOf (length s) (length p) (take 65536 (s ++ p)) o ≡ decidedAs o
+      settled (got rows used book) f = refl
+      settled (refused m q) f = rw f
+
+      of :
+          (o : Reading) → View o → reading (take 65536 (s ++ p)) words ≡ o → (b : Bool) → ltb (65536 - length s) (length p) ≡ b
+          → Known (s ++ p) words T (stateOf (length s) (length p) (take 65536 (s ++ p)) o)
+      of _ (cut-short {q = q}) e true f =
+          let z : T ≡ replicate words 0 = rw e at t in
+          rw f (ten T e z (ltb-true _ _ f))
+      of _ (cut-short {q = q}) e false f =
+          let g = fits s p [] short (ltb-false _ _ f) in
+          let x : outcome (s ++ p) words ≡ refused Ended q = outcome-fits (ltb-false _ _ f) ∙ e in
+          let z : T ≡ replicate words 0 = rw e at t in
+          let r : reading (s ++ p) words ≡ refused Ended q = rw g at e in
+          rw f
+          (rw g
+          (record { is = waiting (sym (length-append s p)) x (λ ys k l. stays-cut words (s ++ p) ys k q r l) (λ k. z); table = rw x z }))
+      of o (other h) e b f =
+          let i : refusedWithOne (reading (take 65536 (s ++ p)) words) ≡ false = ap refusedWithOne e ∙ h in
+          let z : T ≡ tableOf words o = rw e at t in
+          rw (settled o h) (known-done (s ++ p) words T o (outcome-settled words (s ++ p) i ∙ e) h z)
+
+-- ---- the calls
+-- the room begins with the bytes so far, and the table has its length
+pub record Stands (s R₀ : List ℕ) (words : ℕ) (state : State) (R T : List ℕ) : Type 0 where
+  pub room : R ≡ roomWith s R₀
+  pub size : length T ≡ words
+  pub is : Is s words T state
+
+-- what a call does where the room is long enough
+pub record Plain (state : State) (p R T R′ T′ : List ℕ) (state′ : State) : Type 0 where
+  pub says : state′ ≡ stateWent state p R (length T)
+  pub room : R′ ≡ roomWent state p R
+  pub table : T′ ≡ tableWent state p R T
+
+pub plain :
+    (state : State) (p R T R′ T′ : List ℕ) (state′ : State) → 65536 ≤ length R → Went state p R T R′ T′ state′ → Plain state p R T R′ T′ state′
+plain state p R T R′ T′ state′ h w =
+    record {
+      says = simp (le-ltb _ _ h) at (w .says);
+      room = simp (le-ltb _ _ h) at (w .room);
+      table = simp (le-ltb _ _ h) at (w .table);
+    }
+
+length-table : (words : ℕ) (o : Reading) → length (tableOf words o) ≡ words
+length-table words (got rows used book) = length-putRows (roomOf 4096 words) (replicate words 0) 0 rows ∙ length-replicate words 0
+length-table words (refused m q) = length-replicate words 0
+
+-- a piece where more is wanted
+module _ (s p R₀ : List ℕ) (wanted q : ℕ) (T : List ℕ) (short : length s ≤ 65536) where
+  says-more :
+      (words : ℕ)
+      → stateWent (More (length s) wanted q) p (roomWith s R₀) words
+      ≡ pickState (ltb (length s + taken (length s) p) wanted) (stillMore (length s) (length p) wanted q)
+      (stateOf (length s) (length p) (take 65536 (s ++ p)) (reading (take 65536 (s ++ p)) words))
+  unfolding stateWent
+  says-more words = simp (le-ltb _ _ short) (rw (room-next s p R₀ short, held-next s p R₀ short))
+
+  table-more :
+      tableWent (More (length s) wanted q) p (roomWith s R₀) T
+      ≡ pickList (ltb (length s + taken (length s) p) wanted) T (tableOf (length T) (reading (take 65536 (s ++ p)) (length T)))
+  unfolding tableWent
+  table-more = simp (le-ltb _ _ short) (rw (room-next s p R₀ short, held-next s p R₀ short))
+
+  room-more : roomWent (More (length s) wanted q) p (roomWith s R₀) ≡ roomWith (s ++ p) R₀
+  unfolding roomWent
+  room-more = simp (le-ltb _ _ short) (room-next s p R₀ short)
+
+-- what stands after a call: the same against one piece more, and the table is that of the outcome
+pub record Next (s R₀ : List ℕ) (words : ℕ) (state : State) (R T : List ℕ) : Type 0 where
+  pub stands : Stands s R₀ words state R T
+  pub table : T ≡ tableOf words (outcome s words)
+
+step-more :
+    (s p R₀ : List ℕ) (words wanted q : ℕ) (T R′ T′ : List ℕ) (state : State)
+    → length T ≡ words → outcome s words ≡ refused Ended q
+    → ((ys : List ℕ) → length (s ++ ys) ≤ 65536 → length (s ++ ys) < wanted → reading (s ++ ys) words ≡ refused Ended q)
+    → (0 < wanted → T ≡ replicate words 0) → Plain (More (length s) wanted q) p (roomWith s R₀) T R′ T′ state
+    → Next (s ++ p) R₀ words state R′ T′
+step-more s p R₀ words wanted q T R′ T′ state l o law zeros w = by (ltb (length s + taken (length s) p) wanted) refl
+  where
+    short : length s ≤ 65536
+    short = wanting-within words s (ap refusedWithOne o)
+
+    by : (b : Bool) → ltb (length s + taken (length s) p) wanted ≡ b → Next (s ++ p) R₀ words state R′ T′
+    by true e =
+        let h : length s + taken (length s) p < wanted = ltb-true _ _ e in
+        let a : state ≡ stillMore (length s) (length p) wanted q = w .says ∙ says-more s p R₀ wanted q T short (length T) ∙ rw e in
+        let t : T′ ≡ T = w .table ∙ table-more s p R₀ wanted q T short ∙ rw e in
+        let k : Known (s ++ p) words T (stillMore (length s) (length p) wanted q)
+        = skipped s p words short wanted q T law (zeros (omega arith)) h in
+        rw (a, t) (record { stands = record { room = w .room ∙ room-more s p R₀ wanted q T short; size = l; is = k .is }; table = k .table })
+    by false e =
+        let a : state ≡ stateOf (length s) (length p) (take 65536 (s ++ p)) (reading (take 65536 (s ++ p)) words)
+        = w .says ∙ says-more s p R₀ wanted q T short (length T) ∙ rw (e, l) in
+        let t : T′ ≡ tableOf words (reading (take 65536 (s ++ p)) words) = w .table ∙ table-more s p R₀ wanted q T short ∙ rw (e, l) in
+        let k : Known (s ++ p) words T′ (stateOf (length s) (length p) (take 65536 (s ++ p)) (reading (take 65536 (s ++ p)) words))
+        = again s p words short T′ t in
+        rw a
+        (record {
+          stands = record {
+            room = w .room ∙ room-more s p R₀ wanted q T short;
+            size = ap length t ∙ length-table words (reading (take 65536 (s ++ p)) words);
+            is = k .is;
+          };
+          table = k .table;
+        })
+
+-- a decided state stays
+module _ (o : Reading) (p R : List ℕ) where
+  state-done : (words : ℕ) → stateWent (decidedAs o) p R words ≡ decidedAs o
+  unfolding stateWent
+  state-done words = by o
+    where
+      by : (x : Reading) → stateWent (decidedAs x) p R words ≡ decidedAs x
+      by (got rows used book) = refl
+      by (refused m q) = refl
+
+  room-done : roomWent (decidedAs o) p R ≡ R
+  unfolding roomWent
+  room-done = by o
+    where
+      by : (x : Reading) → roomWent (decidedAs x) p R ≡ R
+      by (got rows used book) = refl
+      by (refused m q) = refl
+
+  table-done : (T : List ℕ) → tableWent (decidedAs o) p R T ≡ T
+  unfolding tableWent
+  table-done T = by o
+    where
+      by : (x : Reading) → tableWent (decidedAs x) p R T ≡ T
+      by (got rows used book) = refl
+      by (refused m q) = refl
+
+pub step :
+    (s p R₀ : List ℕ) (words : ℕ) {state : State} (R T R′ T′ : List ℕ) (state′ : State)
+    → R ≡ roomWith s R₀ → length T ≡ words → Is s words T state → Plain state p R T R′ T′ state′
+    → Next (through words s (p ∷ [])) R₀ words state′ R′ T′
+step s p R₀ words R T R′ T′ state′ e l (waiting {held = held} {wanted = wanted} {q = q} h o law zeros) w =
+    let v : Plain (More (length s) wanted q) p (roomWith s R₀) T R′ T′ state′ = rw (h, e) at w in
+    rw (through-more words s p (ap refusedWithOne o)) (step-more s p R₀ words wanted q T R′ T′ state′ l o law zeros v)
+step s p R₀ words R T R′ T′ state′ e l (done {state = state} z i t) w =
+    let v : Plain (decidedAs (outcome s words)) p R T R′ T′ state′ = rw i at w in
+    let a : state′ ≡ decidedAs (outcome s words) = v .says ∙ state-done (outcome s words) p R (length T) in
+    let b : R′ ≡ R = v .room ∙ room-done (outcome s words) p R in
+    let c : T′ ≡ T = v .table ∙ table-done (outcome s words) p R T in
+    rw (through-done words s (p ∷ []) z, b, c)
+    (record { stands = record { room = e; size = l; is = done z a t }; table = t })

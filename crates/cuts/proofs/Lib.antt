@@ -1,0 +1,4 @@
+pub mod Outcomes
+pub mod Holding
+pub mod Calling
+pub mod Running

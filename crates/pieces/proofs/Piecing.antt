@@ -1,0 +1,131 @@
+-- What each call does: a law for each return. Assumes nothing.
+use mathlib.Core.Path.{_≡_, refl, sym, _∙_, ap}
+use mathlib.Core.List.{List}
+use Prim.Native.Nat.{ℕ, _+_, _-_, _≤_, _<_}
+use native.Mathlib.Omega.{arith}
+use lib.ListN.{length, take, drop, replicate}
+use borrow.Author.Tests.{lt-ltb, le-ltb, eq-eqb, ne-eqb}
+use Rattle.draft.specs.declared.Refusal.{Refusal}
+use Rattle.draft.specs.declared.Refusal.the-variants.{Ended, TooLong}
+use Rattle.draft.specs.Refusals.{numberOf, refusalOf}
+use Rattle.draft.specs.Read.{Reading, got, refused}
+use Rattle.draft.specs.Want.{wantOf}
+use Rattle.reader.specs.declared.Answer.{Answer}
+use Rattle.reader.specs.declared.Answer.the-variants as answer
+use Rattle.reader.specs.Answers.{reading, answerOf, Answers}
+use Rattle.room.specs.Room.{taken, roomAfter, Held}
+use Rattle.pieces.specs.declared.PieceRefusal.{PieceRefusal}
+use Rattle.pieces.specs.declared.PieceRefusal.the-variants.{Message, ShortRoom}
+use Rattle.pieces.specs.declared.State.{State}
+use Rattle.pieces.specs.declared.State.the-variants.{More, Accepted, Refused}
+use Rattle.pieces.specs.Steps.{refusalFor, stillMore, stateOf, bytesHeld, stateWent, roomWent, tableWent, Settled, Went, Closed}
+
+module _ (n : ℕ) where
+  pub number-short : n ≡ 4 → ShortRoom ≡ refusalFor n
+  number-short e = rw e
+
+  pub number-message : (m : Refusal) → (n ≡ 4 → ⊥) → m ≡ refusalOf n → Message m ≡ refusalFor n
+  number-message m h e = rw (ne-eqb _ _ h, e)
+
+module _ (held n wanted place : ℕ) where
+  pub still-over : 65536 - held < n → Refused (Message TooLong) 0 ≡ stillMore held n wanted place
+  still-over h = rw (lt-ltb _ _ h)
+
+  pub still-more : n ≤ 65536 - held → More (held + n) wanted place ≡ stillMore held n wanted place
+  still-more h = rw (le-ltb _ _ h)
+
+-- an answer a to the bytes held
+module _ (held n : ℕ) (s T T′ : List ℕ) (a : Answer) (d : Answers (reading s (length T)) (length T) T′ a) where
+  pub settle-accepted : (rows used : ℕ) → a ≡ answer.Accepted rows used → Settled held n s T T′ (Accepted rows used)
+  settle-accepted rows used e = record { says = of (reading s (length T)) (sym e ∙ d .says); table = d .leaves }
+    where
+      of : (o : Reading) → answer.Accepted rows used ≡ answerOf o → Accepted rows used ≡ stateOf held n s o
+      of (got r u b) h = cc
+      of (refused m p) h = cc
+
+  module _ (m : Refusal) (q x : ℕ) (e : a ≡ answer.Refused m q) (i : x ≡ numberOf m) where
+    is-state : (o : Reading) → answer.Refused m q ≡ answerOf o → stateOf held n s (refused m q) ≡ stateOf held n s o
+    is-state (got r u b) h = cc
+    is-state (refused m′ p) h = cc
+
+    pub settle-more : (w : ℕ) (state : State) → x ≡ 1 → w ≡ wantOf s q → state ≡ stillMore held n w q → Settled held n s T T′ state
+    settle-more w state f g h =
+        let j : numberOf m ≡ 1 = sym i ∙ f in
+        let k : state ≡ stateOf held n s (refused m q) = rw (eq-eqb _ _ j, ← g) h in
+        record { says = k ∙ is-state (reading s (length T)) (sym e ∙ d .says); table = d .leaves }
+
+    pub settle-refused : (x ≡ 1 → ⊥) → Settled held n s T T′ (Refused (Message m) q)
+    settle-refused f =
+        let k : Refused (Message m) q ≡ stateOf held n s (refused m q) = rw (ne-eqb _ _ (λ (z : numberOf m ≡ 1). f (i ∙ z))) in
+        record { says = k ∙ is-state (reading s (length T)) (sym e ∙ d .says); table = d .leaves }
+
+-- more is wanted, and the room is long enough
+module _ (held wanted place : ℕ) (p R T : List ℕ) (long : 65536 ≤ length R) where
+  pub went-over : 65536 < held → Went (More held wanted place) p R T R T (Refused (Message TooLong) 0)
+  unfolding stateWent roomWent tableWent
+  went-over h =
+      record {
+        says = rw (le-ltb _ _ long, lt-ltb _ _ h);
+        room = rw (le-ltb _ _ long, lt-ltb _ _ h);
+        table = rw (le-ltb _ _ long, lt-ltb _ _ h);
+      }
+
+  module _ (R′ : List ℕ) (n : ℕ) (state : State) (h : held ≤ 65536) (d : Held held p R R′ n) where
+    pub went-still : n < wanted → state ≡ stillMore held (length p) wanted place → Went (More held wanted place) p R T R′ T state
+    unfolding stateWent roomWent tableWent
+    went-still l e =
+        let w : held + taken held p < wanted = rw (d .now) at l in
+        record {
+          says = simp (le-ltb _ _ long, le-ltb _ _ h, lt-ltb _ _ w) e;
+          room = simp (le-ltb _ _ long, le-ltb _ _ h) (d .room);
+          table = simp (le-ltb _ _ long, le-ltb _ _ h, lt-ltb _ _ w);
+        }
+
+    pub went-read :
+        (T′ : List ℕ) → wanted ≤ n → Settled held (length p) (take (n - 0) (drop 0 R′)) T T′ state → Went (More held wanted place) p R T R′ T′ state
+    unfolding stateWent roomWent tableWent
+    went-read T′ l e =
+        let w : wanted ≤ held + taken held p = rw (d .now) at l in
+        let z : n - 0 ≡ held + taken held p = omega (arith, d .now) in
+        let c : take (n - 0) R′ ≡ bytesHeld held p R = rw (z, d .room) in
+        record {
+          says = simp (le-ltb _ _ long, le-ltb _ _ h, le-ltb _ _ w) (rw c at (e .says));
+          room = simp (le-ltb _ _ long, le-ltb _ _ h) (d .room);
+          table = simp (le-ltb _ _ long, le-ltb _ _ h, le-ltb _ _ w) (rw c at (e .table));
+        }
+
+-- a piece, by the state
+module _ (state : State) (p R T : List ℕ) where
+  pub next-short : (X : List ℕ) → length R < 65536 → X ≡ replicate (length T) 0 → Went state p R T R X (Refused ShortRoom 0)
+  next-short X h e = record { says = simp (lt-ltb _ _ h); room = simp (lt-ltb _ _ h); table = simp (lt-ltb _ _ h) e }
+
+  pub next-more :
+      (held wanted place : ℕ) (R′ T′ : List ℕ) (r : State) → state ≡ More held wanted place → Went (More held wanted place) p R T R′ T′ r
+      → Went state p R T R′ T′ r
+  next-more held wanted place R′ T′ r e w = rw e w
+
+  pub next-accepted : (rows used : ℕ) → 65536 ≤ length R → state ≡ Accepted rows used → Went state p R T R T (Accepted rows used)
+  unfolding stateWent roomWent tableWent
+  next-accepted rows used h e = rw e (record { says = simp (le-ltb _ _ h); room = simp (le-ltb _ _ h); table = simp (le-ltb _ _ h) })
+
+  pub next-refused : (m : PieceRefusal) (q : ℕ) → 65536 ≤ length R → state ≡ Refused m q → Went state p R T R T (Refused m q)
+  unfolding stateWent roomWent tableWent
+  next-refused m q h e = rw e (record { says = simp (le-ltb _ _ h); room = simp (le-ltb _ _ h); table = simp (le-ltb _ _ h) })
+
+-- the end, by the state
+module _ (state : State) (bytes : ℕ) (T : List ℕ) where
+  pub end-short : (X : List ℕ) → bytes < 65536 → X ≡ replicate (length T) 0 → Closed state bytes T X (Refused ShortRoom 0)
+  end-short X h e = record { says = simp (lt-ltb _ _ h); table = simp (lt-ltb _ _ h) e }
+
+  pub end-more :
+      (held wanted place : ℕ) (X : List ℕ) → 65536 ≤ bytes → state ≡ More held wanted place → X ≡ replicate (length T) 0
+      → Closed state bytes T X (Refused (Message Ended) place)
+  end-more held wanted place X h e x = rw e (record { says = simp (le-ltb _ _ h); table = simp (le-ltb _ _ h) x })
+
+  pub end-accepted : (rows used : ℕ) → 65536 ≤ bytes → state ≡ Accepted rows used → Closed state bytes T T (Accepted rows used)
+  end-accepted rows used h e = rw e (record { says = simp (le-ltb _ _ h); table = simp (le-ltb _ _ h) })
+
+  pub end-refused : (m : PieceRefusal) (q : ℕ) → 65536 ≤ bytes → state ≡ Refused m q → Closed state bytes T T (Refused m q)
+  end-refused m q h e = rw e (record { says = simp (le-ltb _ _ h); table = simp (le-ltb _ _ h) })
+
+pub ruleset piecing = (number-short, number-message, still-over, still-more, settle-accepted, settle-more, settle-refused, went-over, went-still, went-read, next-short, next-more, next-accepted, next-refused, end-short, end-more, end-accepted, end-refused)

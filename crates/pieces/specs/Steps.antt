@@ -1,0 +1,111 @@
+-- What each call does, for any state, room and table. Assumes nothing.
+use mathlib.Core.Path.{_≡_}
+use mathlib.Core.Bool.{Bool, true, false}
+use mathlib.Core.List.{List}
+use Prim.Native.Nat.{ℕ, _+_, _-_}
+use lib.ListN.{length, take, replicate}
+use lib.Dec.{ltb, eqb}
+use Rattle.draft.specs.declared.Refusal.the-variants.{TooLong, Ended}
+use Rattle.draft.specs.Refusals.{numberOf, refusalOf}
+use Rattle.draft.specs.Read.{Reading, got, refused}
+use Rattle.draft.specs.Want.{wantOf}
+use Rattle.reader.specs.Answers.{reading, tableOf}
+use Rattle.room.specs.Room.{taken, roomAfter}
+use Rattle.pieces.specs.declared.PieceRefusal.{PieceRefusal}
+use Rattle.pieces.specs.declared.PieceRefusal.the-variants.{Message, ShortRoom}
+use Rattle.pieces.specs.declared.State.{State}
+use Rattle.pieces.specs.declared.State.the-variants.{More, Accepted, Refused}
+use Rattle.pieces.specs.Pieces.{Told, more, accepted, refusal}
+
+-- the papers' number of a refusal
+abbrev pub numberFor : PieceRefusal → ℕ
+numberFor (Message m) = numberOf m
+numberFor ShortRoom = 4
+
+abbrev pub pickRefusal : Bool → PieceRefusal → PieceRefusal → PieceRefusal
+pickRefusal true x y = x
+pickRefusal false x y = y
+
+-- the refusal that has a number
+abbrev pub refusalFor : ℕ → PieceRefusal
+refusalFor n = pickRefusal (eqb n 4) ShortRoom (Message (refusalOf n))
+
+-- what a state tells
+abbrev pub told : State → Told
+told (More held wanted place) = more
+told (Accepted rows used) = accepted rows used
+told (Refused m place) = refusal (numberFor m) place
+
+abbrev pub pickState : Bool → State → State → State
+pickState true x y = x
+pickState false x y = y
+
+abbrev pub pickList : Bool → List ℕ → List ℕ → List ℕ
+pickList true x y = x
+pickList false x y = y
+
+-- after n bytes more, with `held` held before: more is wanted; or 10, if there is no room for one of them
+abbrev pub stillMore : ℕ → ℕ → ℕ → ℕ → State
+stillMore held n wanted place =
+    pickState (ltb (65536 - held) n) (Refused (Message TooLong) 0) (More (held + n) wanted place)
+
+-- what reading the bytes s in the room comes to; refused with 1, as many bytes are wanted as the item at its place has
+abbrev pub stateOf : ℕ → ℕ → List ℕ → Reading → State
+stateOf held n s (got rows used book) = Accepted (length rows) used
+stateOf held n s (refused m place) =
+    pickState (eqb (numberOf m) 1) (stillMore held n (wantOf s place) place) (Refused (Message m) place)
+
+-- the bytes held after a piece
+abbrev pub bytesHeld : ℕ → List ℕ → List ℕ → List ℕ
+bytesHeld held p R = take (held + taken held p) (roomAfter held p R)
+
+-- the state after a piece, where the room is long enough. Nothing is read while fewer bytes are held than are wanted. A state that no call
+-- gives, with more than 65,536 bytes held, is refused with 10
+unfoldable pub stateWent : State → List ℕ → List ℕ → ℕ → State
+stateWent (More held wanted place) p R words =
+    pickState (ltb 65536 held) (Refused (Message TooLong) 0)
+    (pickState (ltb (held + taken held p) wanted) (stillMore held (length p) wanted place)
+    (stateOf held (length p) (bytesHeld held p R) (reading (bytesHeld held p R) words)))
+stateWent (Accepted rows used) p R words = Accepted rows used
+stateWent (Refused m place) p R words = Refused m place
+
+-- the room after it
+unfoldable pub roomWent : State → List ℕ → List ℕ → List ℕ
+roomWent (More held wanted place) p R = pickList (ltb 65536 held) R (roomAfter held p R)
+roomWent (Accepted rows used) p R = R
+roomWent (Refused m place) p R = R
+
+-- the table after it
+unfoldable pub tableWent : State → List ℕ → List ℕ → List ℕ → List ℕ
+tableWent (More held wanted place) p R T =
+    pickList (ltb 65536 held) T
+    (pickList (ltb (held + taken held p) wanted) T (tableOf (length T) (reading (bytesHeld held p R) (length T))))
+tableWent (Accepted rows used) p R T = T
+tableWent (Refused m place) p R T = T
+
+-- what reading the bytes s in the room did
+pub record Settled (held n : ℕ) (s T T′ : List ℕ) (state : State) : Type 0 where
+  pub says : state ≡ stateOf held n s (reading s (length T))
+  pub table : T′ ≡ tableOf (length T) (reading s (length T))
+
+-- what a call with a piece p did: 4 before all else
+pub record Went (state : State) (p R T R′ T′ : List ℕ) (state′ : State) : Type 0 where
+  pub says : state′ ≡ pickState (ltb (length R) 65536) (Refused ShortRoom 0) (stateWent state p R (length T))
+  pub room : R′ ≡ pickList (ltb (length R) 65536) R (roomWent state p R)
+  pub table : T′ ≡ pickList (ltb (length R) 65536) (replicate (length T) 0) (tableWent state p R T)
+
+-- the end: where more is wanted, 1 at the place it would have
+abbrev pub stateClosed : State → State
+stateClosed (More held wanted place) = Refused (Message Ended) place
+stateClosed (Accepted rows used) = Accepted rows used
+stateClosed (Refused m place) = Refused m place
+
+abbrev pub tableClosed : State → List ℕ → List ℕ
+tableClosed (More held wanted place) T = replicate (length T) 0
+tableClosed (Accepted rows used) T = T
+tableClosed (Refused m place) T = T
+
+-- what an end call did, with a room of so many bytes
+pub record Closed (state : State) (bytes : ℕ) (T T′ : List ℕ) (state′ : State) : Type 0 where
+  pub says : state′ ≡ pickState (ltb bytes 65536) (Refused ShortRoom 0) (stateClosed state)
+  pub table : T′ ≡ pickList (ltb bytes 65536) (replicate (length T) 0) (tableClosed state T)

@@ -1,0 +1,176 @@
+// A message in pieces: they are held in one lent room, and each is answered with more wanted, accepted or refused.
+use draft::Refusal;
+use reader::Answer;
+ghost use mathlib.Core.Path.{_≡_};
+ghost use Prim.Native.Nat.{_≤_};
+ghost use lib.ListN.{length};
+ghost use Rattle.pieces.specs.Steps.{numberFor, refusalFor, stillMore, Settled, Went, Closed};
+ghost use Rattle.pieces.specs.Runs.{begun};
+
+// Why a message in pieces is refused: as a whole message is, or with 4.
+pub enum PieceRefusal {
+    Message(Refusal),
+    ShortRoom,
+}
+
+// Where the reading of the pieces stands. If more is wanted: so many bytes are held; no other answer is possible while fewer than `wanted` are;
+// and the place is that of refusal 1, if no more came.
+pub enum State {
+    More {
+        held: usize,
+        wanted: usize,
+        place: usize,
+    },
+    Accepted {
+        rows: usize,
+        used: usize,
+    },
+    Refused {
+        refusal: PieceRefusal,
+        place: usize,
+    },
+}
+
+// The papers' number of a refusal.
+pub fn number(refusal: PieceRefusal) -> u8
+    ensures { λ n. ⌜ n ≡ numberFor refusal ⌝ }
+{
+    match refusal {
+        PieceRefusal::Message(m) => draft::number(m),
+        PieceRefusal::ShortRoom => 4,
+    }
+}
+
+// The refusal that has a number.
+pub fn refusal_of(number: usize) -> PieceRefusal
+    ensures { λ r. ⌜ r ≡ refusalFor number ⌝ }
+{
+    if number == 4 {
+        return PieceRefusal::ShortRoom;
+    }
+    PieceRefusal::Message(draft::refusal_of(number))
+}
+
+// Nothing has come yet.
+pub fn start() -> State
+    ensures { λ r. ⌜ r ≡ begun ⌝ }
+{
+    State::More {
+        held: 0,
+        wanted: 0,
+        place: 0,
+    }
+}
+
+// More is wanted, unless a piece brought a byte that there is no room for.
+fn still(held: usize, brought: usize, wanted: usize, place: usize) -> State
+    requires { ⌜ held ≤ 65536 ⌝ }
+    ensures { λ r. ⌜ r ≡ stillMore held brought wanted place ⌝ }
+{
+    if room::MOST - held < brought {
+        return State::Refused {
+            refusal: PieceRefusal::Message(Refusal::TooLong),
+            place: 0,
+        };
+    }
+    State::More {
+        held: held + brought,
+        wanted,
+        place,
+    }
+}
+
+// Reads the bytes held. Before the last piece and what it brought, the first `held` of them were.
+fn settle(message: &[u8], held: usize, brought: usize, table: &mut [u32]) -> State
+    requires { ⌜ (held ≤ 65536) × (length (now message) ≤ 65536) ⌝ }
+    ensures { λ r. ⌜ Settled held brought (now (message .entry)) (now (table .entry)) (now (table .exit)) r ⌝ }
+{
+    let answer = reader::read(message, table);
+    match answer {
+        Answer::Accepted { rows, used } => State::Accepted { rows, used },
+        Answer::Refused { refusal, place } => {
+            if draft::number(refusal) == 1 {
+                return still(held, brought, want::wants(message, place), place);
+            }
+            State::Refused {
+                refusal: PieceRefusal::Message(refusal),
+                place,
+            }
+        }
+    }
+}
+
+// A piece where more is wanted.
+fn go_on(
+    held: usize,
+    wanted: usize,
+    place: usize,
+    piece: &[u8],
+    room: &mut [u8],
+    table: &mut [u32],
+) -> State
+    requires { ⌜ 65536 ≤ length (now room) ⌝ }
+    ensures { λ r. ⌜ Went (State.More held wanted place) (now (piece .entry)) (now (room .entry)) (now (table .entry)) (now (room .exit)) (now (table .exit)) r ⌝ }
+{
+    if room::MOST < held {
+        return State::Refused {
+            refusal: PieceRefusal::Message(Refusal::TooLong),
+            place: 0,
+        };
+    }
+    let n = room::hold(room, held, piece);
+    if n < wanted {
+        return still(held, piece.len(), wanted, place);
+    }
+    settle(&room[0..n], held, piece.len(), table)
+}
+
+// Takes the next piece. The room and the table are those of the calls before it.
+pub fn next(state: State, piece: &[u8], room: &mut [u8], table: &mut [u32]) -> State
+    ensures { λ r. ⌜ Went state (now (piece .entry)) (now (room .entry)) (now (table .entry)) (now (room .exit)) (now (table .exit)) r ⌝ }
+{
+    if room.len() < room::MOST {
+        table::clear(table);
+        return State::Refused {
+            refusal: PieceRefusal::ShortRoom,
+            place: 0,
+        };
+    }
+    match state {
+        State::More {
+            held,
+            wanted,
+            place,
+        } => go_on(held, wanted, place, piece, room, table),
+        State::Accepted { rows, used } => State::Accepted { rows, used },
+        State::Refused { refusal, place } => State::Refused { refusal, place },
+    }
+}
+
+// No more pieces come: where more is wanted, the message is refused with 1.
+pub fn end(state: State, room: &[u8], table: &mut [u32]) -> State
+    ensures { λ r. ⌜ Closed state (length (now (room .entry))) (now (table .entry)) (now (table .exit)) r ⌝ }
+{
+    if room.len() < room::MOST {
+        table::clear(table);
+        return State::Refused {
+            refusal: PieceRefusal::ShortRoom,
+            place: 0,
+        };
+    }
+    match state {
+        State::More {
+            held: _,
+            wanted: _,
+            place,
+        } => {
+            table::clear(table);
+            State::Refused {
+                refusal: PieceRefusal::Message(Refusal::Ended),
+                place,
+            }
+        }
+        State::Accepted { rows, used } => State::Accepted { rows, used },
+        State::Refused { refusal, place } => State::Refused { refusal, place },
+    }
+}
