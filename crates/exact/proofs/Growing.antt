@@ -419,26 +419,26 @@ module _ {more : Bool} (limits : Bool) (s s′ : List ℕ) (room room′ : ℕ) 
       (p : (seen : Texts) → Grows (f seen) (f′ seen))
       (same : (seen : Texts) (r : ℕ) (rows : List Row) (used : List ℕ) (cells : List Cell) (sents : List Sent) → P seen used cells sents → Realises s r rows cells
       → more-of′ seen rows ≡ more-of seen rows)
-      where
-    items-stay :
-        (n : ℕ) (seen : Texts) (acc : List Row) (at r : ℕ) (book : Book) (R : List Recording) → Agrees s book R
-        → Stays more limits s s′ (items f more-of n seen acc at r book) (items f′ more-of′ n seen acc at r book)
-    unfolding items
-    items-stay zero seen acc at r book R a = accepts
-    items-stay (suc n) seen acc at r book R a =
-        then-stays (p seen .stays at (r + length acc) book R a)
-        (λ rows to book′ e.
-        let h = sound seen .derived at (r + length acc) book R rows to book′ e a in
-        rw (same seen (r + length acc) rows (h .used) (h .cells) (h .sents) (h .derives) (h .realises))
-        (items-stay n (more-of seen rows) (acc ++ rows) to r book′ (after R (h .sents)) (h .agrees)))
+    where
+      items-stay :
+          (n : ℕ) (seen : Texts) (acc : List Row) (at r : ℕ) (book : Book) (R : List Recording) → Agrees s book R
+          → Stays more limits s s′ (items f more-of n seen acc at r book) (items f′ more-of′ n seen acc at r book)
+      unfolding items
+      items-stay zero seen acc at r book R a = accepts
+      items-stay (suc n) seen acc at r book R a =
+          then-stays (p seen .stays at (r + length acc) book R a)
+          (λ rows to book′ e.
+          let h = sound seen .derived at (r + length acc) book R rows to book′ e a in
+          rw (same seen (r + length acc) rows (h .used) (h .cells) (h .sents) (h .derives) (h .realises))
+          (items-stay n (more-of seen rows) (acc ++ rows) to r book′ (after R (h .sents)) (h .agrees)))
 
-    counted-grows : (kind : ℕ) (t : Tag) → fieldsOf t ≡ 5 → GrowsAt t (counted s room kind f more-of) (counted s′ room′ kind f′ more-of′)
-    counted-grows kind t five =
-        record {
-          stays = λ at r book R a g.
-              opened-stays 5 at r (λ k. omega (arith, five, fields-end t at g (omega (arith, five))))
-              (λ h. rw (unsigned-same (at + 1) (omega arith)) (over-stays kind (unsignedAt s (at + 1)) r (items-stay (unsignedAt s (at + 1)) [] [] (at + 5) (r + 1) book R a)));
-        }
+      counted-grows : (kind : ℕ) (t : Tag) → fieldsOf t ≡ 5 → GrowsAt t (counted s room kind f more-of) (counted s′ room′ kind f′ more-of′)
+      counted-grows kind t five =
+          record {
+            stays = λ at r book R a g.
+                opened-stays 5 at r (λ k. omega (arith, five, fields-end t at g (omega (arith, five))))
+                (λ h. rw (unsigned-same (at + 1) (omega arith)) (over-stays kind (unsignedAt s (at + 1)) r (items-stay (unsignedAt s (at + 1)) [] [] (at + 5) (r + 1) book R a)));
+          }
 
   binary-grows : GrowsAt (tag.Plain plain.Binary) (longItem s room content.Binary) (longItem s′ room′ content.Binary)
   binary-grows =
