@@ -42,7 +42,7 @@ use Rattle.draft.specs.Read.{Reading, got, refused, pick, then, judged, Reader,
 use Rattle.exact.proofs.Replaying.{Agrees, agrees-clear}
 use Rattle.exact.proofs.Realising.{held-below}
 use Rattle.exact.proofs.Completing.{value-is}
-use Rattle.exact.proofs.Deriving.{Production, Sound, OneString, one-string, Member, a-member, string-sound, only-sound, name-sound, key-sound, member-sound, alike-sound, value-sound, struct-sound, pair-sound}
+use Rattle.exact.proofs.Deriving.{Production, Sound, OneString, one-string, Member, a-member, string-sound, only-sound, name-sound, key-sound, member-sound, alike-sound, value-sound, struct-sound}
 
 -- what says that there is too little; bytes only if there may be more of them, and are as many as are wanted
 pub data TooLittle (more limits : Bool) (s s′ : List ℕ) : Refusal → ℕ → Type 0 where

@@ -22,7 +22,7 @@ use Rattle.draft.specs.Rows.{below, itemOf}
 use Rattle.draft.specs.Content.{verdict, nameRule, keyRule, faultRule}
 use Rattle.draft.specs.Table.{from}
 use Rattle.draft.specs.Read.{Texts, textOf, heldRows, prefix}
-use Rattle.draft.specs.Writable.{ruled, Walk, pair as walk-pair, items, alike, nothing, closed, over, holding as walk-holding, integerItem, booleanItem, sized, contentItem, counted, arrayItem, only, string as walk-string, stringBy, name, member, keeping, otherItem, structItem, item as walk-item, value, nested, faultStruct, first, callOrResponse}
+use Rattle.draft.specs.Writable.{Walk, pair as walk-pair, items, alike, nothing, closed, over, holding as walk-holding, integerItem, booleanItem, sized, contentItem, counted, arrayItem, only, string as walk-string, stringBy, name, member, keeping, otherItem, structItem, item as walk-item, value, nested, faultStruct, first, callOrResponse}
 use Rattle.draft.specs.Grammar.{Payload, Message, call-message, response-message, holding, number, Cell, cell, content-cell, heldCells, Sent, Keeps, Call, call, Response, value-response, fault-response, fault, Value, integer-value, boolean-value, double-value, datetime-value, array-value, struct-value, string-value, other-value, boolean-true, boolean-false, double, datetime, binary-value, Binary, binary, Array, array, Values, no-values, more-values, Struct, struct, Pairs, no-pairs, more-pairs, Pair, pair, Other, other, String, regular-string, recorded-string, recalled-string}
 use Rattle.draft.specs.Meaning.{says-holding, says-number, says-contents, Means, means}
 use Rattle.exact.proofs.Standing.{long}
