@@ -44,6 +44,7 @@ extern "C" {
 #define BINMODE_FILE_ENDED 15       /* job file: it ends before or inside a record, with no kind 2 yet */
 #define BINMODE_WRONG_END 16        /* job file: a kind 2 body of wrong length or number */
 #define BINMODE_BAD_VALUE 17        /* read: a Double or DateTime in ASCII that is no such text, as "5." or 30 February */
+#define BINMODE_REPEATED_KEY 20     /* read: a key that its Struct has already, compared as bytes */
 #define BINMODE_NO_CARD 26          /* job file: a sound job ends before the card asked for */
 #define BINMODE_MORE_WANTED 255     /* pieces: no answer yet */
 
@@ -67,7 +68,7 @@ extern "C" {
 #define BINMODE_DATE_TIME 7  /*          offset of its content   length   none */
 #define BINMODE_BINARY 8     /*          offset of its content   length   none */
 #define BINMODE_ARRAY 9      /*          0                       count    the Values */
-#define BINMODE_STRUCT 10    /*          0                       pairs    key (a String), Value, key, Value .. */
+#define BINMODE_STRUCT 10    /*          0                       pairs    key (a String), Value, key, Value ..; the keys differ */
 #define BINMODE_STRING 11    /*          offset of its text      length   none; a recalled string has the recorded text's */
 #define BINMODE_OTHER 12     /*          0                       2        type name (a String), Binary */
 
@@ -84,11 +85,12 @@ extern "C" {
  *                            BINMODE_TOO_LONG, BINMODE_WRONG_PREFIX, and BINMODE_ENDED for fewer than 12 bytes: 0;
  *                            BINMODE_STANDARD_NAME: the offset of the Other's `O`;
  *                            BINMODE_BAD_FAULT: the offset of the Struct's `S`, which is read whole first;
+ *                            BINMODE_REPEATED_KEY: the second key's, before its value is looked at;
  *                            the others: the item's, which is 12 for the Call or Response, 13 for what follows `R` and 14
  *                            for what follows `RF`.
  *
- * Gives BINMODE_ACCEPTED, and the table has the rows and then zeros; or a refusal's number (1 to 10, 14 or 17), and the whole table
- * is zeros. The first failure from left to right decides.
+ * Gives BINMODE_ACCEPTED, and the table has the rows and then zeros; or a refusal's number (1 to 10, 14, 17 or 20), and the whole
+ * table is zeros. The first failure from left to right decides.
  */
 uint8_t binmode_read(const uint8_t *message, size_t message_len, uint32_t *table, size_t table_words, uint64_t *rows,
                      uint64_t *used, uint64_t *place);
@@ -122,8 +124,8 @@ uint8_t binmode_write(const uint32_t *table, size_t table_words, size_t rows, co
  *   table, table_words    the table, as for binmode_read; offsets in its rows count from the card's first byte
  *   rows                  is set to the number of rows; 0 on a refusal
  *   used                  is set to the number of the body's bytes used; 0 on a refusal
- *   place                 is set to 0 on acceptance; on a refusal that is the card's own (1 to 10, 14 or 17) to its place, counted
- *                         from the card's first byte; on BINMODE_FILE_ENDED, BINMODE_WRONG_END and BINMODE_NO_CARD to the first
+ *   place                 is set to 0 on acceptance; on a refusal that is the card's own (1 to 10, 14, 17 or 20) to its place,
+ *                         counted from the card's first byte; on BINMODE_FILE_ENDED, BINMODE_WRONG_END and BINMODE_NO_CARD to the first
  *                         byte in the file of the record that gives it (file_len, if none begins there)
  *   body                  is set to the first byte of the card's body in the file; 0 on a refusal
  *

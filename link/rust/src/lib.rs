@@ -58,6 +58,8 @@ pub mod number {
     pub const WRONG_END: u8 = 16;
     /// A Double or DateTime in ASCII that is no such text, as `5.` or 30 February.
     pub const BAD_VALUE: u8 = 17;
+    /// A key that its Struct has already, compared as bytes.
+    pub const REPEATED_KEY: u8 = 20;
     /// A sound job ends before the card asked for.
     pub const NO_CARD: u8 = 26;
     /// A message in pieces: no answer yet.
