@@ -1,5 +1,6 @@
 /*
- * Reading and writing Binmode RPC messages, whole or in pieces, and reading the cards of job files: the functions that libinterface.a exports (x86-64, C's calling convention).
+ * Reading and writing Binmode RPC messages, whole or in pieces, reading the cards of job files, and looking up members: the
+ * functions that libinterface.a exports (x86-64, C's calling convention).
  *
  * No memory is allocated, nothing is kept from call to call but what the caller hands on, and of the C library only memset and its like are used,
  * so calls may run at the same time as long as each has its own buffers.
@@ -37,13 +38,15 @@ extern "C" {
 #define BINMODE_TOO_DEEP 8          /* read: an Array or Struct in more than 32, itself counted */
 #define BINMODE_NO_ROW 9            /* read: no row left in the table */
 #define BINMODE_TOO_LONG 10         /* both: message or text bytes over 65,536 */
-#define BINMODE_NOT_WRITABLE 11     /* write: the table is not writable */
+#define BINMODE_NOT_WRITABLE 11     /* write, lookup: the table is not writable */
 #define BINMODE_FORM_TOO_LONG 12    /* write: the written form is over 65,536 bytes */
 #define BINMODE_OUTPUT_TOO_SHORT 13 /* write: the output is shorter than the written form */
 #define BINMODE_BAD_FAULT 14        /* read: a fault's Struct without exactly faultCode (Integer) and faultString (String) */
 #define BINMODE_FILE_ENDED 15       /* job file: it ends before or inside a record, with no kind 2 yet */
 #define BINMODE_WRONG_END 16        /* job file: a kind 2 body of wrong length or number */
 #define BINMODE_BAD_VALUE 17        /* read: a Double or DateTime in ASCII that is no such text, as "5." or 30 February */
+#define BINMODE_NO_MEMBER 18        /* lookup: the row is no Struct, or the member is absent or of the wrong sort */
+#define BINMODE_TOO_MANY_DIGITS 19  /* lookup: a Double of more than 15 digits, or of more than 22 after the point */
 #define BINMODE_REPEATED_KEY 20     /* read: a key that its Struct has already, compared as bytes */
 #define BINMODE_NO_CARD 26          /* job file: a sound job ends before the card asked for */
 #define BINMODE_MORE_WANTED 255     /* pieces: no answer yet */
@@ -210,6 +213,52 @@ uint8_t binmode_pieces_next(struct binmode_pieces *state, const uint8_t *piece, 
  */
 uint8_t binmode_pieces_end(struct binmode_pieces *state, const uint8_t *room, size_t room_len, uint32_t *table,
                            size_t table_words);
+
+/*
+ * Looking up. A member of a Struct is a key and a value; it is asked for by the bytes of its key, and no two of a Struct
+ * answers. Both functions take any table, as binmode_write does, and judge it first: one that is not writable is refused, so
+ * nothing has to be tested before. For a table made by binmode_read, the text bytes are the message.
+ *
+ * The sorts of answers.
+ */
+#define BINMODE_WHOLE_NUMBER 1 /* an Integer, signed */
+#define BINMODE_DECIMAL 2      /* a Double */
+#define BINMODE_YES_OR_NO 3    /* a Boolean */
+#define BINMODE_TEXT 4         /* a String */
+#define BINMODE_ITEM 5         /* a DateTime, Binary, Array, Struct or Other, by its row */
+
+/*
+ * Looks up a member of a Struct.
+ *
+ *   table, table_words    the table; words after the stated rows are not looked at
+ *   rows                  the stated number of rows
+ *   text, text_len        the bytes in which the contents lie
+ *   row                   the Struct's row
+ *   key, key_len          the bytes of the key
+ *   sort                  is set to the sort of the answer; 0 on a refusal
+ *   number                is set to the whole number, to 1 or 0 for yes or no, or to the other item's row; else to 0
+ *   decimal               is set to the decimal; else to plus zero. Its value is the double nearest to the number that the text
+ *                         says, with its sign, so `-0.0` is minus zero
+ *   offset, length        are set to where the text lies in the text bytes; else to 0
+ *
+ * Gives BINMODE_ACCEPTED, or a refusal's number, tested in this order: BINMODE_NOT_WRITABLE, also for more than 65,536 text
+ * bytes; BINMODE_NO_MEMBER; BINMODE_TOO_MANY_DIGITS, where leading zeros are not counted. Each has place 0.
+ */
+uint8_t binmode_lookup(const uint32_t *table, size_t table_words, size_t rows, const uint8_t *text, size_t text_len,
+                       size_t row, const uint8_t *key, size_t key_len, uint8_t *sort, int64_t *number, double *decimal,
+                       uint64_t *offset, uint64_t *length);
+
+/*
+ * The position in a Struct: its members `x`, `y` and `turn`, each a Double, as three calls of binmode_lookup give them; the table
+ * is judged once. The parameters are those of binmode_lookup.
+ *
+ *   x, y, turn            are set to the position; to plus zero, all three, on a refusal
+ *
+ * Gives BINMODE_ACCEPTED, or BINMODE_NOT_WRITABLE; BINMODE_NO_MEMBER, if one of the three is absent or no Double, whatever the
+ * others are; or BINMODE_TOO_MANY_DIGITS, if one of them has too many. Each has place 0.
+ */
+uint8_t binmode_position(const uint32_t *table, size_t table_words, size_t rows, const uint8_t *text, size_t text_len,
+                         size_t row, double *x, double *y, double *turn);
 
 #ifdef __cplusplus
 }

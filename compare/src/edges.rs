@@ -1,7 +1,7 @@
 //! Tables at the edges of what is writable: names, sizes, texts and places of
 //! content, most of them just right and some just wrong.
 
-use second::generate::{BAD_TEXTS, Random, Table};
+use second::generate::{BAD_TEXTS, Random, Table, doubtful, good};
 use second::rules::{STANDARD_NAMES, kind};
 
 const GOOD_TEXTS: [&[u8]; 8] = [
@@ -31,11 +31,14 @@ struct Rows {
 }
 
 impl Rows {
-    /// With the rows of the Response and the Array, which are set last.
+    /// With the rows of the Response and the Array, which are set last. The
+    /// bytes begin with a Double that is longer than any may be.
     fn new() -> Self {
+        let mut text = b"-0.".to_vec();
+        text.resize(270, b'5');
         Rows {
             words: vec![0; 8],
-            text: vec![b'x'; 270],
+            text,
         }
     }
 
@@ -75,21 +78,7 @@ impl Rows {
                 self.row(kind::BINARY, 0, 3, 0);
             }
             1 => self.row(*random.pick(&with_content), 0, random.between(253, 257), 0),
-            2 => {
-                // ASCII, or not in one of its bytes.
-                let length = random.between(1, 40);
-                self.row(
-                    kind::DOUBLE + random.below(2) as u32,
-                    self.text.len(),
-                    length,
-                    0,
-                );
-                self.text.resize(self.text.len() + length, 127);
-                if random.one_in(2) {
-                    let place = self.text.len() - random.between(1, length);
-                    self.text[place] = *random.pick(&[128, 255, 0]);
-                }
-            }
+            2 => self.double_or_date(random),
             3 | 4 => {
                 let text = match random.below(3) {
                     0 => *random.pick(&BAD_TEXTS),
@@ -114,5 +103,26 @@ impl Rows {
                 _ => self.row(kind::INTEGER, random.byte().into(), random.below(8) / 7, 0),
             },
         }
+    }
+
+    /// A Double or DateTime behind the other bytes: right or nearly so, ASCII
+    /// or not in one of its bytes, and a byte too short or too long.
+    fn double_or_date(&mut self, random: &mut Random) {
+        let (kind, tag) = *random.pick(&[(kind::DOUBLE, b'D'), (kind::DATE_TIME, b'8')]);
+        let mut text = match random.below(2) {
+            0 => good(random, tag),
+            _ => doubtful(random, tag),
+        };
+        if !text.is_empty() && random.one_in(6) {
+            let place = random.below(text.len());
+            text[place] |= 128;
+        }
+        let length = match random.below(8) {
+            0 => text.len().saturating_sub(1),
+            1 => text.len() + 1,
+            _ => text.len(),
+        };
+        self.row(kind, self.text.len(), length, 0);
+        self.text.extend(text);
     }
 }

@@ -1,17 +1,22 @@
 //! Compares the proved library with the second implementation on generated
-//! messages, tables and job files: `compare SEED CALLS`. Ends with 1 where they differ.
+//! messages, tables, job files and members: `compare SEED CALLS`. Ends with 1
+//! where they differ.
 
 mod change;
+mod doubles_and_dates;
 mod edges;
 mod gather;
 mod job;
 mod lent;
+mod library;
+mod lookup;
 mod reading;
 mod shortest;
 mod tally;
 mod writing;
 
 use job::Jobs;
+use lookup::Lookups;
 use reading::{Compared, Reading};
 use second::generate::Random;
 use std::process::ExitCode;
@@ -51,13 +56,18 @@ fn compare(run: &mut Run) -> Compared {
     let mut reading = Reading::new();
     let mut writing = Writing::new();
     let mut jobs = Jobs::new();
+    let mut lookups = Lookups::new();
     shortest::tried(&mut run.random)?;
+    doubles_and_dates::read(&mut run.random, &mut reading)?;
+    doubles_and_dates::written(&mut run.random, &mut writing)?;
+    lookups.decimals(&mut run.random)?;
     reading.papers(run)?;
     writing.papers(run)?;
     reading.edges(run)?;
     jobs.edges(run)?;
     while !run.tally.is_over() {
         reading.round(run)?;
+        lookups.round(run)?;
         writing.round(run)?;
         if run.random.one_in(4) {
             jobs.round(run)?;

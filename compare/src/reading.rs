@@ -32,12 +32,24 @@ impl Reading {
         }
     }
 
-    /// One call of each, with this message and a table of so many words.
+    /// One call of each, if any are left, with this message and a table of so
+    /// many words.
     fn call(&mut self, run: &mut Run, message: &[u8], words: usize) -> Compared {
-        if run.tally.is_over() {
-            return Ok(());
+        if !run.tally.is_over() {
+            let number = self.compare(&mut run.random, message, words)?;
+            run.tally.read(number);
         }
-        let rubbish = rubbish(&mut run.random);
+        Ok(())
+    }
+
+    /// One call of each; gives the answer's number.
+    pub fn compare(
+        &mut self,
+        random: &mut Random,
+        message: &[u8],
+        words: usize,
+    ) -> Result<u8, String> {
+        let rubbish = rubbish(random);
         let given = self.message.lend(message.len(), rubbish as u8);
         given.copy_from_slice(message);
         let by_library = binmode::read(given, self.library.lend(words, rubbish));
@@ -52,8 +64,7 @@ impl Reading {
                  second  {by_second:?}"
             ));
         }
-        run.tally.read(by_library.number);
-        Ok(())
+        Ok(by_library.number)
     }
 
     fn difference(&self, message: &[u8], library: Answer, second: Answer) -> Option<String> {

@@ -23,9 +23,9 @@ const MEANINGS: [&str; NUMBERS] = [
     "other fault members",
     "job file ends",
     "wrong end of the job",
-    "",
-    "",
-    "",
+    "no such Double or date",
+    "no such member",
+    "too many digits",
     "",
     "",
     "",
@@ -46,6 +46,8 @@ pub struct Tally {
     pub reading: [usize; NUMBERS],
     pub writing: [usize; NUMBERS],
     pub cards: [usize; NUMBERS],
+    pub members: [usize; NUMBERS],
+    pub positions: [usize; NUMBERS],
 }
 
 impl Tally {
@@ -55,6 +57,8 @@ impl Tally {
             reading: [0; NUMBERS],
             writing: [0; NUMBERS],
             cards: [0; NUMBERS],
+            members: [0; NUMBERS],
+            positions: [0; NUMBERS],
         }
     }
 
@@ -80,19 +84,47 @@ impl Tally {
         self.cards[usize::from(number)] += 1;
     }
 
+    /// Notes a member looked up.
+    pub fn looked_up(&mut self, number: u8) {
+        self.left -= 1;
+        self.members[usize::from(number)] += 1;
+    }
+
+    /// Notes a position asked for.
+    pub fn placed(&mut self, number: u8) {
+        self.left -= 1;
+        self.positions[usize::from(number)] += 1;
+    }
+
     pub fn print(&self) {
-        let columns = [&self.reading, &self.writing, &self.cards];
-        println!(
-            "{:>3} {:22} {:>10} {:>10} {:>10}",
-            "no.", "answer", "reading", "writing", "cards"
+        let columns = [
+            ("reading", &self.reading),
+            ("writing", &self.writing),
+            ("cards", &self.cards),
+            ("members", &self.members),
+            ("positions", &self.positions),
+        ];
+        let line = |number: &str, meaning: &str, cells: Vec<String>| {
+            let cells: String = cells.iter().map(|cell| format!(" {cell:>10}")).collect();
+            println!("{number:>3} {meaning:22}{cells}");
+        };
+        let cells = |cell: &dyn Fn(&[usize; NUMBERS]) -> usize| {
+            columns.map(|(_, counts)| cell(counts).to_string()).to_vec()
+        };
+        line(
+            "no.",
+            "answer",
+            columns.map(|(name, _)| name.into()).to_vec(),
         );
         for (number, meaning) in MEANINGS.iter().enumerate() {
-            let [reading, writing, cards] = columns.map(|column| column[number]);
             if !meaning.is_empty() {
-                println!("{number:>3} {meaning:22} {reading:>10} {writing:>10} {cards:>10}");
+                line(
+                    &number.to_string(),
+                    meaning,
+                    cells(&|counts| counts[number]),
+                );
             }
         }
-        let [reading, writing, cards] = columns.map(|column| column.iter().sum::<usize>());
-        println!("    {:22} {reading:>10} {writing:>10} {cards:>10}", "calls");
+        line("", "calls", cells(&|counts| counts.iter().sum()));
     }
 }

@@ -29,12 +29,24 @@ impl Writing {
         }
     }
 
-    /// One call of each, with this table and an output of so many bytes.
+    /// One call of each, if any are left, with this table and an output of so
+    /// many bytes.
     fn call(&mut self, run: &mut Run, table: &Table, room: usize) -> Compared {
-        if run.tally.is_over() {
-            return Ok(());
+        if !run.tally.is_over() {
+            let number = self.compare(&mut run.random, table, room)?;
+            run.tally.wrote(number);
         }
-        let rubbish = rubbish(&mut run.random);
+        Ok(())
+    }
+
+    /// One call of each; gives the answer's number.
+    pub fn compare(
+        &mut self,
+        random: &mut Random,
+        table: &Table,
+        room: usize,
+    ) -> Result<u8, String> {
+        let rubbish = rubbish(random);
         let words = self.words.lend(table.words.len(), rubbish);
         words.copy_from_slice(&table.words);
         let text = self.text.lend(table.text.len(), rubbish as u8);
@@ -57,8 +69,7 @@ impl Writing {
                 rows = table.rows,
             ));
         }
-        run.tally.wrote(by_library.number);
-        Ok(())
+        Ok(by_library.number)
     }
 
     fn difference(&self, table: &Table, library: Written, second: Written) -> Option<String> {

@@ -1,10 +1,14 @@
 //! Seeded makers of messages and tables, good and damaged, for comparisons.
 
+mod ascii;
 mod messages;
+mod structs;
 mod tables;
 
+pub use ascii::{decimal, doubtful, good};
 pub use messages::{BAD_TEXTS, beyond, damaged, message, valid};
-pub use tables::{Table, few_strings, output_length, table, writable};
+pub use structs::{key, row, structs};
+pub use tables::{Table, damage, few_strings, output_length, table, writable};
 
 /// A small seeded source of numbers (splitmix64).
 pub struct Random(u64);

@@ -209,7 +209,11 @@ mod tests {
     fn a_card_before_a_fault_still_reads() {
         let file = job(&[CARD, CARD]);
         for cut in 0..file.len() {
-            let first = if cut < 24 { refused(15, 0) } else { accepted(6) };
+            let first = if cut < 24 {
+                refused(15, 0)
+            } else {
+                accepted(6)
+            };
             assert_eq!(asked(&file[..cut], 0), first);
         }
     }

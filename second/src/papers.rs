@@ -1,5 +1,5 @@
-//! The messages of documents 01 and 002, and of document 02's faults, as byte
-//! strings with names.
+//! The messages of documents 01 and 002, and of document 02's faults, Doubles
+//! and dates, as byte strings with names.
 
 use crate::rules::{POSITIONS, PREFIX};
 
@@ -128,7 +128,7 @@ pub const ALL: [(&str, usize); 17] = [
 /// What a message goes on with after the prefix, a table's number of words,
 /// the refusal and its place.
 #[rustfmt::skip]
-pub const EDGES: [(&[u8], usize, u8, usize); 68] = [
+pub const EDGES: [(&[u8], usize, u8, usize); 86] = [
     // With no row left, 1 for no byte and 3 come first, then 9.
     (b"", 3, 1, 12),
     (b"x", 3, 3, 12),
@@ -161,6 +161,25 @@ pub const EDGES: [(&[u8], usize, u8, usize); 68] = [
     (b"RD\x01\x80", 16_384, 5, 13),
     (b"R8\x01\x80", 16_384, 5, 13),
     (b"RB\xff\xff\xff\xff\0", 16_384, 1, 13),
+    // Doubles and dates: their bytes are there, then ASCII, then right.
+    (b"RD\0", 16_384, 17, 13),
+    (b"RD\0", 4, 9, 13),
+    (b"RD\x012", 16_384, 17, 13),
+    (b"RD\x022.", 16_384, 17, 13),
+    (b"RD\x02.5", 16_384, 17, 13),
+    (b"RD\x03+.5", 16_384, 17, 13),
+    (b"RD\x03--2", 16_384, 17, 13),
+    (b"RD\x042.75", 4, 9, 13),
+    (b"RD\x052.7.5", 16_384, 17, 13),
+    (b"RD\x042,75", 16_384, 17, 13),
+    (b"RD\x042.7\x80", 16_384, 5, 13),
+    (b"RD\x05.7\x805", 16_384, 1, 13),
+    (b"R8\0", 16_384, 17, 13),
+    (b"R8\x1119980230T14:08:55", 16_384, 17, 13),
+    (b"R8\x1119980717T24:00:00", 16_384, 17, 13),
+    (b"R8\x1019980717T14:08:5", 16_384, 17, 13),
+    (b"R8\x1119980230T14:08:\xff5", 16_384, 5, 13),
+    (b"RA\x02\0\0\0D\x031.5D\x011", 16_384, 17, 23),
     // The parts of a Call and of a fault.
     (b"C", 16_384, 1, 13),
     (b"CI", 16_384, 3, 13),

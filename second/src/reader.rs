@@ -203,6 +203,13 @@ impl<'m> Reader<'m, '_> {
         if !content.is_ascii() {
             return refuse(refusal::TEXT, place);
         }
+        let is_right = match kind {
+            kind::DOUBLE => is_double(content),
+            _ => is_date_time(content),
+        };
+        if !is_right {
+            return refuse(refusal::DOUBLE_OR_DATE, place);
+        }
         let end = place + 2 + content.len();
         self.leaf(row, [kind, (place + 2) as u32, size.into()], end);
         Ok(())

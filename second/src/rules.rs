@@ -1,4 +1,5 @@
-//! The fixed numbers and names of the format: limits, row kinds, refusals.
+//! The fixed numbers and names of the format: limits, row kinds, refusals; and
+//! what the rules say of names, of a fault's members, of Doubles and of dates.
 
 /// Most bytes in a message, and in the bytes a writer's texts lie in.
 pub const BYTE_LIMIT: usize = 65_536;
@@ -57,6 +58,67 @@ pub fn has_fault_members(rows: &[[u32; ROW_WORDS]], text: &[u8]) -> bool {
     members == FAULT_MEMBERS
 }
 
+/// Whether ASCII bytes are a Double's: an optional sign, one digit or more, a
+/// point, one digit or more.
+pub fn is_double(text: &[u8]) -> bool {
+    let unsigned = match text {
+        [b'+' | b'-', rest @ ..] => rest,
+        _ => text,
+    };
+    let is_number = |part: &[u8]| !part.is_empty() && part.iter().all(u8::is_ascii_digit);
+    let mut parts = unsigned.split(|&byte| byte == b'.');
+    match (parts.next(), parts.next(), parts.next()) {
+        (Some(whole), Some(fraction), None) => is_number(whole) && is_number(fraction),
+        _ => false,
+    }
+}
+
+/// How a DateTime's bytes stand, with `0` for any digit.
+const DATE_TIME: &[u8; 17] = b"00000000T00:00:00";
+
+/// Whether ASCII bytes are a DateTime's, as `19980717T14:08:55` is: a day that
+/// the calendar has, and a time of that day.
+pub fn is_date_time(text: &[u8]) -> bool {
+    let stands = |(&byte, &form): (&u8, &u8)| match form {
+        b'0' => byte.is_ascii_digit(),
+        _ => byte == form,
+    };
+    if text.len() != DATE_TIME.len() || !text.iter().zip(DATE_TIME).all(stands) {
+        return false;
+    }
+    let number = |digits: &[u8]| {
+        let add = |number, digit: &u8| 10 * number + u32::from(digit - b'0');
+        digits.iter().fold(0, add)
+    };
+    let (year, month, day) = (number(&text[..4]), number(&text[4..6]), number(&text[6..8]));
+    let [hour, minute, second] = [9, 12, 15].map(|place| number(&text[place..place + 2]));
+    (1..=12).contains(&month)
+        && (1..=days_of(year, month)).contains(&day)
+        && hour <= 23
+        && minute <= 59
+        && second <= 59
+}
+
+/// How many days a month has, 1 to 12, of any year: from its first day to that
+/// of the next month.
+pub fn days_of(year: u32, month: u32) -> u32 {
+    let next = if month == 12 {
+        (year + 1, 1)
+    } else {
+        (year, month + 1)
+    };
+    first_day(next.0, next.1) - first_day(year, month)
+}
+
+/// The number of a month's first day in the Gregorian calendar, counted from a
+/// day 400 years before year 0. The count's years begin with March, so that a
+/// leap day is the last of its year, and their months take 153 days in five.
+fn first_day(year: u32, month: u32) -> u32 {
+    let year = year + 400 - u32::from(month < 3);
+    let month = (month + 9) % 12;
+    365 * year + year / 4 - year / 100 + year / 400 + (153 * month + 2) / 5
+}
+
 /// The first word of a row.
 pub mod kind {
     pub const CALL: u32 = 1;
@@ -81,6 +143,8 @@ pub mod refusal {
     pub const PREFIX: u8 = 2;
     /// A byte that begins nothing allowed there.
     pub const TAG: u8 = 3;
+    /// The room for pieces is too short.
+    pub const ROOM: u8 = 4;
     /// Bad UTF-8, or a byte of 128 or more in a Double or DateTime.
     pub const TEXT: u8 = 5;
     /// Recall of a position never set.
@@ -101,4 +165,6 @@ pub mod refusal {
     pub const OUTPUT: u8 = 13;
     /// A fault whose Struct has other members than a fault's.
     pub const FAULT: u8 = 14;
+    /// A Double or DateTime that is not written as one, or no day or time.
+    pub const DOUBLE_OR_DATE: u8 = 17;
 }

@@ -33,7 +33,7 @@ pub fn write(table: &[u32], rows: usize, text: &[u8], output: &mut [u8]) -> Writ
     }
 }
 
-type Row = [u32; ROW_WORDS];
+pub type Row = [u32; ROW_WORDS];
 
 /// Everything the written form needs.
 struct Plan<'t> {
@@ -47,7 +47,9 @@ fn plan<'t>(table: &'t [u32], rows: usize, text: &'t [u8], room: usize) -> Resul
     if text.len() > BYTE_LIMIT {
         return Err(refusal::BYTES);
     }
-    let (rows, mut strings) = check(table, rows, text).ok_or(refusal::TABLE)?;
+    let mut strings = Strings::default();
+    let note = |text| strings.note(text);
+    let rows = writable(table, rows, text, note).ok_or(refusal::TABLE)?;
     strings.give_positions();
     let others: usize = rows.iter().map(size_without_text).sum();
     let length = PREFIX.len() + others + strings.size();
@@ -66,6 +68,7 @@ fn plan<'t>(table: &'t [u32], rows: usize, text: &'t [u8], room: usize) -> Resul
 }
 
 /// The texts that stand as strings.
+#[derive(Default)]
 struct Strings<'t> {
     /// Each different text once, in order of first occurrence.
     texts: Vec<Text>,
@@ -161,22 +164,20 @@ fn size_without_text(&[kind, _, b, _]: &Row) -> usize {
     }
 }
 
-/// The stated rows and their strings, if the table is writable.
-fn check<'t>(table: &'t [u32], rows: usize, text: &'t [u8]) -> Option<(&'t [Row], Strings<'t>)> {
-    if !(1..=ROW_LIMIT).contains(&rows) {
+/// The stated rows, if the table is writable; notes the text of each string,
+/// as far as it goes.
+pub fn writable<'t>(
+    table: &'t [u32],
+    rows: usize,
+    text: &'t [u8],
+    note: impl FnMut(&'t [u8]),
+) -> Option<&'t [Row]> {
+    if !(1..=ROW_LIMIT).contains(&rows) || text.len() > BYTE_LIMIT {
         return None;
     }
     let (all, _) = table.as_chunks::<ROW_WORDS>();
     let rows = all.get(..rows)?;
-    let mut checker = Checker {
-        rows,
-        text,
-        strings: Strings {
-            texts: Vec::new(),
-            order: Vec::new(),
-            seen: HashMap::default(),
-        },
-    };
+    let mut checker = Checker { rows, text, note };
     let end = match rows[0] {
         [kind::CALL, 0, 2, _] => {
             let next = checker.item_of(kind::STRING, 1, 0)?;
@@ -190,16 +191,16 @@ fn check<'t>(table: &'t [u32], rows: usize, text: &'t [u8]) -> Option<(&'t [Row]
         _ => return None,
     };
     let whole = end == rows.len() && rows[0][3] as usize == end;
-    whole.then_some((rows, checker.strings))
+    whole.then_some(rows)
 }
 
-struct Checker<'t> {
+struct Checker<'t, N> {
     rows: &'t [Row],
     text: &'t [u8],
-    strings: Strings<'t>,
+    note: N,
 }
 
-impl Checker<'_> {
+impl<'t, N: FnMut(&'t [u8])> Checker<'t, N> {
     /// Checks the Value at row `at`, which stands in `nesting` Arrays and
     /// Structs; gives the row after it.
     fn value(&mut self, at: usize, nesting: usize) -> Option<usize> {
@@ -207,8 +208,11 @@ impl Checker<'_> {
         let next = match kind {
             kind::INTEGER if b == 0 => at + 1,
             kind::BOOLEAN if a <= 1 && b == 0 => at + 1,
-            kind::DOUBLE | kind::DATE_TIME if b <= SIZE_LIMIT => {
-                content(self.text, a, b)?.is_ascii().then_some(at + 1)?
+            kind::DOUBLE if b <= SIZE_LIMIT => {
+                is_double(content(self.text, a, b)?).then_some(at + 1)?
+            }
+            kind::DATE_TIME if b <= SIZE_LIMIT => {
+                is_date_time(content(self.text, a, b)?).then_some(at + 1)?
             }
             kind::BINARY => {
                 content(self.text, a, b)?;
@@ -232,7 +236,7 @@ impl Checker<'_> {
             kind::STRING => {
                 let text = content(self.text, a, b)?;
                 std::str::from_utf8(text).ok()?;
-                self.strings.note(text);
+                (self.note)(text);
                 at + 1
             }
             kind::OTHER if a == 0 && b == 2 => {

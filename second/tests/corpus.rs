@@ -17,7 +17,7 @@ fn messages() {
     for line in MESSAGES.lines() {
         assert_eq!(message_line_again(line).as_deref(), Some(line));
     }
-    let expected = HashSet::from(["0", "1", "2", "3", "5", "6", "7", "8", "9", "14"]);
+    let expected = HashSet::from(["0", "1", "2", "3", "5", "6", "7", "8", "9", "14", "17"]);
     assert_eq!(numbers(MESSAGES, 2), expected);
 }
 

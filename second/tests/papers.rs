@@ -1,4 +1,5 @@
-//! The messages of documents 01 and 002, and the rules' order, one by one.
+//! The messages of documents 01 and 002, and the rules' order, one by one; and
+//! what document 02 says of Doubles and dates.
 
 use second::papers::*;
 use second::rules::*;
@@ -274,6 +275,140 @@ fn order_within_an_item() {
     }
 }
 
+/// A Double or DateTime, accepted or refused with 17; the writer goes along.
+fn judged(tag: u8, text: &str, is_right: bool) {
+    let head = [b'R', tag, text.len() as u8];
+    let message = with_prefix(&[&head, text.as_bytes()].concat());
+    let kind = if tag == b'D' { 6 } else { 7 };
+    let length = text.len() as u32;
+    if is_right {
+        accepted(
+            &message,
+            message.len(),
+            &[[2, 0, 1, 2], [kind, 15, length, 2]],
+        );
+        assert_eq!(rewritten(&message), message);
+    } else {
+        refused(&message, 17, 13);
+        unwritable(&[2, 0, 1, 2, kind, 15, length, 2], 2, &message);
+    }
+}
+
+#[test]
+fn doubles() {
+    let longest = format!("+{}.1", "0".repeat(252));
+    for text in [
+        "2.75", "+2.75", "-2.75", "0.0", "-0.0", "00.00", "9.5", &longest,
+    ] {
+        judged(b'D', text, true);
+    }
+    for text in [
+        "",
+        "+",
+        "-",
+        ".",
+        "2",
+        "+2",
+        "2.",
+        ".75",
+        "-.75",
+        "+2.",
+        "2..75",
+        "2.7.5",
+        "2.75.",
+        "++2.75",
+        "2+.75",
+        "2.-75",
+        "2.75-",
+        " 2.75",
+        "2.75 ",
+        "2,75",
+        "2.75e1",
+        "inf",
+        "NaN",
+        "2.:5",
+        "/.75",
+        "2.75\0",
+        "19980717T14:08:55",
+    ] {
+        judged(b'D', text, false);
+    }
+}
+
+#[test]
+fn dates() {
+    for text in [
+        "19980717T14:08:55",
+        "00000101T00:00:00",
+        "99991231T23:59:59",
+        "00000229T00:00:00",
+        "20000229T00:00:00",
+        "19960229T00:00:00",
+        "16000229T23:00:59",
+        "19980131T00:59:00",
+        "19980430T00:00:00",
+        "19980831T00:00:00",
+    ] {
+        judged(b'8', text, true);
+    }
+    for text in [
+        "",
+        "19980717",
+        "19980717T14:08",
+        "19980717T14:08:5",
+        "19980717T14:08:555",
+        "19980717t14:08:55",
+        "19980717 14:08:55",
+        "19980717T14-08:55",
+        "19980717T14:08.55",
+        "1998-717T14:08:55",
+        "199807 7T14:08:55",
+        "+9980717T14:08:55",
+        "1998071:T14:08:55",
+        "19980717T14:08:5/",
+        "19980017T14:08:55",
+        "19981317T14:08:55",
+        "19980700T14:08:55",
+        "19980732T14:08:55",
+        "19980230T14:08:55",
+        "20000230T14:08:55",
+        "19000229T14:08:55",
+        "21000229T14:08:55",
+        "19990229T14:08:55",
+        "00010229T14:08:55",
+        "01000229T14:08:55",
+        "19980431T14:08:55",
+        "19980631T14:08:55",
+        "19980931T14:08:55",
+        "19981131T14:08:55",
+        "19980717T24:00:00",
+        "19980717T14:60:00",
+        "19980717T14:08:60",
+        "19980717T99:99:99",
+        "2.75",
+    ] {
+        judged(b'8', text, false);
+    }
+}
+
+#[test]
+fn every_month_of_the_calendar() {
+    // Independent of the rule's count: thirty days have September, April, June
+    // and November.
+    for year in 0..10_000 {
+        let leap = year % 4 == 0 && (year % 100 != 0 || year % 400 == 0);
+        for month in 1..=12 {
+            let days = match month {
+                2 if leap => 29,
+                2 => 28,
+                4 | 6 | 9 | 11 => 30,
+                _ => 31,
+            };
+            assert_eq!(days_of(year, month), days, "{year} {month}");
+        }
+    }
+}
+
 #[test]
 fn others() {
     for name in STANDARD_NAMES {
@@ -463,16 +598,22 @@ fn writable_words() {
     ] {
         unwritable(&value(kind, a, b), 2, &[b'x'; 300]);
     }
-    for (kind, a, b) in [
-        (6, 0, 255),
-        (7, 45, 255),
-        (8, 300, 0),
-        (11, 300, 0),
-        (11, 0, 300),
-    ] {
+    for (kind, a, b) in [(8, 300, 0), (11, 300, 0), (11, 0, 300)] {
         let (answer, _) = write_into(&value(kind, a, b), 2, &[b'x'; 300], 400);
         assert!(matches!(answer, Write::Accepted { .. }));
     }
+    let longest = [&[b'7'; 200][..], b".", &[b'5'; 99]].concat();
+    for (kind, a, b, text) in [
+        (6, 0, 255, &longest[..]),
+        (6, 198, 4, &longest),
+        (7, 3, 17, b"at 19980717T14:08:55"),
+    ] {
+        let (answer, _) = write_into(&value(kind, a, b), 2, text, 400);
+        assert!(matches!(answer, Write::Accepted { .. }));
+    }
+    unwritable(&value(6, 0, 256), 2, &longest);
+    unwritable(&value(6, 0, 201), 2, &longest);
+    unwritable(&value(7, 2, 17), 2, b"at 19980717T14:08:55");
     unwritable(&value(11, 0, 1), 2, b"\xc3\xa9");
     unwritable(&value(6, 0, 2), 2, b"\xc3\xa9");
     // Two rows of kind 2.

@@ -1,6 +1,7 @@
 pub mod Accepting
 pub mod Cases
 pub mod Jobs
+pub mod Lookups
 pub mod Pieces
 pub mod Reading
 pub mod Settled

@@ -9,9 +9,11 @@
 compile_error!("the proved library is built for x86-64 Linux");
 
 mod job;
+mod lookup;
 mod pieces;
 
 pub use job::{CardAnswer, CardFound, next_card, read_card};
+pub use lookup::{Lookup, Position, lookup, position};
 pub use pieces::{Pieces, Progress};
 
 /// Most bytes in a message, and in the bytes a writer's texts lie in.
@@ -58,6 +60,10 @@ pub mod number {
     pub const WRONG_END: u8 = 16;
     /// A Double or DateTime in ASCII that is no such text, as `5.` or 30 February.
     pub const BAD_VALUE: u8 = 17;
+    /// The row is no Struct, or the member is absent or of the wrong sort.
+    pub const NO_MEMBER: u8 = 18;
+    /// A Double of more than 15 digits, or of more than 22 after the point.
+    pub const TOO_MANY_DIGITS: u8 = 19;
     /// A key that its Struct has already, compared as bytes.
     pub const REPEATED_KEY: u8 = 20;
     /// A sound job ends before the card asked for.

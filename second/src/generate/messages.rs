@@ -1,6 +1,7 @@
 //! Messages: good ones, ones just over a limit, and damaged ones.
 
 use super::Random;
+use super::ascii::{doubtful, good};
 use crate::rules::*;
 
 /// Bad UTF-8 of each sort.
@@ -171,6 +172,7 @@ pub(super) fn near_or_huge(random: &mut Random, value: u32) -> u32 {
 enum Flaw {
     BadText,
     NotAscii,
+    DoubleOrDate,
     StandardName,
     UnsetRecall,
     WrongTag,
@@ -180,9 +182,10 @@ enum Flaw {
 }
 
 impl Flaw {
-    const ALL: [Flaw; 8] = [
+    const ALL: [Flaw; 9] = [
         Flaw::BadText,
         Flaw::NotAscii,
+        Flaw::DoubleOrDate,
         Flaw::StandardName,
         Flaw::UnsetRecall,
         Flaw::WrongTag,
@@ -293,7 +296,10 @@ impl<'r> Builder<'r> {
         self.items = self.items.saturating_sub(1);
         match self.flaw {
             Some(Flaw::StandardName) if self.random.one_in(3) => return self.other(),
-            Some(Flaw::NotAscii) if self.random.one_in(3) => return self.ascii(b'D'),
+            Some(Flaw::NotAscii | Flaw::DoubleOrDate) if self.random.one_in(3) => {
+                let tag = *self.random.pick(b"D8");
+                return self.ascii(tag);
+            }
             _ => {}
         }
         let leaves_only = self.items == 0 || nesting >= NESTING_LIMIT;
@@ -326,18 +332,17 @@ impl<'r> Builder<'r> {
     }
 
     fn ascii(&mut self, tag: u8) {
-        let mut content = match self.random.below(6) {
-            0 => b"2.75".to_vec(),
-            1 => b"19980717T14:08:55".to_vec(),
-            2 => Vec::new(),
-            3 => self.random.bytes(255),
-            _ => {
-                let count = self.random.below(12);
-                self.random.bytes(count)
-            }
+        let mut content = if self.goes_wrong(Flaw::DoubleOrDate) {
+            doubtful(self.random, tag)
+        } else {
+            good(self.random, tag)
         };
-        content.iter_mut().for_each(|byte| *byte &= 127);
-        if !content.is_empty() && self.goes_wrong(Flaw::NotAscii) {
+        if self.goes_wrong(Flaw::NotAscii) {
+            // Wrong in the other way too, now and then.
+            if self.random.one_in(3) {
+                content = doubtful(self.random, tag);
+            }
+            content.resize(content.len().max(1), 0);
             let place = self.random.below(content.len());
             content[place] = *self.random.pick(b"\x80\xa9\xc3\xff");
         }
@@ -621,7 +626,7 @@ fn many_rows(random: &mut Random, least: usize, most: usize) -> Vec<u8> {
         match builder.random.below(5) {
             0 => builder.integer(),
             1 => builder.bytes.extend([b'<', 0]),
-            2 => builder.bytes.extend(b"D\x012"),
+            2 => builder.bytes.extend(b"D\x031.5"),
             3 => builder.bytes.extend(b"B\0\0\0\0"),
             _ => builder.bytes.push(*builder.random.pick(b"tf")),
         }

@@ -1,6 +1,7 @@
 //! Tables for the writer: read from messages, made up, and damaged.
 
 use super::Random;
+use super::ascii::{doubtful, good};
 use super::messages::{near_or_huge, valid};
 use crate::reader::{Read, read};
 use crate::rules::*;
@@ -74,24 +75,24 @@ fn from_message(random: &mut Random) -> Table {
 }
 
 /// Rows put one after the other, with their ends set when they close.
-struct Rows(Vec<[u32; ROW_WORDS]>);
+pub(super) struct Rows(pub(super) Vec<[u32; ROW_WORDS]>);
 
 impl Rows {
-    fn leaf(&mut self, kind: u32, a: usize, b: usize) {
+    pub(super) fn leaf(&mut self, kind: u32, a: usize, b: usize) {
         let end = self.0.len() as u32 + 1;
         self.0.push([kind, a as u32, b as u32, end]);
     }
 
-    fn open(&mut self, kind: u32, b: usize) -> usize {
+    pub(super) fn open(&mut self, kind: u32, b: usize) -> usize {
         self.leaf(kind, 0, b);
         self.0.len() - 1
     }
 
-    fn close(&mut self, row: usize) {
+    pub(super) fn close(&mut self, row: usize) {
         self.0[row][3] = self.0.len() as u32;
     }
 
-    fn finish(self, text: Vec<u8>) -> Table {
+    pub(super) fn finish(self, text: Vec<u8>) -> Table {
         Table {
             rows: self.0.len(),
             words: self.0.into_iter().flatten().collect(),
@@ -106,10 +107,10 @@ pub fn few_strings(random: &mut Random, most: usize) -> Table {
     if most >= 3 && random.one_in(4) {
         return fault(random, 2, true);
     }
-    let text = "aaaa\u{e9}aab2.75ab\u{e9}\u{1f600}aa".as_bytes().to_vec();
-    let whole = String::from_utf8_lossy(&text).into_owned();
-    let mut edges: Vec<usize> = whole.char_indices().map(|(at, _)| at).collect();
-    edges.push(text.len());
+    let strings = "aaaa\u{e9}aab2.75ab\u{e9}\u{1f600}aa";
+    let mut edges: Vec<usize> = strings.char_indices().map(|(at, _)| at).collect();
+    edges.push(strings.len());
+    let text = [strings.as_bytes(), &good(random, b'8')].concat();
     let longest = random.between(0, 3);
     let mut rows = Rows(Vec::new());
     let mut left = most;
@@ -139,8 +140,8 @@ pub fn few_strings(random: &mut Random, most: usize) -> Table {
         match random.below(if left > 0 { 9 } else { 5 }) {
             0 => rows.leaf(kind::INTEGER, random.word() as u32 as usize, 0),
             1 => rows.leaf(kind::BOOLEAN, random.below(2), 0),
-            2 => rows.leaf(kind::DOUBLE, 9, random.between(0, 4)),
-            3 => rows.leaf(kind::DATE_TIME, 0, random.between(0, 4)),
+            2 => rows.leaf(kind::DOUBLE, 9, random.between(3, 4)),
+            3 => rows.leaf(kind::DATE_TIME, strings.len(), 17),
             4 => {
                 let start = random.between(0, text.len());
                 rows.leaf(kind::BINARY, start, random.between(0, text.len() - start));
@@ -312,9 +313,10 @@ fn near_the_limit(random: &mut Random) -> Table {
     rows.finish(text)
 }
 
-/// Damages one word, the number of rows, the words or the text bytes.
-pub(super) fn damage(random: &mut Random, table: &mut Table) {
-    match random.below(20) {
+/// Damages one word, the number of rows, the words or the text bytes, or the
+/// text of a Double or DateTime.
+pub fn damage(random: &mut Random, table: &mut Table) {
+    match random.below(24) {
         0 => {
             const FAR: [usize; 5] = [0, ROW_LIMIT, ROW_LIMIT + 1, usize::MAX, usize::MAX / 4 + 1];
             table.rows = match random.below(3) {
@@ -342,6 +344,7 @@ pub(super) fn damage(random: &mut Random, table: &mut Table) {
                 table.rows -= 1;
             }
         }
+        6..10 => damage_double_or_date(random, table),
         _ => {
             if table.words.is_empty() {
                 return;
@@ -354,4 +357,25 @@ pub(super) fn damage(random: &mut Random, table: &mut Table) {
             };
         }
     }
+}
+
+/// Gives a Double or DateTime, if there is one, another text behind the others.
+fn damage_double_or_date(random: &mut Random, table: &mut Table) {
+    let (rows, _) = table.words.as_chunks_mut::<ROW_WORDS>();
+    let mut found: Vec<&mut [u32; ROW_WORDS]> = rows
+        .iter_mut()
+        .filter(|row| [kind::DOUBLE, kind::DATE_TIME].contains(&row[0]))
+        .collect();
+    if found.is_empty() {
+        return;
+    }
+    let chosen = random.below(found.len());
+    let [kind, offset, length, _] = &mut *found[chosen];
+    let tag = if *kind == kind::DOUBLE { b'D' } else { b'8' };
+    let text = match random.below(4) {
+        0 => good(random, tag),
+        _ => doubtful(random, tag),
+    };
+    (*offset, *length) = (table.text.len() as u32, text.len() as u32);
+    table.text.extend(text);
 }

@@ -1,0 +1,123 @@
+//! How long looking up a member and a position takes, by the library and by
+//! the second implementation: `cargo run --release --bin bench-lookup`.
+
+#[path = "../library.rs"]
+mod library;
+
+use second::rules::{PREFIX, ROW_LIMIT, ROW_WORDS};
+use second::{Read, lookup};
+use std::hint::black_box;
+use std::time::Instant;
+
+/// Rounds of a line; in each, both take their turn.
+const ROUNDS: usize = 201;
+/// Calls of a turn.
+const CALLS: usize = 40;
+const MEMBERS: usize = 300;
+
+fn main() {
+    println!(
+        "Time of a call in microseconds, the median of {ROUNDS} rounds in which both take turns; the ratio is the\n\
+         median of the rounds' ratios, library to second: below 1, the library is faster.\n\
+         A card of {MEMBERS} members with keys that all differ, the last of them x, y and turn. Each call tests first\n\
+         that the table is writable, and that is timed.\n"
+    );
+    println!("{:34} {:>9} {:>9} {:>6}", "", "library", "second", "ratio");
+    let card = Card::new();
+    card.time_member("lookup, the first member", "holder 0");
+    card.time_member("lookup, the last member", "turn");
+    card.time_member("lookup, an absent member", "turns");
+    card.time_position("position");
+}
+
+/// A card in the Struct of row 1.
+struct Card {
+    table: Vec<u32>,
+    rows: usize,
+    text: Vec<u8>,
+}
+
+impl Card {
+    fn new() -> Self {
+        let mut text = [PREFIX, &b"R"[..], &field(b'S', MEMBERS)].concat();
+        for member in 0..MEMBERS - 3 {
+            let (name, value) = match member % 6 {
+                0 => ("holder", string("HOLDER")),
+                1 => ("expires", b"8\x1119991231T23:59:59".to_vec()),
+                2 => ("serial", field(b'I', member)),
+                3 => ("active", b"t".to_vec()),
+                4 => ("limit", b"D\x052.750".to_vec()),
+                _ => (
+                    "track",
+                    [field(b'B', 4), b"\0\x01\xff\xfe".to_vec()].concat(),
+                ),
+            };
+            text.extend([string(&format!("{name} {member}")), value].concat());
+        }
+        for (name, value) in [
+            ("x", "D\x0612.125"),
+            ("y", "D\x05-0.75"),
+            ("turn", "D\x0490.0"),
+        ] {
+            text.extend([&string(name), value.as_bytes()].concat());
+        }
+        let mut table = vec![0; ROW_LIMIT * ROW_WORDS];
+        match second::read(&text, &mut table) {
+            Read::Accepted { rows, .. } => Card { table, rows, text },
+            answer => panic!("{answer:?}"),
+        }
+    }
+
+    fn time_member(&self, name: &str, key: &str) {
+        let (table, rows, text, key) = (&self.table[..], self.rows, &self.text[..], key.as_bytes());
+        let library = || {
+            black_box(library::lookup(1, black_box(table), rows, text, 1, key));
+        };
+        let second = || {
+            let _ = black_box(lookup::lookup(black_box(table), rows, text, 1, key));
+        };
+        time(name, library, second);
+    }
+
+    fn time_position(&self, name: &str) {
+        let (table, rows, text) = (&self.table[..], self.rows, &self.text[..]);
+        let library = || {
+            black_box(library::position(1, black_box(table), rows, text, 1));
+        };
+        let second = || {
+            let _ = black_box(lookup::position(black_box(table), rows, text, 1));
+        };
+        time(name, library, second);
+    }
+}
+
+fn field(tag: u8, value: usize) -> Vec<u8> {
+    let mut bytes = vec![tag];
+    bytes.extend((value as u32).to_le_bytes());
+    bytes
+}
+
+fn string(text: &str) -> Vec<u8> {
+    [field(b'U', text.len()), text.into()].concat()
+}
+
+/// Times both in turns, and prints the line.
+fn time(name: &str, library: impl Fn(), second: impl Fn()) {
+    let turn = |call: &dyn Fn()| {
+        let start = Instant::now();
+        (0..CALLS).for_each(|_| call());
+        start.elapsed().as_secs_f64() * 1e6 / CALLS as f64
+    };
+    let rounds: Vec<[f64; 3]> = (0..ROUNDS)
+        .map(|_| {
+            let (library, second) = (turn(&library), turn(&second));
+            [library, second, library / second]
+        })
+        .collect();
+    let [library, second, ratio] = [0, 1, 2].map(|column| {
+        let mut numbers: Vec<f64> = rounds.iter().map(|round| round[column]).collect();
+        numbers.sort_by(f64::total_cmp);
+        numbers[ROUNDS / 2]
+    });
+    println!("{name:34} {library:>9.2} {second:>9.2} {ratio:>6.2}");
+}

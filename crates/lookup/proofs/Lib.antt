@@ -1,0 +1,3 @@
+-- The laws of `lookup`.
+pub mod Looking
+pub mod Reporting

@@ -1,0 +1,3 @@
+-- What a lookup answers is what the draft derives.
+pub mod Structs
+pub mod Saying

@@ -1,0 +1,2 @@
+-- The laws of `member`.
+pub mod Finding

@@ -1,0 +1,3 @@
+-- The laws of `position`.
+pub mod Settling
+pub mod Together
