@@ -215,8 +215,8 @@ uint8_t binmode_pieces_end(struct binmode_pieces *state, const uint8_t *room, si
                            size_t table_words);
 
 /*
- * Looking up. A member of a Struct is a key and a value; it is asked for by the bytes of its key, and no two of a Struct
- * answers. Both functions take any table, as binmode_write does, and judge it first: one that is not writable is refused, so
+ * Looking up. A member of a Struct is a key and a value; it is asked for by the bytes of its key, which no other member
+ * of the Struct has. Both functions take any table, as binmode_write does, and judge it first: one that is not writable is refused, so
  * nothing has to be tested before. For a table made by binmode_read, the text bytes are the message.
  *
  * The sorts of answers.

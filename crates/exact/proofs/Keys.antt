@@ -47,7 +47,7 @@ abbrev Apart : Texts → Texts → Type 0
 Apart seen ts = (i j : ℕ) → i < length ts → j < length seen → getD seen j [] ≡ getD ts i [] → ⊥
 
 -- no two of them are equal
-abbrev Distinct : Texts → Type 0
+abbrev pub Distinct : Texts → Type 0
 Distinct ts = (i j : ℕ) → i < j → j < length ts → getD ts i [] ≡ getD ts j [] → ⊥
 
 rule-by : (seen : Texts) (t : List ℕ) → keyRule seen t ≡ Fine → among seen t ≡ false

@@ -1,3 +1,4 @@
 -- What a lookup answers is what the draft derives.
 pub mod Structs
 pub mod Saying
+pub mod Only
