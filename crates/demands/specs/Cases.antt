@@ -2,6 +2,7 @@
 -- single statement.
 -- Assumes nothing.
 use mathlib.Core.Path.{_≡_, refl}
+use mathlib.Core.Bool.{true, false}
 use mathlib.Core.List.{List, [], _∷_, _++_}
 use Prim.Native.Nat.{ℕ, _-_, _*_}
 use Prim.Native.String.{String}
@@ -18,6 +19,7 @@ use Rattle.draft.specs.Content.{contentRule, verdict, nameRule, keyRule, heldOf
 use Rattle.draft.specs.Codebook.{recorded}
 use Rattle.draft.specs.Table.{place, setRow, putRows, rowAt, from}
 use Rattle.draft.specs.Read.{Reading, got, refused as unread, pair, items, alike, nothing, tagOf, contents, string, only, stringBy, key, member, keeping, value, nested, heldRows, faultStruct, callOrResponse, agree, message, messageWithin}
+use Rattle.draft.specs.Writable.{pair as walkPair, items as walkItems, contentItem, only as walkOnly, string as walkString, stringBy as walkStringBy, member as walkMember, keeping as walkKeeping, value as walkValue, callOrResponse as walk, writableWithin, writable}
 use Rattle.draft.specs.Strings.{textsOf, repeats, position, sents}
 use Rattle.draft.specs.Written.{lsb, counted, stringBytes, itemBytes, itemsOf, messageOf, written, rowsOf}
 use Rattle.reader.specs.Answers.{reading, answerOf, tableOf, Report, reportOf}
@@ -200,3 +202,11 @@ given (c ∷ cs) = outcomeOf (c .sent) (c .words) (reading (c .sent) (c .words))
 pub cases-read : given cases ≡ expected cases
 unfolding cases reading messageWithin message agree callOrResponse faultStruct heldRows heldOf isCode isMessage isFault faultRule nested value keeping member key stringBy only string contents tagOf nothing alike items pair putRows setRow place recorded keyRule nameRule verdict contentRule isDouble unsigned pointed someDigits sign isDateTime parted isTime pairTo isDate isDay monthDays leap two twoDigits digits digit standardName among same ascii wellFormed octets step dueAfter dueBy within rowAt from rowsOf itemOf textsOf repeats position sents lsb counted stringBytes itemBytes itemsOf messageOf written
 cases-read = refl
+
+-- A table of two members whose keys lie at different places: it is not writable if they are the same bytes, and writable if they differ.
+abbrev keyed : List Row
+keyed = row 2 0 1 6 ∷ row 10 0 2 6 ∷ row 11 0 1 3 ∷ row 5 1 0 4 ∷ row 11 1 1 5 ∷ row 5 0 0 6 ∷ []
+
+pub keys-judged : (writable (wordsOf keyed) 6 (bytes "aa") ≡ false) × (writable (wordsOf keyed) 6 (bytes "ab") ≡ true)
+unfolding writable writableWithin walk walkValue walkItems walkMember walkPair walkKeeping walkStringBy walkString walkOnly contentItem place rowAt itemOf keyRule among same verdict contentRule wellFormed octets step dueAfter dueBy within
+keys-judged = (refl, refl)

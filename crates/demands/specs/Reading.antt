@@ -4,12 +4,12 @@ use mathlib.Core.Path.{_≡_, refl, ap, _∙_}
 use mathlib.Core.Bool.{Bool, true, false}
 use mathlib.Core.Logic.{_↔_, _≢_, Iff·trans}
 use mathlib.Core.List.{List, [], _∷_, _++_}
-use Prim.Native.Nat.{ℕ, suc, _≤_, _<_}
+use Prim.Native.Nat.{ℕ, suc, _+_, _≤_, _<_}
 use native.Mathlib.Omega.{arith}
 use lib.ListN.{length, getD}
 use Rattle.text.specs.Rfc3629.{UTF8-octets}
 use Rattle.text.specs.Utf8.{wellFormed}
-use Rattle.text.specs.Texts.{ascii, same}
+use Rattle.text.specs.Texts.{ascii, same, among}
 use Rattle.text.proofs.Comparing.{clash}
 use Rattle.text.proofs.Grammar.{accepted, derived}
 use Rattle.lexical.specs.Double.{isDouble}
@@ -23,10 +23,10 @@ use Rattle.draft.specs.declared.Verdict.the-variants.{Fine}
 use Rattle.draft.specs.declared.Content.the-variants as content
 use Rattle.draft.specs.declared.Row.{Row}
 use Rattle.draft.specs.Bytes.{bytes}
-use Rattle.draft.specs.Content.{contentRule, asciiThen, Held, string, integer, isCode, isMessage, isFault, faultRule}
+use Rattle.draft.specs.Content.{contentRule, asciiThen, keyRule, Held, string, integer, isCode, isMessage, isFault, faultRule}
 use Rattle.draft.specs.Codebook.{Book}
 use Rattle.draft.specs.Table.{roomOf}
-use Rattle.draft.specs.Read.{Reading, got, refused, message, messageWithin}
+use Rattle.draft.specs.Read.{Reading, got, refused, Reader, behind, pair, string as readString, firstText, stringBy, key, member, message, messageWithin}
 use Rattle.draft.specs.Grammar.{Cell, Sent, Keeps, Begins, Pairs, no-pairs, more-pairs, Pair}
 use Rattle.draft.specs.Meaning.{MeanSame, Realises}
 use Rattle.reader.specs.Answers.{reading}
@@ -251,6 +251,22 @@ distinct-keys = (
         → Pairs d seen (length keys) xs cs fs
     made none no-key = no-pairs
     made (more p ps e f g) (new-key k h) = more-pairs p k (made ps h) e f g
+
+-- 20 IN ITS ORDER, of a pair behind those whose keys were seen, whatever reads its value: what the key itself gives comes first; then 20 at the
+-- key's place if it was seen; and else the value is read behind it.
+module _ (s : List ℕ) (room : ℕ) (value : Reader) (seen : List (List ℕ)) (at r : ℕ) (book : Book) where
+  pub key-refused : {m : Refusal} {place : ℕ} → readString s room at r book ≡ refused m place → member s room value seen at r book ≡ refused m place
+  unfolding member pair key stringBy
+  key-refused e = rw e
+
+  module _ {rows : List Row} {to : ℕ} {book′ : Book} (e : readString s room at r book ≡ got rows to book′) where
+    pub key-repeated : among seen (firstText s room rows) ≡ true → member s room value seen at r book ≡ refused RepeatedKey at
+    unfolding member pair key stringBy keyRule
+    key-repeated h = rw (e, h)
+
+    pub key-new : among seen (firstText s room rows) ≡ false → member s room value seen at r book ≡ behind rows (value to (r + length rows) book′)
+    unfolding member pair key stringBy keyRule
+    key-new h = rw (e, h)
 
 -- FAULTS. What the grammar asks of a fault's Struct: the items below it are a faultCode, an Integer, and a faultString, a String, in either order,
 -- and no more.
