@@ -126,7 +126,10 @@ keys-move t t′ W W′ o (suc n) p q = rw (p n (omega arith)) (go (eqb (ownerOf
     go true e i = rw (q n (omega arith) (eqb-true (ownerOf W n) o e), i)
     go false e i = i
 
-module _ {t : ℕ → Text} {W : List ℕ} {owner row : ℕ} (a : Noted t W row) {u : Text} {h : ℕ} (eu : u ≡ t row) (eh : h ≡ bucketOf (length W / 3) owner u) (en : Entry owner row (length W)) where
+module _ {t : ℕ → Text} {W : List ℕ} {owner row : ℕ} (a : Noted t W row) {u : Text} {h m : ℕ} (eu : u ≡ t row) (bu : h ≡ bucketOf (m / 3) owner u) (em : m ≡ length W) (en : Entry owner row (length W)) where
+  eh : h ≡ bucketOf (length W / 3) owner u
+  eh = bu ∙ rw em
+
   -- a chain before its walk
   pub note-ahead : {c : ℕ} → c ≡ headOf W h → Ahead t W owner row c u
   note-ahead e =
@@ -142,7 +145,10 @@ module _ {t : ℕ → Text} {W : List ℕ} {owner row : ℕ} (a : Noted t W row)
   note-again q e = record { says = sym (rw eu at (sym q ∙ e)); added = λ f. clash refl f }
 
   -- a new key, put in front on its bucket's chain
-  module _ (lh : h < length W / 3) {b : Bool} (q : b ≡ among (keysOf t W owner row) u) (new : b ≡ false) where
+  module _ (lm : h < m / 3) {b : Bool} (q : b ≡ among (keysOf t W owner row) u) (new : b ≡ false) where
+    lh : h < length W / 3
+    lh = rw em at lm
+
     abbrev W₁ : List ℕ
     W₁ = set W (row * 3 + 1) (headOf W h)
 

@@ -6,8 +6,8 @@ use mathlib.Core.List.{List, [], _∷_}
 use native.Mathlib.Omega.{arith}
 use native.Mathlib.Numerals.{add-one}
 use lib.ListN.{length, getD, replicate}
-use lib.Dec.{eqb}
-use borrow.Author.Tests.{eqb-true, eqb-false, ne-eqb}
+use lib.Dec.{eqb, ltb}
+use borrow.Author.Tests.{eqb-true, eqb-false, ne-eqb, ltb-true, ltb-false}
 use Rattle.draft.specs.Strings.{Text}
 use Rattle.spread.specs.Buckets.{bucketOf}
 use Rattle.keys.specs.Notes.{headOf, linkOf, ownerOf, named, keepIf, keysOf, On, Noted, Rows, Entry, Added, Keeps}
@@ -32,9 +32,17 @@ keys-first {t} {W} {free} a = none free (omega arith)
     none zero l = refl
     none (suc n) l = rw (ne-eqb (ownerOf W n) free (λ e. omega (arith, e, a .owners n))) (none n (omega arith))
 
+-- a key has a row below `free`
+pub key-below : {t : ℕ → Text} {W : List ℕ} {free : ℕ} → Noted t W free → (k : ℕ) → 0 < ownerOf W k → k < free
+key-below {W = W} {free} a k h = go (ltb k free) refl
+  where
+    go : (b : Bool) → ltb k free ≡ b → k < free
+    go true e = ltb-true k free e
+    go false e = omega (arith, a .blank k (ltb-false k free e))
+
 -- rows stored from `first` on, or in the place of a row that is no key, leave the texts of keys
 module _ {t t′ : ℕ → Text} {W : List ℕ} {first : ℕ} (a : Noted t W first) (e : (k : ℕ) → 0 < ownerOf W k → t′ k ≡ t k) where
-  noted-move : (free : ℕ) → first ≤ free → Noted t′ W free
+  pub noted-move : (free : ℕ) → first ≤ free → Noted t′ W free
   noted-move free h =
       record {
         heads = λ b. omega (arith, a .heads b);
@@ -61,6 +69,15 @@ keeps-then a h b =
       keys = λ o p l. b .keys o p (omega arith) ∙ a .keys o p l;
     }
 
+-- and a row that is no key stored anew
+pub keeps-moved : {t t₁ t₂ : ℕ → Text} {W W₁ : List ℕ} {first free : ℕ} → Keeps t t₁ W W₁ first free → ((k : ℕ) → 0 < ownerOf W₁ k → t₂ k ≡ t₁ k) → Keeps t t₂ W W₁ first free
+keeps-moved {t₁ = t₁} {t₂} {W₁ = W₁} {free = free} a e =
+    record {
+      noted = noted-move (a .noted) e free (omega arith);
+      owners = a .owners;
+      keys = λ o p l. keys-move t₁ t₂ W₁ W₁ o free (λ k m. refl) (λ k m q. e k (omega (arith, q))) ∙ a .keys o p l;
+    }
+
 -- no key yet
 zeros : (n i : ℕ) → _≡_ {A = ℕ} (getD (replicate n 0) i 0) 0
 zeros zero i = refl
@@ -76,3 +93,6 @@ noted-none t words free =
       blank = λ k l. zeros words (k * 3 + 2);
       on = λ k l. absurd (omega (arith, zeros words (k * 3 + 2)));
     }
+
+pub noted-blank : {t : ℕ → Text} {W : List ℕ} {free : ℕ} → W ≡ replicate (length W) 0 → Noted t W free
+noted-blank {t} {W} {free} e = rw (sym e) at (noted-none t (length W) free)

@@ -84,3 +84,11 @@ pub record Keeps (t t′ : ℕ → Text) (W W′ : List ℕ) (first free : ℕ) 
   pub noted : Noted t′ W′ free
   pub owners : (k : ℕ) → k < first → ownerOf W′ k ≡ ownerOf W k
   pub keys : (o : ℕ) → 0 < o → o < first → keysOf t′ W′ o free ≡ keysOf t W o first
+
+-- rows from `first` up to `free` that begin with an owner's key: it is noted, and the keys of others stay what they were
+pub record Joins (t t′ : ℕ → Text) (W W′ : List ℕ) (owner first free : ℕ) : Type 0 where
+  pub on : first < free
+  pub noted : Noted t′ W′ free
+  pub owners : (k : ℕ) → k < first → ownerOf W′ k ≡ ownerOf W k
+  pub mine : keysOf t′ W′ owner free ≡ t′ first ∷ keysOf t W owner first
+  pub others : (o : ℕ) → 0 < o → o < first → (o ≡ owner → ⊥) → keysOf t′ W′ o free ≡ keysOf t W o first
