@@ -13,4 +13,5 @@ read-call-spec = tie.close (tie.spec
     (λ c κs. (search calling, search needs, search needs, search needs))  -- close-requires
     (λ c. search needs)  -- same-length
     (λ c. search needs)  -- same-length-2
+    (λ c. search needs)  -- same-length-3
     (λ c. search calling))  -- returns-2

@@ -8,9 +8,11 @@ read-fault-struct-spec = tie.close (tie.spec
     (λ c κs. search needs)  -- read-struct-only-requires
     (λ c. search needs)  -- same-length
     (λ c. search needs)  -- same-length-2
+    (λ c. search needs)  -- same-length-3
     (λ c. search faults)  -- returns
     (λ c κs. (search needs, search faults, search needs, search needs))  -- judge-requires
     (λ c κs. search needs)  -- judged-requires
-    (λ c. search needs)  -- same-length-3
     (λ c. search needs)  -- same-length-4
+    (λ c. search needs)  -- same-length-5
+    (λ c. search needs)  -- same-length-6
     (λ c. search faults))  -- returns-2
