@@ -169,7 +169,7 @@ one {P} {s} {room} {at} {r} {R} {rows} {to} {book} {x} {to₀} {book₀} {used} 
       fits = rw (← i) (omega arith);
     }
 
--- productions of one row, and an Other's name
+-- productions of one row, and a String that keeps a rule
 pub data OneString : List ℕ → List Cell → List Sent → Type 0 where
   one-string : {xs t : List ℕ} {f : Sent} → String xs t f → OneString xs (content-cell content.Text t ∷ []) (f ∷ [])
 
