@@ -157,6 +157,52 @@ uint8_t binmode_next_card(const uint8_t *file, size_t file_len, size_t number, s
                           uint64_t *length, uint64_t *place);
 
 /*
+ * Looking up. A member of a Struct is a key and a value; it is asked for by the bytes of its key, which no other member
+ * of the Struct has. Both functions take any table, as binmode_write does, and judge it first: one that is not writable is refused, so
+ * nothing has to be tested before. For a table made by binmode_read, the text bytes are the message.
+ *
+ * The sorts of answers.
+ */
+#define BINMODE_WHOLE_NUMBER 1 /* an Integer, signed */
+#define BINMODE_DECIMAL 2      /* a Double */
+#define BINMODE_YES_OR_NO 3    /* a Boolean */
+#define BINMODE_TEXT 4         /* a String */
+#define BINMODE_ITEM 5         /* a DateTime, Binary, Array, Struct or Other, by its row */
+
+/*
+ * Looks up a member of a Struct.
+ *
+ *   table, table_words    the table; words after the stated rows are not looked at
+ *   rows                  the stated number of rows
+ *   text, text_len        the bytes in which the contents lie
+ *   row                   the Struct's row
+ *   key, key_len          the bytes of the key
+ *   sort                  is set to the sort of the answer; 0 on a refusal
+ *   number                is set to the whole number, to 1 or 0 for yes or no, or to the other item's row; else to 0
+ *   decimal               is set to the decimal; else to plus zero. Its value is the double nearest to the number that the text
+ *                         says, with its sign, so `-0.0` is minus zero
+ *   offset, length        are set to where the text lies in the text bytes; else to 0
+ *
+ * Gives BINMODE_ACCEPTED, or a refusal's number, tested in this order: BINMODE_NOT_WRITABLE, also for more than 65,536 text
+ * bytes; BINMODE_NO_MEMBER; BINMODE_TOO_MANY_DIGITS, where leading zeros are not counted. Each has place 0.
+ */
+uint8_t binmode_lookup(const uint32_t *table, size_t table_words, size_t rows, const uint8_t *text, size_t text_len,
+                       size_t row, const uint8_t *key, size_t key_len, uint8_t *sort, int64_t *number, double *decimal,
+                       uint64_t *offset, uint64_t *length);
+
+/*
+ * The position in a Struct: its members `x`, `y` and `turn`, each a Double, as three calls of binmode_lookup give them; the table
+ * is judged once. The parameters are those of binmode_lookup.
+ *
+ *   x, y, turn            are set to the position; to plus zero, all three, on a refusal
+ *
+ * Gives BINMODE_ACCEPTED, or BINMODE_NOT_WRITABLE; BINMODE_NO_MEMBER, if one of the three is absent or no Double, whatever the
+ * others are; or BINMODE_TOO_MANY_DIGITS, if one of them has too many. Each has place 0.
+ */
+uint8_t binmode_position(const uint32_t *table, size_t table_words, size_t rows, const uint8_t *text, size_t text_len,
+                         size_t row, double *x, double *y, double *turn);
+
+/*
  * Messages in pieces, as a serial port or a pipe brings them. The pieces are held in a room that the caller lends, and after
  * each the answer is BINMODE_MORE_WANTED, BINMODE_ACCEPTED or the number of a refusal, as soon as it is settled:
  *
@@ -213,52 +259,6 @@ uint8_t binmode_pieces_next(struct binmode_pieces *state, const uint8_t *piece, 
  */
 uint8_t binmode_pieces_end(struct binmode_pieces *state, const uint8_t *room, size_t room_len, uint32_t *table,
                            size_t table_words);
-
-/*
- * Looking up. A member of a Struct is a key and a value; it is asked for by the bytes of its key, which no other member
- * of the Struct has. Both functions take any table, as binmode_write does, and judge it first: one that is not writable is refused, so
- * nothing has to be tested before. For a table made by binmode_read, the text bytes are the message.
- *
- * The sorts of answers.
- */
-#define BINMODE_WHOLE_NUMBER 1 /* an Integer, signed */
-#define BINMODE_DECIMAL 2      /* a Double */
-#define BINMODE_YES_OR_NO 3    /* a Boolean */
-#define BINMODE_TEXT 4         /* a String */
-#define BINMODE_ITEM 5         /* a DateTime, Binary, Array, Struct or Other, by its row */
-
-/*
- * Looks up a member of a Struct.
- *
- *   table, table_words    the table; words after the stated rows are not looked at
- *   rows                  the stated number of rows
- *   text, text_len        the bytes in which the contents lie
- *   row                   the Struct's row
- *   key, key_len          the bytes of the key
- *   sort                  is set to the sort of the answer; 0 on a refusal
- *   number                is set to the whole number, to 1 or 0 for yes or no, or to the other item's row; else to 0
- *   decimal               is set to the decimal; else to plus zero. Its value is the double nearest to the number that the text
- *                         says, with its sign, so `-0.0` is minus zero
- *   offset, length        are set to where the text lies in the text bytes; else to 0
- *
- * Gives BINMODE_ACCEPTED, or a refusal's number, tested in this order: BINMODE_NOT_WRITABLE, also for more than 65,536 text
- * bytes; BINMODE_NO_MEMBER; BINMODE_TOO_MANY_DIGITS, where leading zeros are not counted. Each has place 0.
- */
-uint8_t binmode_lookup(const uint32_t *table, size_t table_words, size_t rows, const uint8_t *text, size_t text_len,
-                       size_t row, const uint8_t *key, size_t key_len, uint8_t *sort, int64_t *number, double *decimal,
-                       uint64_t *offset, uint64_t *length);
-
-/*
- * The position in a Struct: its members `x`, `y` and `turn`, each a Double, as three calls of binmode_lookup give them; the table
- * is judged once. The parameters are those of binmode_lookup.
- *
- *   x, y, turn            are set to the position; to plus zero, all three, on a refusal
- *
- * Gives BINMODE_ACCEPTED, or BINMODE_NOT_WRITABLE; BINMODE_NO_MEMBER, if one of the three is absent or no Double, whatever the
- * others are; or BINMODE_TOO_MANY_DIGITS, if one of them has too many. Each has place 0.
- */
-uint8_t binmode_position(const uint32_t *table, size_t table_words, size_t rows, const uint8_t *text, size_t text_len,
-                         size_t row, double *x, double *y, double *turn);
 
 #ifdef __cplusplus
 }

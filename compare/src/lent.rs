@@ -32,6 +32,11 @@ impl<T: Copy + PartialEq> Lent<T> {
         &mut self.buffer[AROUND..][..length]
     }
 
+    /// The lent part once more, as the last call left it.
+    pub fn again(&mut self) -> &mut [T] {
+        &mut self.buffer[AROUND..][..self.length]
+    }
+
     pub fn content(&self) -> &[T] {
         &self.buffer[AROUND..][..self.length]
     }

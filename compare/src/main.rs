@@ -1,6 +1,6 @@
 //! Compares the proved library with the second implementation on generated
-//! messages, tables, job files and members: `compare SEED CALLS`. Ends with 1
-//! where they differ.
+//! messages, whole and in pieces, tables, job files and members: `compare SEED
+//! CALLS`. Ends with 1 where they differ.
 
 mod change;
 mod doubles_and_dates;
@@ -10,13 +10,16 @@ mod job;
 mod lent;
 mod library;
 mod lookup;
+mod pieces;
 mod reading;
 mod shortest;
+mod state;
 mod tally;
 mod writing;
 
 use job::Jobs;
 use lookup::Lookups;
+use pieces::InPieces;
 use reading::{Compared, Reading};
 use second::generate::Random;
 use std::process::ExitCode;
@@ -57,6 +60,7 @@ fn compare(run: &mut Run) -> Compared {
     let mut writing = Writing::new();
     let mut jobs = Jobs::new();
     let mut lookups = Lookups::new();
+    let mut pieces = InPieces::new();
     shortest::tried(&mut run.random)?;
     doubles_and_dates::read(&mut run.random, &mut reading)?;
     doubles_and_dates::written(&mut run.random, &mut writing)?;
@@ -65,9 +69,12 @@ fn compare(run: &mut Run) -> Compared {
     writing.papers(run)?;
     reading.edges(run)?;
     jobs.edges(run)?;
+    pieces.papers(run)?;
+    pieces.limit(run)?;
     while !run.tally.is_over() {
         reading.round(run)?;
         lookups.round(run)?;
+        pieces.round(run)?;
         writing.round(run)?;
         if run.random.one_in(4) {
             jobs.round(run)?;

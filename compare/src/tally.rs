@@ -10,7 +10,7 @@ const MEANINGS: [&str; NUMBERS] = [
     "the bytes end",
     "wrong prefix",
     "unexpected byte",
-    "",
+    "room too short",
     "bad text",
     "unset position",
     "standard name",
@@ -48,6 +48,7 @@ pub struct Tally {
     pub cards: [usize; NUMBERS],
     pub members: [usize; NUMBERS],
     pub positions: [usize; NUMBERS],
+    pub pieces: [usize; NUMBERS],
 }
 
 impl Tally {
@@ -59,6 +60,7 @@ impl Tally {
             cards: [0; NUMBERS],
             members: [0; NUMBERS],
             positions: [0; NUMBERS],
+            pieces: [0; NUMBERS],
         }
     }
 
@@ -96,6 +98,12 @@ impl Tally {
         self.positions[usize::from(number)] += 1;
     }
 
+    /// Notes a message in pieces, by its answer in the end.
+    pub fn read_pieces(&mut self, number: u8) {
+        self.left -= 1;
+        self.pieces[usize::from(number)] += 1;
+    }
+
     pub fn print(&self) {
         let columns = [
             ("reading", &self.reading),
@@ -103,6 +111,7 @@ impl Tally {
             ("cards", &self.cards),
             ("members", &self.members),
             ("positions", &self.positions),
+            ("in pieces", &self.pieces),
         ];
         let line = |number: &str, meaning: &str, cells: Vec<String>| {
             let cells: String = cells.iter().map(|cell| format!(" {cell:>10}")).collect();

@@ -1,23 +1,24 @@
 -- A call with a piece, from a state that stands for the bytes so far to one that stands for them and the piece. Assumes nothing.
 use mathlib.Core.Path.{_≡_, refl, sym, _∙_, ap}
-use mathlib.Core.Bool.{Bool, true, false}
+use mathlib.Core.Bool.{Bool, true, false, _&&_}
 use mathlib.Core.List.{List, [], _∷_, _++_, append-assoc}
-use Prim.Native.Nat.{ℕ, _+_, _-_, _≤_, _<_}
+use Prim.Native.Nat.{ℕ, _+_, _-_, _*_, _/_, _≤_, _<_}
 use native.Mathlib.Omega.{arith}
-use lib.ListN.{length, take, replicate, length-append, length-replicate}
+use lib.ListN.{length, take, drop, replicate, length-append, length-replicate, replicate-append-replicate}
+use lib.Seq.{drop-at}
 use lib.Dec.{ltb}
 use borrow.Author.Tests.{le-ltb, ltb-true, ltb-false}
 use Rattle.draft.specs.declared.Refusal.the-variants.{Ended, TooLong}
-use Rattle.draft.specs.Table.{roomOf}
 use Rattle.draft.specs.Read.{Reading, got, refused}
-use Rattle.table.proofs.Rows.{length-putRows}
 use Rattle.reader.specs.Answers.{reading, tableOf}
+use Rattle.rereading.specs.Rereading.{refusedWithOne, pickList, tableRead}
+use Rattle.rereading.proofs.Words.{length-table, more-words}
 use Rattle.room.specs.Room.{taken}
 use Rattle.pieces.specs.declared.PieceRefusal.the-variants.{Message}
 use Rattle.pieces.specs.declared.State.{State}
 use Rattle.pieces.specs.declared.State.the-variants.{More, Accepted, Refused}
-use Rattle.pieces.specs.Pieces.{refusedWithOne, outcome, wanting, through, roomWith}
-use Rattle.pieces.specs.Steps.{pickState, pickList, stillMore, stateOf, stateWent, roomWent, tableWent, Went}
+use Rattle.pieces.specs.Pieces.{outcome, wanting, through, roomWith}
+use Rattle.pieces.specs.Steps.{pickState, stillMore, stateOf, stateWent, roomWent, tableWent, Went}
 use Rattle.cuts.proofs.Outcomes.{View, cut-short, other, view, stays-cut, within, outcome-over, outcome-settled, wanting-within, through-more, through-done}
 use Rattle.cuts.proofs.Holding.{cut, length-cut, room-next, held-next, fits}
 
@@ -134,9 +135,37 @@ plain state p R T R′ T′ state′ h w =
       table = simp (le-ltb _ _ h) at (w .table);
     }
 
-length-table : (words : ℕ) (o : Reading) → length (tableOf words o) ≡ words
-length-table words (got rows used book) = length-putRows (roomOf 4096 words) (replicate words 0) 0 rows ∙ length-replicate words 0
-length-table words (refused m q) = length-replicate words 0
+abbrev zeros : ℕ → List ℕ
+zeros n = replicate n 0
+
+-- k zeros, and what stands behind them in so many
+zeros-behind : (k words : ℕ) → k ≤ words → zeros k ++ drop k (zeros words) ≡ zeros words
+zeros-behind k words h =
+    let e : words ≡ k + (words - k) = omega arith in
+    let r : zeros words ≡ zeros k ++ zeros (words - k) = ap zeros e ∙ sym (replicate-append-replicate k (words - k) 0) in
+    let d : drop k (zeros k ++ zeros (words - k)) ≡ zeros (words - k) = drop-at (zeros k) (zeros (words - k)) k (length-replicate k 0) in
+    ap (λ (l : List ℕ). zeros k ++ drop k l) r ∙ ap (λ (l : List ℕ). zeros k ++ l) d ∙ sym r
+
+-- however many words are tried first: once they are zeros, the table is the reading's
+read-table :
+    (wanted : ℕ) (s T : List ℕ) (words : ℕ) → length T ≡ words → (0 < wanted → T ≡ zeros words) → tableRead wanted s T ≡ tableOf words (reading s words)
+read-table wanted s T words l cleared =
+    rw l (by (ltb 0 wanted) refl (ltb (length s) (words / 4)) refl (reading s (4 * length s)) (view (reading s (4 * length s))) refl)
+  where
+    full : List ℕ
+    full = tableOf words (reading s words)
+
+    by :
+        (x : Bool) → ltb 0 wanted ≡ x → (y : Bool) → ltb (length s) (words / 4) ≡ y → (o : Reading) → View o → reading s (4 * length s) ≡ o
+        → pickList (x && y) (pickList (refusedWithOne o) (replicate (4 * length s) 0 ++ drop (4 * length s) T) full) full ≡ full
+    by false e y f o v g = refl
+    by true e false f o v g = refl
+    by true e true f _ (cut-short {q = q}) g =
+        let k : 4 * length s ≤ words = omega (arith, ltb-true (length s) (words / 4) f) in
+        let z : T ≡ zeros words = cleared (ltb-true 0 wanted e) in
+        let r : reading s words ≡ refused Ended q = more-words s (4 * length s) words k g refl in
+        rw (z, r) (zeros-behind (4 * length s) words k)
+    by true e true f o (other h) g = rw h
 
 -- a piece where more is wanted
 module _ (s p R₀ : List ℕ) (wanted q : ℕ) (T : List ℕ) (short : length s ≤ 65536) where
@@ -150,7 +179,7 @@ module _ (s p R₀ : List ℕ) (wanted q : ℕ) (T : List ℕ) (short : length s
 
   table-more :
       tableWent (More (length s) wanted q) p (roomWith s R₀) T
-      ≡ pickList (ltb (length s + taken (length s) p) wanted) T (tableOf (length T) (reading (take 65536 (s ++ p)) (length T)))
+      ≡ pickList (ltb (length s + taken (length s) p) wanted) T (tableRead wanted (take 65536 (s ++ p)) T)
   unfolding tableWent
   table-more = simp (le-ltb _ _ short) (rw (room-next s p R₀ short, held-next s p R₀ short))
 
@@ -185,7 +214,8 @@ step-more s p R₀ words wanted q T R′ T′ state l o law zeros w = by (ltb (l
     by false e =
         let a : state ≡ stateOf (length s) (length p) (take 65536 (s ++ p)) (reading (take 65536 (s ++ p)) words)
         = w .says ∙ says-more s p R₀ wanted q T short (length T) ∙ rw (e, l) in
-        let t : T′ ≡ tableOf words (reading (take 65536 (s ++ p)) words) = w .table ∙ table-more s p R₀ wanted q T short ∙ rw (e, l) in
+        let t : T′ ≡ tableOf words (reading (take 65536 (s ++ p)) words)
+        = w .table ∙ table-more s p R₀ wanted q T short ∙ rw e (read-table wanted (take 65536 (s ++ p)) T words l zeros) in
         let k : Known (s ++ p) words T′ (stateOf (length s) (length p) (take 65536 (s ++ p)) (reading (take 65536 (s ++ p)) words))
         = again s p words short T′ t in
         rw a

@@ -14,12 +14,13 @@ use Rattle.draft.specs.declared.Refusal.the-variants.{Ended, TooLong}
 use Rattle.draft.specs.Refusals.{numberOf, refusalOf}
 use Rattle.draft.specs.Table.{roomOf}
 use Rattle.draft.specs.Read.{Reading, got, refused, pick, message, messageWithin}
-use Rattle.draft.specs.Want.{wantOf}
+use Rattle.wanting.specs.Want.{wantOf}
 use Rattle.draft.proofs.Naming.{refusal-ended, refusal-long, number-own}
 use Rattle.reader.specs.Answers.{reading}
+use Rattle.rereading.specs.Rereading.{refusedWithOne}
 use Rattle.exact.proofs.Growing.{OfReading, waits, decided}
 use Rattle.exact.proofs.Concluding.{of-reading}
-use Rattle.pieces.specs.Pieces.{joined, refusedWithOne, outcome, wanting, pickBytes, through, Told, refusal, toldOf}
+use Rattle.pieces.specs.Pieces.{joined, outcome, wanting, pickBytes, through, Told, refusal, toldOf}
 
 -- a reading that is refused with 1, or another
 pub data View : Reading → Type 0 where

@@ -12,12 +12,13 @@ use Rattle.draft.specs.declared.Refusal.the-variants.{Ended}
 use Rattle.draft.specs.Refusals.{numberOf}
 use Rattle.draft.specs.Read.{Reading, got, refused, agree, message, messageWithin}
 use Rattle.reader.specs.Answers.{reading, tableOf}
+use Rattle.rereading.specs.Rereading.{refusedWithOne, pickList}
 use Rattle.room.specs.Room.{roomAfter}
 use Rattle.pieces.specs.declared.PieceRefusal.the-variants.{Message}
 use Rattle.pieces.specs.declared.State.{State}
 use Rattle.pieces.specs.declared.State.the-variants.{More, Accepted, Refused}
-use Rattle.pieces.specs.Pieces.{refusedWithOne, outcome, wanting, through, roomWith, more, refusal, pickTold, toldOf, soFar}
-use Rattle.pieces.specs.Steps.{told, pickState, pickList, stateWent, roomWent, tableWent, Went, stateClosed, tableClosed, Closed}
+use Rattle.pieces.specs.Pieces.{outcome, wanting, through, roomWith, more, refusal, pickTold, toldOf, soFar}
+use Rattle.pieces.specs.Steps.{told, pickState, stateWent, roomWent, tableWent, Went, stateClosed, tableClosed, Closed}
 use Rattle.pieces.specs.Runs.{begun, Runs, none, piece}
 use Rattle.cuts.proofs.Outcomes.{through-step}
 use Rattle.cuts.proofs.Holding.{same-room, past}

@@ -5,11 +5,13 @@ use mathlib.Core.Bool.{Bool, true, false}
 use mathlib.Core.Logic.{_↔_, _⊎_, inl, inr}
 use mathlib.Core.List.{List, [], _∷_, _++_}
 use Prim.Native.Nat.{ℕ, _+_, _^_, _≤_, _<_}
+use Prim.Native.Char.{code}
 use native.Mathlib.Omega.{arith}
 use lib.ListN.{length}
 use lib.Ieee.{Float}
 use lib.Ieee.Exact.{HasValue}
 use borrow.Author.Tests.{lt-leb}
+use Rattle.lexical.specs.Grammar.{Digits, Sign}
 use Rattle.decimal.specs.declared.Decimal.the-variants.{Value}
 use Rattle.decimal.specs.Decimal.{power, held, decimalOf, nearestTo}
 use Rattle.decimal.proofs.Powers as powers
@@ -38,6 +40,8 @@ use Rattle.lookup.specs.Reports.{plusZero}
 use Rattle.position.specs.declared.Outcome.the-variants as outcome
 use Rattle.position.specs.Placing.{at, acceptedAt, refusedWith, position, Lengthy}
 use Rattle.position.proofs.Together.{accepted-of, accepted-by, zeros-of, unwritable-of, long-of}
+use Rattle.meant.specs.Parts.{Parts}
+use Rattle.meant.proofs.Parting.{double-parts}
 use Rattle.meant.specs.Meant.{membersOf, Said, StructAt, Answered}
 use Rattle.meant.proofs.Saying.{standing, struct-said, answered}
 use Rattle.meant.proofs.Only.{members-distinct, found-only}
@@ -125,6 +129,13 @@ powers-exact k h = powers.power-exact k h
 
 pub decimals-nearest : (t : List ℕ) → held t ≡ true → decimalOf t ≡ Value (nearestTo t)
 decimals-nearest t e = nearest.nearest t e
+
+-- Of a Double, as the grammar derives it, the digits that count are those before and after the point, its places those after it, and its sign is minus
+-- if it has a `-`.
+pub decimal-parts :
+    {sign whole fraction t : List ℕ} → Sign sign → Digits whole → Digits fraction → t ≡ sign ++ (whole ++ (code "." ∷ fraction))
+    → Parts sign whole fraction t
+decimal-parts s w f e = double-parts s w f e
 
 -- A POSITION is what three lookups give. It is accepted with three values exactly if x, y and turn each answer with that decimal.
 pub position-accepted :

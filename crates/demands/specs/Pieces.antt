@@ -10,10 +10,11 @@ use native.Mathlib.Omega.{arith}
 use lib.ListN.{length, take, drop, replicate}
 use borrow.Author.Tests.{lt-ltb}
 use Rattle.reader.specs.Answers.{reading, tableOf}
+use Rattle.rereading.specs.Rereading.{refusedWithOne}
 use Rattle.pieces.specs.declared.PieceRefusal.the-variants.{ShortRoom}
 use Rattle.pieces.specs.declared.State.{State}
 use Rattle.pieces.specs.declared.State.the-variants.{Refused}
-use Rattle.pieces.specs.Pieces.{joined, refusedWithOne, outcome, through, roomWith, more, refusal, toldOf, soFar}
+use Rattle.pieces.specs.Pieces.{joined, outcome, through, roomWith, more, refusal, toldOf, soFar}
 use Rattle.pieces.specs.Steps.{told, Went, Closed}
 use Rattle.pieces.specs.Runs.{begun, Runs}
 use Rattle.cuts.proofs.Outcomes.{whole, wanting-whole, ten-only}

@@ -10,4 +10,3 @@ pub mod Meaning
 pub mod Writable
 pub mod Strings
 pub mod Written
-pub mod Want

@@ -33,8 +33,8 @@ use Rattle.draft.specs.declared.Entry.the-variants.{Unset, Text}
 use Rattle.draft.specs.Bytes.{bytes, byteAt, unsignedAt, part}
 use Rattle.draft.specs.Rows.{below}
 use Rattle.draft.specs.Content.{contentRule, fineIf, asciiThen, badIf, allThere, verdict, nameRule, keyRule, Held, isFault, faultRule}
-use Rattle.draft.specs.Want.{fieldsOf, announced, wantOf}
-use Rattle.draft.proofs.Wanting.{want-none, want-fields, want-content}
+use Rattle.wanting.specs.Want.{fieldsOf, announced, wantOf}
+use Rattle.wanting.proofs.Wanting.{want-none, want-fields, want-content}
 use Rattle.draft.specs.Codebook.{Book, clear, recorded as record-text}
 use Rattle.draft.specs.Grammar.{Payload, Cell, Sent, Recording, after, Value, pair}
 use Rattle.draft.specs.Meaning.{Realises, no-more, and-then, means, Says, says-holding, says-number, says-contents}

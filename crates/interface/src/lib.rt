@@ -1,5 +1,5 @@
 // Reading, writing and job files for programs in C and Rust. A slice passes as a pointer and then a length, a `&mut u64` as a pointer.
-mod in_pieces;
+mod in_pieces; // in_pieces.rt: messages in pieces
 mod lookups; // lookups.rt: looking up members, and positions
 
 use reader::Answer;

@@ -9,10 +9,11 @@ use Rattle.draft.specs.declared.Refusal.{Refusal}
 use Rattle.draft.specs.declared.Refusal.the-variants.{Ended, TooLong}
 use Rattle.draft.specs.Refusals.{numberOf, refusalOf}
 use Rattle.draft.specs.Read.{Reading, got, refused}
-use Rattle.draft.specs.Want.{wantOf}
+use Rattle.wanting.specs.Want.{wantOf}
 use Rattle.reader.specs.declared.Answer.{Answer}
 use Rattle.reader.specs.declared.Answer.the-variants as answer
-use Rattle.reader.specs.Answers.{reading, answerOf, Answers}
+use Rattle.reader.specs.Answers.{reading, answerOf}
+use Rattle.rereading.specs.Rereading.{tableRead, Reread}
 use Rattle.room.specs.Room.{taken, roomAfter, Held}
 use Rattle.pieces.specs.declared.PieceRefusal.{PieceRefusal}
 use Rattle.pieces.specs.declared.PieceRefusal.the-variants.{Message, ShortRoom}
@@ -34,30 +35,42 @@ module _ (held n wanted place : ℕ) where
   pub still-more : n ≤ 65536 - held → More (held + n) wanted place ≡ stillMore held n wanted place
   still-more h = rw (le-ltb _ _ h)
 
--- an answer a to the bytes held
-module _ (held n : ℕ) (s T T′ : List ℕ) (a : Answer) (d : Answers (reading s (length T)) (length T) T′ a) where
-  pub settle-accepted : (rows used : ℕ) → a ≡ answer.Accepted rows used → Settled held n s T T′ (Accepted rows used)
-  settle-accepted rows used e = record { says = of (reading s (length T)) (sym e ∙ d .says); table = d .leaves }
+-- a state after reading, by what is read
+module _ (held n : ℕ) (s : List ℕ) (o : Reading) (a : Answer) (d : a ≡ answerOf o) where
+  state-accepted : (rows used : ℕ) → a ≡ answer.Accepted rows used → Accepted rows used ≡ stateOf held n s o
+  state-accepted rows used e = of o (sym e ∙ d)
     where
-      of : (o : Reading) → answer.Accepted rows used ≡ answerOf o → Accepted rows used ≡ stateOf held n s o
+      of : (x : Reading) → answer.Accepted rows used ≡ answerOf x → Accepted rows used ≡ stateOf held n s x
       of (got r u b) h = cc
       of (refused m p) h = cc
 
+  module _ (m : Refusal) (q : ℕ) (e : a ≡ answer.Refused m q) where
+    is-refused : o ≡ refused m q
+    is-refused = of o (sym e ∙ d)
+      where
+        of : (x : Reading) → answer.Refused m q ≡ answerOf x → x ≡ refused m q
+        of (got r u b) h = cc
+        of (refused m′ p) h = cc
+
+    state-more : (w : ℕ) (state : State) → numberOf m ≡ 1 → w ≡ wantOf s q → state ≡ stillMore held n w q → state ≡ stateOf held n s o
+    state-more w state j g h = rw (is-refused, eq-eqb _ _ j, ← g) h
+
+    state-refused : (numberOf m ≡ 1 → ⊥) → Refused (Message m) q ≡ stateOf held n s o
+    state-refused f = rw (is-refused, ne-eqb _ _ f)
+
+-- an answer a to the bytes held
+module _ (held n wanted : ℕ) (s T T′ : List ℕ) (a : Answer) (d : Reread s T (tableRead wanted s T) T′ a) where
+  pub settle-accepted : (rows used : ℕ) → a ≡ answer.Accepted rows used → Settled held n wanted s T T′ (Accepted rows used)
+  settle-accepted rows used e = record { says = state-accepted held n s (reading s (length T)) a (d .says) rows used e; table = d .leaves }
+
   module _ (m : Refusal) (q x : ℕ) (e : a ≡ answer.Refused m q) (i : x ≡ numberOf m) where
-    is-state : (o : Reading) → answer.Refused m q ≡ answerOf o → stateOf held n s (refused m q) ≡ stateOf held n s o
-    is-state (got r u b) h = cc
-    is-state (refused m′ p) h = cc
-
-    pub settle-more : (w : ℕ) (state : State) → x ≡ 1 → w ≡ wantOf s q → state ≡ stillMore held n w q → Settled held n s T T′ state
+    pub settle-more : (w : ℕ) (state : State) → x ≡ 1 → w ≡ wantOf s q → state ≡ stillMore held n w q → Settled held n wanted s T T′ state
     settle-more w state f g h =
-        let j : numberOf m ≡ 1 = sym i ∙ f in
-        let k : state ≡ stateOf held n s (refused m q) = rw (eq-eqb _ _ j, ← g) h in
-        record { says = k ∙ is-state (reading s (length T)) (sym e ∙ d .says); table = d .leaves }
+        record { says = state-more held n s (reading s (length T)) a (d .says) m q e w state (sym i ∙ f) g h; table = d .leaves }
 
-    pub settle-refused : (x ≡ 1 → ⊥) → Settled held n s T T′ (Refused (Message m) q)
+    pub settle-refused : (x ≡ 1 → ⊥) → Settled held n wanted s T T′ (Refused (Message m) q)
     settle-refused f =
-        let k : Refused (Message m) q ≡ stateOf held n s (refused m q) = rw (ne-eqb _ _ (λ (z : numberOf m ≡ 1). f (i ∙ z))) in
-        record { says = k ∙ is-state (reading s (length T)) (sym e ∙ d .says); table = d .leaves }
+        record { says = state-refused held n s (reading s (length T)) a (d .says) m q e (λ (z : numberOf m ≡ 1). f (i ∙ z)); table = d .leaves }
 
 -- more is wanted, and the room is long enough
 module _ (held wanted place : ℕ) (p R T : List ℕ) (long : 65536 ≤ length R) where
@@ -82,7 +95,7 @@ module _ (held wanted place : ℕ) (p R T : List ℕ) (long : 65536 ≤ length R
         }
 
     pub went-read :
-        (T′ : List ℕ) → wanted ≤ n → Settled held (length p) (take (n - 0) (drop 0 R′)) T T′ state → Went (More held wanted place) p R T R′ T′ state
+        (T′ : List ℕ) → wanted ≤ n → Settled held (length p) wanted (take (n - 0) (drop 0 R′)) T T′ state → Went (More held wanted place) p R T R′ T′ state
     unfolding stateWent roomWent tableWent
     went-read T′ l e =
         let w : wanted ≤ held + taken held p = rw (d .now) at l in

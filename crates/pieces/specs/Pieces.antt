@@ -4,21 +4,17 @@ use mathlib.Core.Bool.{Bool, true, false, _&&_}
 use mathlib.Core.List.{List, [], _∷_, _++_}
 use Prim.Native.Nat.{ℕ}
 use lib.ListN.{length, take, drop}
-use lib.Dec.{ltb, eqb}
+use lib.Dec.{ltb}
 use Rattle.draft.specs.declared.Refusal.the-variants.{TooLong}
 use Rattle.draft.specs.Refusals.{numberOf}
 use Rattle.draft.specs.Read.{Reading, got, refused, pick}
 use Rattle.reader.specs.Answers.{reading}
+use Rattle.rereading.specs.Rereading.{refusedWithOne}
 
 -- all bytes of some pieces
 unfoldable pub joined : List (List ℕ) → List ℕ
 joined [] = []
 joined (p ∷ ps) = p ++ joined ps
-
--- refused with 1
-abbrev pub refusedWithOne : Reading → Bool
-refusedWithOne (got rows used book) = false
-refusedWithOne (refused m place) = eqb (numberOf m) 1
 
 -- what some bytes come to: the first 65,536 read as a whole message. Refused with 1, more is wanted; but if there is another byte, it is 10
 unfoldable pub outcome : List ℕ → ℕ → Reading

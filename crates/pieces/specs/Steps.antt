@@ -8,8 +8,9 @@ use lib.Dec.{ltb, eqb}
 use Rattle.draft.specs.declared.Refusal.the-variants.{TooLong, Ended}
 use Rattle.draft.specs.Refusals.{numberOf, refusalOf}
 use Rattle.draft.specs.Read.{Reading, got, refused}
-use Rattle.draft.specs.Want.{wantOf}
-use Rattle.reader.specs.Answers.{reading, tableOf}
+use Rattle.wanting.specs.Want.{wantOf}
+use Rattle.reader.specs.Answers.{reading}
+use Rattle.rereading.specs.Rereading.{pickList, tableRead}
 use Rattle.room.specs.Room.{taken, roomAfter}
 use Rattle.pieces.specs.declared.PieceRefusal.{PieceRefusal}
 use Rattle.pieces.specs.declared.PieceRefusal.the-variants.{Message, ShortRoom}
@@ -39,10 +40,6 @@ told (Refused m place) = refusal (numberFor m) place
 abbrev pub pickState : Bool → State → State → State
 pickState true x y = x
 pickState false x y = y
-
-abbrev pub pickList : Bool → List ℕ → List ℕ → List ℕ
-pickList true x y = x
-pickList false x y = y
 
 -- after n bytes more, with `held` held before: more is wanted; or 10, if there is no room for one of them
 abbrev pub stillMore : ℕ → ℕ → ℕ → ℕ → State
@@ -79,14 +76,14 @@ roomWent (Refused m place) p R = R
 unfoldable pub tableWent : State → List ℕ → List ℕ → List ℕ → List ℕ
 tableWent (More held wanted place) p R T =
     pickList (ltb 65536 held) T
-    (pickList (ltb (held + taken held p) wanted) T (tableOf (length T) (reading (bytesHeld held p R) (length T))))
+    (pickList (ltb (held + taken held p) wanted) T (tableRead wanted (bytesHeld held p R) T))
 tableWent (Accepted rows used) p R T = T
 tableWent (Refused m place) p R T = T
 
 -- what reading the bytes s in the room did
-pub record Settled (held n : ℕ) (s T T′ : List ℕ) (state : State) : Type 0 where
+pub record Settled (held n wanted : ℕ) (s T T′ : List ℕ) (state : State) : Type 0 where
   pub says : state ≡ stateOf held n s (reading s (length T))
-  pub table : T′ ≡ tableOf (length T) (reading s (length T))
+  pub table : T′ ≡ tableRead wanted s T
 
 -- what a call with a piece p did: 4 before all else
 pub record Went (state : State) (p R T R′ T′ : List ℕ) (state′ : State) : Type 0 where

@@ -81,11 +81,11 @@ fn still(held: usize, brought: usize, wanted: usize, place: usize) -> State
 }
 
 // Reads the bytes held. Before the last piece and what it brought, the first `held` of them were.
-fn settle(message: &[u8], held: usize, brought: usize, table: &mut [u32]) -> State
+fn settle(message: &[u8], held: usize, brought: usize, wanted: usize, table: &mut [u32]) -> State
     requires { ⌜ (held ≤ 65536) × (length (now message) ≤ 65536) ⌝ }
-    ensures { λ r. ⌜ Settled held brought (now (message .entry)) (now (table .entry)) (now (table .exit)) r ⌝ }
+    ensures { λ r. ⌜ Settled held brought wanted (now (message .entry)) (now (table .entry)) (now (table .exit)) r ⌝ }
 {
-    let answer = reader::read(message, table);
+    let answer = rereading::read_again(message, wanted, table);
     match answer {
         Answer::Accepted { rows, used } => State::Accepted { rows, used },
         Answer::Refused { refusal, place } => {
@@ -122,7 +122,7 @@ fn go_on(
     if n < wanted {
         return still(held, piece.len(), wanted, place);
     }
-    settle(&room[0..n], held, piece.len(), table)
+    settle(&room[0..n], held, piece.len(), wanted, table)
 }
 
 // Takes the next piece. The room and the table are those of the calls before it.

@@ -14,8 +14,8 @@ use Rattle.draft.specs.declared.Plain.the-variants as plain
 use Rattle.draft.specs.declared.Form.the-variants.{Regular, Recorded, Recalled}
 use Rattle.draft.specs.Bytes.{byteAt, unsignedAt}
 use Rattle.draft.specs.Read.{tagOf, pickTag}
-use Rattle.draft.specs.Want.{fieldsOf, announced, pickNumber, wantOf}
-use Rattle.draft.proofs.Wanting.{want-none, want-there}
+use Rattle.wanting.specs.Want.{fieldsOf, announced, pickNumber, wantOf}
+use Rattle.wanting.proofs.Wanting.{want-none, want-there}
 use Rattle.want.specs.Ends.{shortEnd, longEnd}
 
 module _ (s : List ℕ) (at : ℕ) where

@@ -4,7 +4,7 @@ use mathlib.Core.List.{List}
 use lib.ListN.{length}
 use lib.Dec.{leb}
 use Rattle.draft.specs.Bytes.{byteAt, unsignedAt}
-use Rattle.draft.specs.Want.{pickNumber}
+use Rattle.wanting.specs.Want.{pickNumber}
 
 -- with a size byte behind the tag
 unfoldable pub shortEnd : List ℕ → ℕ → ℕ

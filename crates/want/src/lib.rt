@@ -3,7 +3,7 @@
 ghost use mathlib.Core.Path.{_≡_};
 ghost use Prim.Native.Nat.{_+_, _≤_, _<_};
 ghost use lib.ListN.{length};
-ghost use Rattle.draft.specs.Want.{wantOf};
+ghost use Rattle.wanting.specs.Want.{wantOf};
 ghost use Rattle.want.specs.Ends.{shortEnd, longEnd};
 
 // A byte as a number: its caller has no fit of the element to show.

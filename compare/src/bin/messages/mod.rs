@@ -89,7 +89,7 @@ pub fn card(members: usize) -> Vec<u8> {
 }
 
 /// A card of which each sixth member is a date, and each sixth a Double.
-pub fn dated_card(members: usize) -> Vec<u8> {
+fn dated_card(members: usize) -> Vec<u8> {
     let mut value = field(b'S', members);
     for member in 0..members {
         let turn = member / 6;

@@ -5,7 +5,7 @@ use Rattle.pieces.proofs.settle.Tie as tie
 
 pub settle-spec : {M : Type 1} → statement M
 settle-spec = tie.close (tie.spec
-    (λ c κs. search needs)  -- read-requires
+    (λ c κs. search needs)  -- read-again-requires
     (λ c. search needs)  -- enum-known-answer
     (λ c. search needs)  -- enum-known-answer-2
     (λ c κs. search needs)  -- number-requires

@@ -5,10 +5,10 @@ use Prim.Native.Nat.{ℕ, _+_, _≤_, _<_}
 use lib.ListN.{length}
 use lib.Dec.{leb}
 use borrow.Author.Tests.{le-leb, lt-leb}
 use Rattle.draft.specs.declared.Tag.{Tag}
 use Rattle.draft.specs.Bytes.{byteAt}
 use Rattle.draft.specs.Read.{tagOf}
-use Rattle.draft.specs.Want.{fieldsOf, announced, pickNumber, wantOf}
+use Rattle.wanting.specs.Want.{fieldsOf, announced, pickNumber, wantOf}
 
 module _ (s : List ℕ) (at : ℕ) where
   pub want-none : length s ≤ at → wantOf s at ≡ length s + 1

@@ -1,0 +1,45 @@
+// Reading the bytes of a message again that was refused with 1 when there were fewer of them. A row takes a byte at least, so no more words of
+// the table are used than four for each byte until there is another answer.
+use reader::Answer;
+ghost use mathlib.Core.Path.{_≡_};
+ghost use Prim.Native.Nat.{_≤_};
+ghost use lib.ListN.{length};
+ghost use Rattle.rereading.specs.Rereading.{tableTried, tableRead, PartRead, Reread};
+
+// Reads into the first k words of the table.
+fn read_part(message: &[u8], table: &mut [u32], k: usize) -> Answer
+    requires { ⌜ k ≤ length (now table) ⌝ }
+    ensures { λ r. ⌜ PartRead (now (message .entry)) k (now (table .entry)) (now (table .exit)) r ⌝ }
+{
+    reader::read(message, &mut table[0..k])
+}
+
+// Tries the first k words: refused with 1, a message is so with any more of them, and those are left alone. Else all is read into the table.
+fn try_part(message: &[u8], table: &mut [u32], k: usize) -> Answer
+    requires { ⌜ k ≤ length (now table) ⌝ }
+    ensures { λ r. ⌜ Reread (now (message .entry)) (now (table .entry)) (tableTried k (now (message .entry)) (now (table .entry))) (now (table .exit)) r ⌝ }
+{
+    let answer = read_part(message, table, k);
+    match answer {
+        Answer::Accepted { rows: _, used: _ } => reader::read(message, table),
+        Answer::Refused { refusal, place } => {
+            if draft::number(refusal) == 1 {
+                return Answer::Refused { refusal, place };
+            }
+            reader::read(message, table)
+        }
+    }
+}
+
+// Reads the bytes, of which so many were wanted: at first none, and the whole table is cleared.
+pub fn read_again(message: &[u8], wanted: usize, table: &mut [u32]) -> Answer
+    ensures { λ r. ⌜ Reread (now (message .entry)) (now (table .entry)) (tableRead wanted (now (message .entry)) (now (table .entry))) (now (table .exit)) r ⌝ }
+{
+    if wanted == 0 {
+        return reader::read(message, table);
+    }
+    if table.len() / 4 <= message.len() {
+        return reader::read(message, table);
+    }
+    try_part(message, table, 4 * message.len())
+}
