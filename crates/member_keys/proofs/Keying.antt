@@ -23,7 +23,7 @@ use Rattle.item.specs.declared.Step.{Step}
 use Rattle.item.specs.Contract.{refusedAt, Did}
 use Rattle.item.proofs.Readings.{Got, did-next}
 use Rattle.item.proofs.Items.{name-refused, name-judged, the-row, string-row}
-use Rattle.keys.specs.Notes.{ownerOf, named, keysOf, Noted, Rows, Entry, Added, Noting, Joins}
+use Rattle.keys.specs.Notes.{ownerOf, named, keysOf, Noted, Entry, Added, Noting, Joins}
 use Rattle.keys.proofs.Chaining.{keys-move}
 use Rattle.keys.proofs.Keeping.{noted-move, key-below}
 use Rattle.member_keys.specs.Contract.{Entries, Joined}
@@ -51,9 +51,6 @@ module _ (s : List ℕ) (at : ℕ) (book : Book) {bytes room r : ℕ} {T T₁ W�
 
   pub key-noted : Noted (named s room T₁) N r
   key-noted = noted-move a old r (omega arith)
-
-  pub key-rows : {words : ℕ} → room ≤ 4096 → room * 4 ≤ words → Rows r room words
-  key-rows h k = record { inside = string-row s at book d e; most = h; table = k }
 
   pub key-entry : {owner words : ℕ} → Entries at r room bytes words → 0 < owner → owner ≤ r → Entry owner r words
   key-entry n h k =
@@ -104,4 +101,4 @@ string-entries s at book d e n =
     let l : length (g .rows) ≡ 1 = rw (the-row s at book d e .1) in
     record { behind = omega (arith, g .next, g .ahead, n .behind); enough = n .enough; most = n .most }
 
-pub ruleset keying = (joined-not, joined-refused, key-refused, key-noted, key-rows, key-entry, key-again, key-new, key-joined)
+pub ruleset keying = (joined-not, key-refused, key-noted, string-row, key-entry)

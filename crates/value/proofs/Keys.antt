@@ -5,6 +5,7 @@ use Prim.Native.Nat.{ℕ, zero, suc, _+_, _-_, _*_, _≤_, _<_}
 use native.Mathlib.Omega.{arith}
 use lib.ListN.{length, getD}
 use Rattle.draft.specs.declared.Refusal.{Refusal}
+use Rattle.draft.specs.declared.Refusal.the-variants.{Ended, TooDeep, NoRow}
 use Rattle.draft.specs.declared.Row.{Row}
 use Rattle.draft.specs.Codebook.{Book}
 use Rattle.draft.specs.Strings.{Text}
@@ -29,8 +30,18 @@ use Rattle.value.proofs.Turns.{Turn, turn-first, after, again-by, refus
 pub after-not : {t t′ : ℕ → Text} {N N′ : List ℕ} {first : ℕ} {step : Step} → (step .number ≡ 0 → ⊥) → After t t′ N N′ first step
 after-not n = record { keeps = λ e. absurd (n e); behind = λ e. absurd (n e) }
 
-pub after-refused : (m : Refusal) {at : ℕ} {t t′ : ℕ → Text} {N N′ : List ℕ} {first : ℕ} {step : Step} → step ≡ refusedAt m at → After t t′ N N′ first step
+after-refused : (m : Refusal) {at : ℕ} {t t′ : ℕ → Text} {N N′ : List ℕ} {first : ℕ} {step : Step} → step ≡ refusedAt m at → After t t′ N N′ first step
 after-refused m f = after-not (λ e. number-some m (sym (ap (λ (x : Step). x .number) f) ∙ e))
+
+module _ {at : ℕ} {t t′ : ℕ → Text} {N N′ : List ℕ} {first : ℕ} {step : Step} where
+  pub after-ended : step ≡ refusedAt Ended at → After t t′ N N′ first step
+  after-ended f = after-refused Ended f
+
+  pub after-deep : step ≡ refusedAt TooDeep at → After t t′ N N′ first step
+  after-deep f = after-refused TooDeep f
+
+  pub after-full : step ≡ refusedAt NoRow at → After t t′ N N′ first step
+  after-full f = after-refused NoRow f
 
 pub noted-next : {t : ℕ → Text} {N : List ℕ} {r : ℕ} → Noted t N r → Noted t N (r + 1)
 noted-next {r = r} a = noted-move a (λ k h. refl) (r + 1) (omega arith)
@@ -209,4 +220,4 @@ module _ {s : List ℕ} {g : Reader} {n at₀ r₀ room : ℕ} {T₀ W₀ N₀ :
             table = rw (z .wrote, length-putRows room T r (z .rows)) (i .table);
           }
 
-pub ruleset noted = (after-not, after-refused, noted-next, after-scalar, after-closed, joined-not, member-first, member-both, member-joined, joined-noted, joined-entries, reaching-first, reaching-within, reaching-fits, reaching-noted, reaching-entries, reaching-done, reaching-after, reaching-refused, reaching-again, pairing-first, pairing-within, pairing-fits, pairing-noted, pairing-on, pairing-entries, pairing-done, pairing-after, pairing-refused, pairing-again)
+pub ruleset noted = (after-not, after-ended, after-deep, after-full, noted-next, after-scalar, after-closed, joined-not, member-first, member-both, member-joined, joined-noted, joined-entries, reaching-first, reaching-within, reaching-fits, reaching-noted, reaching-entries, reaching-done, reaching-after, reaching-refused, reaching-again, pairing-first, pairing-within, pairing-fits, pairing-noted, pairing-on, pairing-entries, pairing-done, pairing-after, pairing-refused, pairing-again)

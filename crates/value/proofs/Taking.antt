@@ -29,13 +29,13 @@ abbrev Takes : ℕ → Reading → Type 0
 Takes at (refused m q) = Unit {0}
 Takes at (got rows to book) = at + length rows ≤ to
 
-pick-takes : {at : ℕ} (b : Bool) (o : Reading) (m : Refusal) (q : ℕ) → Takes at o → Takes at (pick b o (refused m q))
-pick-takes true o m q i = i
-pick-takes false o m q i = tt
+pick-takes : (at : ℕ) (b : Bool) (o : Reading) (m : Refusal) (q : ℕ) → Takes at o → Takes at (pick b o (refused m q))
+pick-takes at true o m q i = i
+pick-takes at false o m q i = tt
 
-judged-takes : {at : ℕ} (v : Verdict) (q : ℕ) (o : Reading) → Takes at o → Takes at (judged v q o)
-judged-takes Fine q o i = i
-judged-takes (Bad m) q o i = tt
+judged-takes : (at : ℕ) (v : Verdict) (q : ℕ) (o : Reading) → Takes at o → Takes at (judged v q o)
+judged-takes at Fine q o i = i
+judged-takes at (Bad m) q o i = tt
 
 over-takes : (k b r at : ℕ) (o : Reading) → Takes (at + 1) o → Takes at (over k b r o)
 over-takes k b r at (refused m q) i = tt
@@ -55,11 +55,11 @@ pair-takes f g at r book h k = go (f at r book) h
 
 module _ (s : List ℕ) (room : ℕ) where
   opened-takes : (size at r : ℕ) (o : Reading) → Takes at o → Takes at (opened s room size at r o)
-  opened-takes size at r o i = pick-takes (ltb r room) _ NoRow at (pick-takes (leb (at + size) (length s)) o Ended at i)
+  opened-takes size at r o i = pick-takes at (ltb r room) _ NoRow at (pick-takes at (leb (at + size) (length s)) o Ended at i)
 
   contents-takes : (c : Content) (o n at r : ℕ) (book : Book) → at + 1 ≤ o → Takes at (contents s room c o n at r book)
   unfolding contents
-  contents-takes c o n at r book h = judged-takes (verdict c s o n) at _ (omega arith)
+  contents-takes c o n at r book h = judged-takes at (verdict c s o n) at _ (omega arith)
 
   recalled-takes : (e : Entry) (at r : ℕ) (book : Book) → Takes at (recalled s room e at r book)
   recalled-takes Unset at r book = tt
@@ -79,7 +79,7 @@ module _ (s : List ℕ) (room : ℕ) where
 
   string-takes : (at r : ℕ) (book : Book) → Takes at (string s room at r book)
   unfolding string
-  string-takes at r book = pick-takes (ltb at (length s)) _ Ended at (if-string-takes (tagOf (getD s at 0)) at r book)
+  string-takes at r book = pick-takes at (ltb at (length s)) _ Ended at (if-string-takes (tagOf (getD s at 0)) at r book)
 
   name-takes : (q at r : ℕ) (book : Book) → Takes at (name s room q at r book)
   unfolding stringBy
@@ -87,11 +87,11 @@ module _ (s : List ℕ) (room : ℕ) where
     where
       go : (o : Reading) → Takes at o → Takes at (then o (λ rows to book′. judged (nameRule (firstText s room rows)) q (got rows to book′)))
       go (refused m p) i = tt
-      go (got rows to book′) i = judged-takes (nameRule (firstText s room rows)) q (got rows to book′) i
+      go (got rows to book′) i = judged-takes at (nameRule (firstText s room rows)) q (got rows to book′) i
 
   binary-takes : (at r : ℕ) (book : Book) → Takes at (only s room 66 (longItem s room content.Binary) at r book)
   unfolding only
-  binary-takes at r book = pick-takes (ltb at (length s)) _ Ended at (pick-takes (eqb (getD s at 0) 66) _ UnexpectedByte at (opened-takes 5 at r _ (contents-takes _ _ _ at r _ (omega arith))))
+  binary-takes at r book = pick-takes at (ltb at (length s)) _ Ended at (pick-takes at (eqb (getD s at 0) 66) _ UnexpectedByte at (opened-takes 5 at r _ (contents-takes _ _ _ at r _ (omega arith))))
 
   plain-takes : (x : PlainItem) (at r : ℕ) (book : Book) → Takes at (plainItem s room x at r book)
   plain-takes Integer at r book = opened-takes 5 at r _ (omega arith)

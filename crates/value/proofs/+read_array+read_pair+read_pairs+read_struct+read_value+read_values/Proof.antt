@@ -121,7 +121,7 @@ abbrev read-values-calls : ℕ → read-values-lts.Claims
 read-values-calls t = (read-value-below t, read-value.Post)
 
 read-pair-read-value-requires : (t : ℕ) → read-pair-lts.Need-read-value-requires (read-pair-calls t) (read-pair-at t) read-pair.Post
-read-pair-read-value-requires t c κs = (search needs, record { fitting = record { within = search values; fits = search values; rows = search needs; table = search needs; message = search needs }; book = search needs }, search noted, search noted)
+read-pair-read-value-requires t c κs = (search needs, (record { fitting = record { within = search values; fits = search values; rows = search needs; table = search needs; message = search needs }; book = search needs }, search noted, search noted))
 
 abbrev read-pairs-Inv-loop : read-pairs-lts.InvT-loop
 read-pairs-Inv-loop s at row deep n room table₀ book₀ notes₀ pairs₀ next₀ free₀ table book notes pairs next free =
@@ -131,7 +131,7 @@ abbrev read-pairs-μ-loop : read-pairs-lts.MeasureT-loop
 read-pairs-μ-loop s at row deep n room table₀ book₀ notes₀ pairs₀ next₀ free₀ table book notes pairs next free = length s - next
 
 read-pairs-read-pair-requires : (t : ℕ) → read-pairs-lts.Need-read-pair-requires (read-pairs-calls t) (read-pairs-at t) read-pairs.Post read-pairs-Inv-loop read-pairs-μ-loop
-read-pairs-read-pair-requires t c κs = (search needs, search needs, search noted, record { fitting = record { within = search noted; fits = search noted; rows = search needs; table = search needs; message = search needs }; book = search needs }, search noted, search noted)
+read-pairs-read-pair-requires t c κs = (search needs, (search needs, search noted, record { fitting = record { within = search noted; fits = search noted; rows = search needs; table = search needs; message = search needs }; book = search needs }, search noted, search noted))
 
 abbrev read-values-Inv-loop : read-values-lts.InvT-loop
 read-values-Inv-loop s at row deep n room table₀ book₀ notes₀ values₀ next₀ free₀ table book notes values next free =
@@ -141,7 +141,7 @@ abbrev read-values-μ-loop : read-values-lts.MeasureT-loop
 read-values-μ-loop s at row deep n room table₀ book₀ notes₀ values₀ next₀ free₀ table book notes values next free = length s - next
 
 read-values-read-value-requires : (t : ℕ) → read-values-lts.Need-read-value-requires (read-values-calls t) (read-values-at t) read-values.Post read-values-Inv-loop read-values-μ-loop
-read-values-read-value-requires t c κs = (search needs, record { fitting = record { within = search noted; fits = search noted; rows = search needs; table = search needs; message = search needs }; book = search needs }, search noted, search noted)
+read-values-read-value-requires t c κs = (search needs, (record { fitting = record { within = search noted; fits = search noted; rows = search needs; table = search needs; message = search needs }; book = search needs }, search noted, search noted))
 
 pub +read-array+read-pair+read-pairs+read-struct+read-value+read-values-spec :
     {M : Type 1} → statement M
@@ -167,7 +167,7 @@ pub +read-array+read-pair+read-pairs+read-struct+read-value+read-values-spec :
     (λ c κs. search needs)  -- read-array-unsigned-requires
     (λ c. search needs)  -- read-array-add-read-values
     (λ c. search needs)  -- read-array-sub-read-values
-    (λ c κs. (search needs, search needs, search needs, search noted))  -- read-array-read-values-requires
+    (λ c κs. (search needs, (search needs, search needs, search noted)))  -- read-array-read-values-requires
     (λ c. search needs)  -- read-array-cast-close
     (λ c κs. (search values, search needs, search needs, search needs))  -- read-array-close-requires
     (λ c. search needs)  -- read-array-same-length
@@ -220,7 +220,7 @@ pub +read-array+read-pair+read-pairs+read-struct+read-value+read-values-spec :
     (λ c κs. search needs)  -- read-struct-unsigned-requires
     (λ c. search needs)  -- read-struct-add-read-pairs
     (λ c. search needs)  -- read-struct-sub-read-pairs
-    (λ c κs. (search needs, search needs, search needs, search needs, search noted))  -- read-struct-read-pairs-requires
+    (λ c κs. (search needs, (search needs, search needs, search needs, search noted)))  -- read-struct-read-pairs-requires
     (λ c. search needs)  -- read-struct-cast-close
     (λ c κs. (search values, search needs, search needs, search needs))  -- read-struct-close-requires
     (λ c. search needs)  -- read-struct-same-length
