@@ -83,30 +83,32 @@ module _ (s : List ℕ) (f : Reader) (seen : Texts) (at : ℕ) (book : Book) {by
     unfolding member
     member-both = pair-both (key s room seen) f at book d e d₂
 
-    pub member-joined : {N N₁ N₂ : List ℕ} {owner : ℕ} → 0 < owner → owner ≤ r → Joined (named s room T) (named s room T₁) N N₁ owner r step → After (named s room T₁) (named s room T₂) N₁ N₂ (step .row) step₂ → Joined (named s room T) (named s room T₂) N N₂ owner r step₂
-    member-joined {owner = owner} p q j i =
-        let x = j .joins e in
-        record {
-          joins = λ e₂.
-              let z = i .keeps e₂ in
-              let g = did-next d₂ e₂ in
-              record {
-                on = omega (arith, x .on, g .next);
-                noted = z .noted;
-                owners = λ k l. z .owners k (omega (arith, x .on)) ∙ x .owners k l;
-                mine = z .keys owner p (omega (arith, x .on)) ∙ x .mine ∙ rw (named-kept s g r (x .on));
-                others = λ o h l n. z .keys o h (omega (arith, x .on)) ∙ x .others o h l n;
-              };
-          behind = i .behind;
-        }
+pub member-joined :
+    (s : List ℕ) {o : Reading} {bytes room from r : ℕ} {T₁ T₂ W₂ N N₁ N₂ : List ℕ} {t : ℕ → Text} {owner : ℕ} {step step₂ : Step} → step .number ≡ 0 → Did o bytes room from (step .row) T₁ T₂ W₂ step₂ → 0 < owner → owner ≤ r
+    → Joined t (named s room T₁) N N₁ owner r step → After (named s room T₁) (named s room T₂) N₁ N₂ (step .row) step₂ → Joined t (named s room T₂) N N₂ owner r step₂
+member-joined s {r = r} {owner = owner} e d p q j i =
+    let x = j .joins e in
+    record {
+      joins = λ e₂.
+          let z = i .keeps e₂ in
+          let g = did-next d e₂ in
+          record {
+            on = omega (arith, x .on, g .next);
+            noted = z .noted;
+            owners = λ k l. z .owners k (omega (arith, x .on)) ∙ x .owners k l;
+            mine = z .keys owner p (omega (arith, x .on)) ∙ x .mine ∙ rw (named-kept s g r (x .on));
+            others = λ o h l n. z .keys o h (omega (arith, x .on)) ∙ x .others o h l n;
+          };
+      behind = i .behind;
+    }
 
 -- what follows a key
 module _ {t t′ : ℕ → Text} {N N′ : List ℕ} {owner first : ℕ} {step : Step} (j : Joined t t′ N N′ owner first step) (e : step .number ≡ 0) where
   pub joined-noted : Noted t′ N′ (step .row)
   joined-noted = j .joins e .noted
 
-  pub joined-entries : {at room bytes words : ℕ} → Entries at first room bytes words → Entries (step .at) (step .row) room bytes words
-  joined-entries n = record { behind = j .behind e; enough = n .enough; most = n .most }
+  pub joined-entries : {at room bytes words words₀ : ℕ} → Entries at first room bytes words₀ → words ≡ words₀ → Entries (step .at) (step .row) room bytes words
+  joined-entries n q = rw q (record { behind = j .behind e; enough = n .enough; most = n .most })
 
 -- where the loop over an Array's values stands
 pub record Reaching (s : List ℕ) (g : Reader) (n at₀ r₀ room : ℕ) (T₀ W₀ N₀ : List ℕ) (left at r : ℕ) (T W N : List ℕ) : Type 0 where
@@ -220,4 +222,4 @@ module _ {s : List ℕ} {g : Reader} {n at₀ r₀ room : ℕ} {T₀ W₀ N₀ :
             table = rw (z .wrote, length-putRows room T r (z .rows)) (i .table);
           }
 
-pub ruleset noted = (after-not, after-ended, after-deep, after-full, noted-next, after-scalar, after-closed, joined-not, member-first, member-both, member-joined, joined-noted, joined-entries, reaching-first, reaching-within, reaching-fits, reaching-noted, reaching-entries, reaching-done, reaching-after, reaching-refused, reaching-again, pairing-first, pairing-within, pairing-fits, pairing-noted, pairing-on, pairing-entries, pairing-done, pairing-after, pairing-refused, pairing-again)
+pub ruleset noted = (after-not, after-ended, after-deep, after-full, noted-next, after-scalar, after-closed, joined-not, member-first, member-both, reaching-first, reaching-within, reaching-fits, reaching-noted, reaching-entries, reaching-done, reaching-after, reaching-refused, reaching-again, pairing-first, pairing-within, pairing-fits, pairing-noted, pairing-on, pairing-entries, pairing-done, pairing-after, pairing-refused, pairing-again)

@@ -102,7 +102,7 @@ module _ (s : List ℕ) (room : ℕ) where
   plain-takes Binary at r book = opened-takes 5 at r _ (contents-takes _ _ _ at r _ (omega arith))
   plain-takes Other at r book =
       opened-takes 1 at r _
-      (over-takes 12 2 r at _ (pair-takes (name s room at) (only s room 66 (longItem s room content.Binary)) (at + 1) (r + 1) book (name-takes at (at + 1) (r + 1) book) binary-takes))
+      (over-takes 12 2 r at (pair (name s room at) (only s room 66 (longItem s room content.Binary)) (at + 1) (r + 1) book) (pair-takes (name s room at) (only s room 66 (longItem s room content.Binary)) (at + 1) (r + 1) book (name-takes at (at + 1) (r + 1) book) binary-takes))
 
   pub scalar-takes : (t : Tag) (at r : ℕ) (book : Book) {rows : List Row} {to : ℕ} {book′ : Book} → item s room t floor at r book ≡ got rows to book′ → at + length rows ≤ to
   scalar-takes t at r book e = rw e at (go t)

@@ -2,8 +2,9 @@ use borrow.Author.Needs.{needs}
 use mathlib.Core.Path.{_≡_, refl}
 use lib.ListN.{length}
 use Rattle.draft.specs.Read.{value}
+use Rattle.item.proofs.Readings.{at-in, row-in}
 use Rattle.value.proofs.Values.{values}
-use Rattle.value.proofs.Keys.{noted, Reaching, reaching-first, Pairing, pairing-first}
+use Rattle.value.proofs.Keys.{noted, after-scalar, after-closed, member-both, member-joined, joined-noted, joined-entries, Reaching, reaching-first, reaching-again, Pairing, pairing-first, pairing-again}
 use Prim.Native.Nat.{ℕ, _<_, _+_, _*_, _-_}
 use borrow.Fn.Kinds.{In}
 use borrow.Fn.PlainCycle.{Measures, is, falls, and}
@@ -120,8 +121,37 @@ read-value-calls t = (refuse-reads.Asked, refuse-reads.Learnt, read-array-below 
 abbrev read-values-calls : ℕ → read-values-lts.Claims
 read-values-calls t = (read-value-below t, read-value.Post)
 
+read-array-returns-4 : (t : ℕ) → read-array-lts.Need-returns-4 (read-array-calls t) (read-array-at t) read-array.Post
+read-array-returns-4 t c =
+    let pre = c .before .before .before .before .before .before .before .before .before .before .before .before .before .before .before .before .before .before .before .before .before .before .pre .1 in
+    let held = c .before .before .before .before .before .before .before .before .before .before .read-values .ensures in
+    (search values, after-closed _ (held .0) (c .before .before .close .ensures) (pre .3) (held .1))
+
+read-struct-returns-4 : (t : ℕ) → read-struct-lts.Need-returns-4 (read-struct-calls t) (read-struct-at t) read-struct.Post
+read-struct-returns-4 t c =
+    let pre = c .before .before .before .before .before .before .before .before .before .before .before .before .before .before .before .before .before .before .before .before .before .before .pre .1 in
+    let held = c .before .before .before .before .before .before .before .before .before .before .read-pairs .ensures in
+    (search values, after-closed _ (held .0) (c .before .before .close .ensures) (pre .3) (held .1))
+
 read-pair-read-value-requires : (t : ℕ) → read-pair-lts.Need-read-value-requires (read-pair-calls t) (read-pair-at t) read-pair.Post
-read-pair-read-value-requires t c κs = (search needs, (record { fitting = record { within = search values; fits = search values; rows = search needs; table = search needs; message = search needs }; book = search needs }, search noted, search noted))
+read-pair-read-value-requires t c κs =
+    let pre = c .before .before .before .before .before .before .before .before .before .before .before .before .before .before .before .before .before .before .before .pre .1 in
+    let key = c .before .before .before .before .before .before .before .before .before .before .before .read-key .ensures in
+    let e = c .before .before .before .if1 .left in
+    (search needs, (record { fitting = record { within = at-in (key .0) e; fits = row-in (key .0) e; rows = search needs; table = search needs; message = search needs }; book = search needs }, joined-entries (key .1) e (pre .3) (search needs), joined-noted (key .1) e))
+
+read-pair-returns-2 : (t : ℕ) → read-pair-lts.Need-returns-2 (read-pair-calls t) (read-pair-at t) read-pair.Post
+read-pair-returns-2 t c =
+    let pre = c .before .before .before .before .before .before .before .before .before .before .before .before .before .before .before .before .before .before .before .before .before .before .before .before .before .before .pre .1 in
+    let key = c .before .before .before .before .before .before .before .before .before .before .before .before .before .before .before .before .before .before .read-key .ensures in
+    let e = c .before .before .before .before .before .before .before .before .before .before .if1 .left in
+    let val = c .before .before .before .before .before .before .read-value .ensures in
+    (member-both _ _ _ _ _ (key .0) e (val .0), member-joined _ e (val .0) (pre .0) (pre .1) (key .1) (val .1))
+
+read-value-returns-4 : (t : ℕ) → read-value-lts.Need-returns-4 (read-value-calls t) (read-value-at t) read-value.Post
+read-value-returns-4 t c =
+    let pre = c .before .before .before .before .before .before .before .before .before .before .before .before .before .before .pre .1 in
+    (search values, after-scalar _ _ _ (c .before .before .before .before .read-scalar .ensures) (pre .2) (pre .1 .behind))
 
 abbrev read-pairs-Inv-loop : read-pairs-lts.InvT-loop
 read-pairs-Inv-loop s at row deep n room table₀ book₀ notes₀ pairs₀ next₀ free₀ table book notes pairs next free =
@@ -142,6 +172,16 @@ read-values-μ-loop s at row deep n room table₀ book₀ notes₀ values₀ nex
 
 read-values-read-value-requires : (t : ℕ) → read-values-lts.Need-read-value-requires (read-values-calls t) (read-values-at t) read-values.Post read-values-Inv-loop read-values-μ-loop
 read-values-read-value-requires t c κs = (search needs, (record { fitting = record { within = search noted; fits = search noted; rows = search needs; table = search needs; message = search needs }; book = search needs }, search noted, search noted))
+
+read-pairs-loop-again : (t : ℕ) → read-pairs-lts.Need-loop-again (read-pairs-calls t) (read-pairs-at t) read-pairs.Post read-pairs-Inv-loop read-pairs-μ-loop
+read-pairs-loop-again t c =
+    let did = c .before .before .before .before .before .before .before .before .read-pair .ensures in
+    (pairing-again (c .before .before .before .before .before .before .before .before .before .before .before .before .before .loop .inv .0) (c .before .before .before .before .before .before .before .before .before .before .before .before .loop-test .taken) (did .0) (did .1) (c .if1 .left), search needs, search needs, search needs)
+
+read-values-loop-again : (t : ℕ) → read-values-lts.Need-loop-again (read-values-calls t) (read-values-at t) read-values.Post read-values-Inv-loop read-values-μ-loop
+read-values-loop-again t c =
+    let did = c .before .before .before .before .before .before .before .before .read-value .ensures in
+    (reaching-again (c .before .before .before .before .before .before .before .before .before .before .before .before .before .loop .inv .0) (c .before .before .before .before .before .before .before .before .before .before .before .before .loop-test .taken) (did .0) (did .1) (c .if1 .left), search needs, search needs, search needs)
 
 pub +read-array+read-pair+read-pairs+read-struct+read-value+read-values-spec :
     {M : Type 1} → statement M
@@ -173,7 +213,7 @@ pub +read-array+read-pair+read-pairs+read-struct+read-value+read-values-spec :
     (λ c. search needs)  -- read-array-same-length
     (λ c. search needs)  -- read-array-same-length-2
     (λ c. search needs)  -- read-array-same-length-3
-    (λ c. (search values, search noted)))  -- read-array-returns-4
+    (read-array-returns-4 t))
     (λ t. read-pair-lts.spec (read-pair-calls t)
     (read-pair-at t)
     read-pair.Post
@@ -186,7 +226,7 @@ pub +read-array+read-pair+read-pairs+read-struct+read-value+read-values-spec :
     (λ c. search needs)  -- read-pair-same-length-4
     (λ c. search needs)  -- read-pair-same-length-5
     (λ c. search needs)  -- read-pair-same-length-6
-    (λ c. (search noted, search noted)))  -- read-pair-returns-2
+    (read-pair-returns-2 t))
     (λ t. read-pairs-lts.spec
     (read-pairs-calls t)
     (read-pairs-at t)
@@ -201,7 +241,7 @@ pub +read-array+read-pair+read-pairs+read-struct+read-value+read-values-spec :
     (λ c. (search noted, search noted))  -- read-pairs-returns
     (λ c. search needs)  -- read-pairs-sub-pairs
     (λ c. search values)  -- read-pairs-loop-less
-    (λ c. (search noted, search needs, search needs, search needs))  -- read-pairs-loop-again
+    (read-pairs-loop-again t)
     (λ c. search needs)  -- read-pairs-same-length-4
     (λ c. search needs)  -- read-pairs-same-length-5
     (λ c. search needs)  -- read-pairs-same-length-6
@@ -226,7 +266,7 @@ pub +read-array+read-pair+read-pairs+read-struct+read-value+read-values-spec :
     (λ c. search needs)  -- read-struct-same-length
     (λ c. search needs)  -- read-struct-same-length-2
     (λ c. search needs)  -- read-struct-same-length-3
-    (λ c. (search values, search noted)))  -- read-struct-returns-4
+    (read-struct-returns-4 t))
     (λ t. read-value-lts.spec (read-value-calls t)
     (read-value-at t)
     read-value.Post
@@ -246,7 +286,7 @@ pub +read-array+read-pair+read-pairs+read-struct+read-value+read-values-spec :
     (λ c. (search values, search needs))  -- read-value-returns-3
     (λ c. search needs)  -- read-value-same-length-7
     (λ c. search needs)  -- read-value-same-length-8
-    (λ c. (search values, search noted)))  -- read-value-returns-4
+    (read-value-returns-4 t))
     λ t. read-values-lts.spec
     (read-values-calls t)
     (read-values-at t)
@@ -261,7 +301,7 @@ pub +read-array+read-pair+read-pairs+read-struct+read-value+read-values-spec :
     (λ c. (search noted, search noted))  -- read-values-returns
     (λ c. search needs)  -- read-values-sub-values
     (λ c. search values)  -- read-values-loop-less
-    (λ c. (search noted, search needs, search needs, search needs))  -- read-values-loop-again
+    (read-values-loop-again t)
     (λ c. search needs)  -- read-values-same-length-4
     (λ c. search needs)  -- read-values-same-length-5
     (λ c. search needs)  -- read-values-same-length-6
