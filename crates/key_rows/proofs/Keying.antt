@@ -73,8 +73,8 @@ pub joined-none : {t : ℕ → Text} {N N′ : List ℕ} {owner first : ℕ} →
 joined-none = record { joins = λ next e. absurd (no-end e) }
 
 module _ (s : List ℕ) (room rows : ℕ) (T : List ℕ) (r : ℕ) {o : Extent} (h : o ≡ string (rowAt room T) rows s r) where
-  pub key-no : {seen : List Text} → o ≡ Unfit → Unfit ≡ stringBy (rowAt room T) rows s (keyRule seen) r
-  key-no {seen} i = by-no (rowAt room T) rows s (keyRule seen) r h i
+  pub key-no : (seen : List Text) → o ≡ Unfit → Unfit ≡ stringBy (rowAt room T) rows s (keyRule seen) r
+  key-no seen i = by-no (rowAt room T) rows s (keyRule seen) r h i
 
   module _ {n : ℕ} (i : o ≡ Until n) where
     pub key-rows : {words : ℕ} → Ready rows room words → Rows r room words

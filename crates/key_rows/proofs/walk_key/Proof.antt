@@ -9,8 +9,8 @@ walk-key-spec = tie.close (tie.spec
     (λ c. search needs)  -- enum-told
     (λ c. search needs)  -- enum-known-extent
     (λ c κs. (search keying, search keying, search needs))  -- note-requires
-    (λ c. search needs)  -- same-length
     (λ c. (search keying, search keying))  -- returns
-    (λ c. search needs)  -- same-length-2
+    (λ c. search needs)  -- same-length
     (λ c. (search keying, search keying))  -- returns-2
+    (λ c. search needs)  -- same-length-2
     (λ c. (search keying, search keying)))  -- returns-3
