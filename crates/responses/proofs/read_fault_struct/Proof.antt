@@ -1,7 +1,10 @@
-use Rattle.responses.proofs.Faults.{faults}
+use Rattle.responses.proofs.Faults.{faults, fault-judged}
 use borrow.Author.Needs.{needs}
 use Rattle.responses.proofs.read_fault_struct.Statement.{statement}
 use Rattle.responses.proofs.read_fault_struct.Tie as tie
+
+returns-2 : tie.Need-returns-2
+returns-2 c = fault-judged _ _ _ _ (c .before .before .before .before .before .before .before .before .before .before .before .read-struct-only .ensures) (c .before .before .before .if1 .left) (c .before .before .before .before .before .before .before .before .before .before .before .before .before .before .before .before .before .before .before .pre .0 .fitting .table) (c .before .judge .ensures) (c .judged .ensures)
 
 pub read-fault-struct-spec : {M : Type 1} → statement M
 read-fault-struct-spec = tie.close (tie.spec
@@ -15,4 +18,4 @@ read-fault-struct-spec = tie.close (tie.spec
     (λ c. search needs)  -- same-length-4
     (λ c. search needs)  -- same-length-5
     (λ c. search needs)  -- same-length-6
-    (λ c. search faults))  -- returns-2
+    returns-2)

@@ -13,7 +13,7 @@ read-response-spec = tie.close (tie.spec
     (λ c. search needs)  -- shared-slice-read-if3
     (λ c. search needs)  -- add-read-fault-struct
     (λ c. search needs)  -- add-read-fault-struct-2
-    (λ c κs. search needs)  -- read-fault-struct-requires
+    (λ c κs. (search needs, search needs, search needs))  -- read-fault-struct-requires
     (λ c κs. (search responding, search needs, search needs, search needs))  -- close-requires
     (λ c. search needs)  -- add-read-value
     (λ c κs. (search needs, search needs, search responding))  -- read-value-requires
