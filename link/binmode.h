@@ -47,6 +47,7 @@ extern "C" {
 #define BINMODE_BAD_VALUE 17        /* read: a Double or DateTime in ASCII that is no such text, as "5." or 30 February */
 #define BINMODE_NO_MEMBER 18        /* lookup: the row is no Struct, or the member is absent or of the wrong sort */
 #define BINMODE_TOO_MANY_DIGITS 19  /* lookup: a Double of more than 15 digits, or of more than 22 after the point */
+#define BINMODE_REPEATED_KEY 20     /* read: a key that its Struct has already, compared as bytes */
 #define BINMODE_NO_CARD 26          /* job file: a sound job ends before the card asked for */
 #define BINMODE_MORE_WANTED 255     /* pieces: no answer yet */
 
@@ -70,7 +71,7 @@ extern "C" {
 #define BINMODE_DATE_TIME 7  /*          offset of its content   length   none */
 #define BINMODE_BINARY 8     /*          offset of its content   length   none */
 #define BINMODE_ARRAY 9      /*          0                       count    the Values */
-#define BINMODE_STRUCT 10    /*          0                       pairs    key (a String), Value, key, Value .. */
+#define BINMODE_STRUCT 10    /*          0                       pairs    key (a String), Value, key, Value ..; the keys differ */
 #define BINMODE_STRING 11    /*          offset of its text      length   none; a recalled string has the recorded text's */
 #define BINMODE_OTHER 12     /*          0                       2        type name (a String), Binary */
 
@@ -87,11 +88,12 @@ extern "C" {
  *                            BINMODE_TOO_LONG, BINMODE_WRONG_PREFIX, and BINMODE_ENDED for fewer than 12 bytes: 0;
  *                            BINMODE_STANDARD_NAME: the offset of the Other's `O`;
  *                            BINMODE_BAD_FAULT: the offset of the Struct's `S`, which is read whole first;
+ *                            BINMODE_REPEATED_KEY: the second key's, before its value is looked at;
  *                            the others: the item's, which is 12 for the Call or Response, 13 for what follows `R` and 14
  *                            for what follows `RF`.
  *
- * Gives BINMODE_ACCEPTED, and the table has the rows and then zeros; or a refusal's number (1 to 10, 14 or 17), and the whole table
- * is zeros. The first failure from left to right decides.
+ * Gives BINMODE_ACCEPTED, and the table has the rows and then zeros; or a refusal's number (1 to 10, 14, 17 or 20), and the whole
+ * table is zeros. The first failure from left to right decides.
  */
 uint8_t binmode_read(const uint8_t *message, size_t message_len, uint32_t *table, size_t table_words, uint64_t *rows,
                      uint64_t *used, uint64_t *place);
@@ -125,8 +127,8 @@ uint8_t binmode_write(const uint32_t *table, size_t table_words, size_t rows, co
  *   table, table_words    the table, as for binmode_read; offsets in its rows count from the card's first byte
  *   rows                  is set to the number of rows; 0 on a refusal
  *   used                  is set to the number of the body's bytes used; 0 on a refusal
- *   place                 is set to 0 on acceptance; on a refusal that is the card's own (1 to 10, 14 or 17) to its place, counted
- *                         from the card's first byte; on BINMODE_FILE_ENDED, BINMODE_WRONG_END and BINMODE_NO_CARD to the first
+ *   place                 is set to 0 on acceptance; on a refusal that is the card's own (1 to 10, 14, 17 or 20) to its place,
+ *                         counted from the card's first byte; on BINMODE_FILE_ENDED, BINMODE_WRONG_END and BINMODE_NO_CARD to the first
  *                         byte in the file of the record that gives it (file_len, if none begins there)
  *   body                  is set to the first byte of the card's body in the file; 0 on a refusal
  *
@@ -155,8 +157,8 @@ uint8_t binmode_next_card(const uint8_t *file, size_t file_len, size_t number, s
                           uint64_t *length, uint64_t *place);
 
 /*
- * Looking up. A member of a Struct is a key and a value; it is asked for by the bytes of its key, and of equal keys the first one
- * answers. Both functions take any table, as binmode_write does, and judge it first: one that is not writable is refused, so
+ * Looking up. A member of a Struct is a key and a value; it is asked for by the bytes of its key, which no other member
+ * of the Struct has. Both functions take any table, as binmode_write does, and judge it first: one that is not writable is refused, so
  * nothing has to be tested before. For a table made by binmode_read, the text bytes are the message.
  *
  * The sorts of answers.

@@ -1,6 +1,6 @@
 -- What answers each return of the functions that walk items that hold others, by what they hold. Assumes nothing.
 use mathlib.Core.Path.{_≡_, refl, _∙_}
-use mathlib.Core.List.{List}
+use mathlib.Core.List.{List, []}
 use Prim.Native.Nat.{ℕ, zero, suc, _+_, _-_, _≤_, _<_}
 use native.Mathlib.Numerals.{sub-one}
 use borrow.Author.Tests.{lt-ltb, le-ltb}
@@ -16,9 +16,8 @@ use Rattle.draft.specs.Rows.{itemOf}
 use Rattle.draft.specs.Content.{nameRule}
 use Rattle.draft.specs.Bytes.{part}
 use Rattle.draft.specs.Read.{textOf}
-use Rattle.draft.specs.Writable.{Walk, over, contentItem, string, name, pair, items, alike, arrayItem, structItem, item, value, nested, under}
+use Rattle.draft.specs.Writable.{Walk, over, contentItem, string, stringBy, name, pair, items, alike, nothing, member, keeping, arrayItem, structItem, item, value, nested, under}
 use Rattle.extents.proofs.Walking.{walking, only-there}
-use Rattle.containers.proofs.Turns.{turn-done, turn-again, turn-no}
 
 pub pair-no : (f g : Walk) (r : ℕ) {o : Extent} → o ≡ f r → o ≡ Unfit → Unfit ≡ pair f g r
 unfolding pair
@@ -37,7 +36,7 @@ module _ (row : ℕ → Row) (rows : ℕ) (s : List ℕ) where
   -- an Other's name
   module _ (r : ℕ) {o : Extent} (h : o ≡ string row rows s r) where
     pub name-no : o ≡ Unfit → Unfit ≡ name row rows s r
-    unfolding name
+    unfolding stringBy
     name-no i = rw (← h, i)
 
     module _ {k : ℕ} (i : o ≡ Until k) where
@@ -47,11 +46,11 @@ module _ (row : ℕ → Row) (rows : ℕ) (s : List ℕ) where
 
       module _ {t : List ℕ} {v : Verdict} (e : t ≡ textOf s (row r)) (j : v ≡ nameRule t) where
         pub name-bad : {m : Refusal} → v ≡ Bad m → Unfit ≡ name row rows s r
-        unfolding name
+        unfolding stringBy
         name-bad l = rw (← h, i, ← e, ← j, l)
 
         pub name-fine : v ≡ Fine → Until k ≡ name row rows s r
-        unfolding name
+        unfolding stringBy
         name-fine l = rw (← h, i, ← e, ← j, l)
 
   -- a Value, by its item
@@ -81,10 +80,10 @@ module _ (row : ℕ → Row) (rows : ℕ) (s : List ℕ) where
     struct-deep e = rw e
 
     module _ (d : deep ≡ 0 → ⊥) {n : ℕ} {o e : Extent} (f : n ≡ x .b) where
-      pub array-less : o ≡ items (alike (value row rows s (deep - 1))) n (r + 1) (r + 1) → e ≡ over x o → e ≡ arrayItem (nested row rows s deep) x r
+      pub array-less : o ≡ items (alike (value row rows s (deep - 1))) nothing n [] (r + 1) → e ≡ over x o → e ≡ arrayItem (nested row rows s deep) x r
       array-less h i = i ∙ rw (nested-less deep d, h, f)
 
-      pub struct-less : o ≡ items (alike (pair (string row rows s) (value row rows s (deep - 1)))) n (r + 1) (r + 1) → e ≡ over x o → e ≡ structItem row rows s (nested row rows s deep) x r
+      pub struct-less : o ≡ items (member row rows s (value row rows s (deep - 1))) (keeping row rows s) n [] (r + 1) → e ≡ over x o → e ≡ structItem row rows s (nested row rows s deep) x r
       struct-less h i = i ∙ rw (nested-less deep d, h, f)
 
-pub ruleset nesting = (walking, pair-no, pair-on, row-text-is, string-there, name-no, name-bad, name-fine, value-past, value-is, array-deep, struct-deep, array-less, struct-less, turn-done, turn-again, turn-no)
+pub ruleset nesting = (walking, pair-no, pair-on, row-text-is, string-there, name-no, name-bad, name-fine, value-past, value-is, array-deep, struct-deep, array-less, struct-less)

@@ -1,17 +1,20 @@
 // The rows of items that hold others: Others, Arrays and Structs. Values, Arrays and Structs are walked in a cycle of calls, in which
-// `deep`, the nesting left, falls at each Array and Struct.
+// `deep`, the nesting left, falls at each Array and Struct. The keys of all Structs are noted in the lent words `notes`.
 use draft::Content;
 use draft::Extent;
 use draft::Item;
 use draft::Row;
 use draft::Verdict;
 ghost use mathlib.Core.Path.{_≡_};
-ghost use Prim.Native.Nat.{_+_, _<_};
+ghost use mathlib.Core.List.{[]};
+ghost use Prim.Native.Nat.{_+_, _≤_, _<_};
 ghost use lib.ListN.{length};
 ghost use Rattle.draft.specs.Table.{rowAt};
 ghost use Rattle.draft.specs.Read.{textOf};
-ghost use Rattle.draft.specs.Writable.{contentItem, only, string, name, otherItem, arrayItem, structItem, value, nested, pair, items, alike};
+ghost use Rattle.draft.specs.Writable.{contentItem, only, name, otherItem, arrayItem, structItem, value, nested, pair, items, alike, nothing, member, keeping};
 ghost use Rattle.extents.specs.Asked.{Ready};
+ghost use Rattle.keys.specs.Notes.{named, keysOf, Noted};
+ghost use Rattle.key_rows.specs.Contract.{Entries, Walked, Joined};
 
 // The text of row r, or as much of it as lies in the text bytes; none where there is no such row.
 fn row_text<'a>(table: &[u32], room: usize, rows: usize, text: &'a [u8], r: usize) -> &'a [u8]
@@ -67,9 +70,10 @@ pub fn walk_value(
     text: &[u8],
     deep: usize,
     r: usize,
+    notes: &mut [u16],
 ) -> Extent
-    requires { ⌜ Ready rows room (length (now table)) ⌝ }
-    ensures { λ e. ⌜ e ≡ value (rowAt room (now (table .entry))) rows (now (text .entry)) deep r ⌝ }
+    requires { ⌜ Ready rows room (length (now table)) × Entries rows (length (now notes)) × Noted (named (now text) room (now table)) (now notes) r ⌝ }
+    ensures { λ e. ⌜ (e ≡ value (rowAt room (now (table .entry))) rows (now (text .entry)) deep r) × Walked (named (now (text .entry)) room (now (table .entry))) (now (notes .entry)) (now (notes .exit)) r e ⌝ }
 {
     if rows <= r {
         return Extent::Unfit;
@@ -80,8 +84,8 @@ pub fn walk_value(
         Item::Integer => extents::walk_integer(row, r),
         Item::Boolean => extents::walk_boolean(row, r),
         Item::Content(content) => extents::walk_content(text, content, row, r),
-        Item::Array => walk_array(table, room, rows, text, deep, row, r),
-        Item::Struct => walk_struct(table, room, rows, text, deep, row, r),
+        Item::Array => walk_array(table, room, rows, text, deep, row, r, notes),
+        Item::Struct => walk_struct(table, room, rows, text, deep, row, r, notes),
         Item::Other => walk_other(table, room, rows, text, row, r),
         Item::Call => Extent::Unfit,
         Item::Response => Extent::Unfit,
@@ -99,15 +103,16 @@ fn walk_array(
     deep: usize,
     row: Row,
     r: usize,
+    notes: &mut [u16],
 ) -> Extent
-    requires { ⌜ Ready rows room (length (now table)) × (r < 4096) ⌝ }
-    ensures { λ e. ⌜ e ≡ arrayItem (nested (rowAt room (now (table .entry))) rows (now (text .entry)) deep) row r ⌝ }
+    requires { ⌜ Ready rows room (length (now table)) × Entries rows (length (now notes)) × Noted (named (now text) room (now table)) (now notes) r × (r < 4096) ⌝ }
+    ensures { λ e. ⌜ (e ≡ arrayItem (nested (rowAt room (now (table .entry))) rows (now (text .entry)) deep) row r) × Walked (named (now (text .entry)) room (now (table .entry))) (now (notes .entry)) (now (notes .exit)) r e ⌝ }
 {
     if deep == 0 {
         return Extent::Unfit;
     }
     let n = row.b as usize;
-    let extent = walk_values(table, room, rows, text, deep - 1, n, r + 1);
+    let extent = walk_values(table, room, rows, text, deep - 1, n, r + 1, notes);
     extents::close_over(row, extent)
 }
 
@@ -119,14 +124,15 @@ fn walk_values(
     deep: usize,
     n: usize,
     first: usize,
+    notes: &mut [u16],
 ) -> Extent
-    requires { ⌜ Ready rows room (length (now table)) ⌝ }
-    ensures { λ e. ⌜ e ≡ items (alike (value (rowAt room (now (table .entry))) rows (now (text .entry)) deep)) n first first ⌝ }
+    requires { ⌜ Ready rows room (length (now table)) × Entries rows (length (now notes)) × Noted (named (now text) room (now table)) (now notes) first ⌝ }
+    ensures { λ e. ⌜ (e ≡ items (alike (value (rowAt room (now (table .entry))) rows (now (text .entry)) deep)) nothing n [] first) × Walked (named (now (text .entry)) room (now (table .entry))) (now (notes .entry)) (now (notes .exit)) first e ⌝ }
 {
     let mut left = n;
     let mut here = first;
     while 0 < left {
-        let extent = walk_value(table, room, rows, text, deep, here);
+        let extent = walk_value(table, room, rows, text, deep, here, notes);
         match extent {
             Extent::Unfit => {
                 return Extent::Unfit;
@@ -149,18 +155,20 @@ fn walk_struct(
     deep: usize,
     row: Row,
     r: usize,
+    notes: &mut [u16],
 ) -> Extent
-    requires { ⌜ Ready rows room (length (now table)) × (r < 4096) ⌝ }
-    ensures { λ e. ⌜ e ≡ structItem (rowAt room (now (table .entry))) rows (now (text .entry)) (nested (rowAt room (now (table .entry))) rows (now (text .entry)) deep) row r ⌝ }
+    requires { ⌜ Ready rows room (length (now table)) × Entries rows (length (now notes)) × Noted (named (now text) room (now table)) (now notes) r × (r < 4096) ⌝ }
+    ensures { λ e. ⌜ (e ≡ structItem (rowAt room (now (table .entry))) rows (now (text .entry)) (nested (rowAt room (now (table .entry))) rows (now (text .entry)) deep) row r) × Walked (named (now (text .entry)) room (now (table .entry))) (now (notes .entry)) (now (notes .exit)) r e ⌝ }
 {
     if deep == 0 {
         return Extent::Unfit;
     }
     let n = row.b as usize;
-    let extent = walk_pairs(table, room, rows, text, deep - 1, n, r + 1);
+    let extent = walk_pairs(table, room, rows, text, deep - 1, n, r + 1, notes);
     extents::close_over(row, extent)
 }
 
+// A Struct's pairs. The Struct is known to the notes by the row where they begin.
 fn walk_pairs(
     table: &[u32],
     room: usize,
@@ -169,14 +177,15 @@ fn walk_pairs(
     deep: usize,
     n: usize,
     first: usize,
+    notes: &mut [u16],
 ) -> Extent
-    requires { ⌜ Ready rows room (length (now table)) ⌝ }
-    ensures { λ e. ⌜ e ≡ items (alike (pair (string (rowAt room (now (table .entry))) rows (now (text .entry))) (value (rowAt room (now (table .entry))) rows (now (text .entry)) deep))) n first first ⌝ }
+    requires { ⌜ (0 < first) × Ready rows room (length (now table)) × Entries rows (length (now notes)) × Noted (named (now text) room (now table)) (now notes) first ⌝ }
+    ensures { λ e. ⌜ (e ≡ items (member (rowAt room (now (table .entry))) rows (now (text .entry)) (value (rowAt room (now (table .entry))) rows (now (text .entry)) deep)) (keeping (rowAt room (now (table .entry))) rows (now (text .entry))) n [] first) × Walked (named (now (text .entry)) room (now (table .entry))) (now (notes .entry)) (now (notes .exit)) first e ⌝ }
 {
     let mut left = n;
     let mut here = first;
     while 0 < left {
-        let extent = walk_pair(table, room, rows, text, deep, here);
+        let extent = walk_pair(table, room, rows, text, deep, here, notes, first);
         match extent {
             Extent::Unfit => {
                 return Extent::Unfit;
@@ -191,14 +200,23 @@ fn walk_pairs(
 }
 
 // A key and its value.
-fn walk_pair(table: &[u32], room: usize, rows: usize, text: &[u8], deep: usize, r: usize) -> Extent
-    requires { ⌜ Ready rows room (length (now table)) ⌝ }
-    ensures { λ e. ⌜ e ≡ pair (string (rowAt room (now (table .entry))) rows (now (text .entry))) (value (rowAt room (now (table .entry))) rows (now (text .entry)) deep) r ⌝ }
+fn walk_pair(
+    table: &[u32],
+    room: usize,
+    rows: usize,
+    text: &[u8],
+    deep: usize,
+    r: usize,
+    notes: &mut [u16],
+    owner: usize,
+) -> Extent
+    requires { ⌜ (0 < owner) × (owner ≤ r) × Ready rows room (length (now table)) × Entries rows (length (now notes)) × Noted (named (now text) room (now table)) (now notes) r ⌝ }
+    ensures { λ e. ⌜ (e ≡ member (rowAt room (now (table .entry))) rows (now (text .entry)) (value (rowAt room (now (table .entry))) rows (now (text .entry)) deep) (keysOf (named (now (text .entry)) room (now (table .entry))) (now (notes .entry)) owner r) r) × Joined (named (now (text .entry)) room (now (table .entry))) (now (notes .entry)) (now (notes .exit)) owner r e ⌝ }
 {
-    let extent = extents::walk_string(table, room, rows, text, r);
+    let extent = key_rows::walk_key(table, room, rows, text, r, notes, owner);
     match extent {
         Extent::Unfit => Extent::Unfit,
-        Extent::Until(next) => walk_value(table, room, rows, text, deep, next),
+        Extent::Until(next) => walk_value(table, room, rows, text, deep, next, notes),
     }
 }
 
@@ -210,8 +228,9 @@ pub fn walk_array_only(
     text: &[u8],
     deep: usize,
     r: usize,
+    notes: &mut [u16],
 ) -> Extent
-    requires { ⌜ Ready rows room (length (now table)) ⌝ }
+    requires { ⌜ Ready rows room (length (now table)) × Entries rows (length (now notes)) × Noted (named (now text) room (now table)) (now notes) r ⌝ }
     ensures { λ e. ⌜ e ≡ only (rowAt room (now (table .entry))) rows (now (text .entry)) 9 (arrayItem (nested (rowAt room (now (table .entry))) rows (now (text .entry)) deep)) r ⌝ }
 {
     if rows <= r {
@@ -219,7 +238,7 @@ pub fn walk_array_only(
     }
     let row = table::get_row(table, room, r);
     if row.kind == 9 {
-        walk_array(table, room, rows, text, deep, row, r)
+        walk_array(table, room, rows, text, deep, row, r, notes)
     } else {
         Extent::Unfit
     }
@@ -233,8 +252,9 @@ pub fn walk_struct_only(
     text: &[u8],
     deep: usize,
     r: usize,
+    notes: &mut [u16],
 ) -> Extent
-    requires { ⌜ Ready rows room (length (now table)) ⌝ }
+    requires { ⌜ Ready rows room (length (now table)) × Entries rows (length (now notes)) × Noted (named (now text) room (now table)) (now notes) r ⌝ }
     ensures { λ e. ⌜ e ≡ only (rowAt room (now (table .entry))) rows (now (text .entry)) 10 (structItem (rowAt room (now (table .entry))) rows (now (text .entry)) (nested (rowAt room (now (table .entry))) rows (now (text .entry)) deep)) r ⌝ }
 {
     if rows <= r {
@@ -242,7 +262,7 @@ pub fn walk_struct_only(
     }
     let row = table::get_row(table, room, r);
     if row.kind == 10 {
-        walk_struct(table, room, rows, text, deep, row, r)
+        walk_struct(table, room, rows, text, deep, row, r, notes)
     } else {
         Extent::Unfit
     }

@@ -1,7 +1,8 @@
--- Document 01's messages P1 to P11, and faults, Doubles and dates by document 02's rules, read and written again: one table of cases, under a
+-- Document 01's messages P1 to P11, and faults, Doubles, dates and keys by document 02's rules, read and written again: one table of cases, under a
 -- single statement.
 -- Assumes nothing.
 use mathlib.Core.Path.{_≡_, refl}
+use mathlib.Core.Bool.{true, false}
 use mathlib.Core.List.{List, [], _∷_, _++_}
 use Prim.Native.Nat.{ℕ, _-_, _*_}
 use Prim.Native.String.{String}
@@ -14,10 +15,11 @@ use Rattle.lexical.specs.DateTime.{leap, monthDays, isDay, isDate, pairTo, isTi
 use Rattle.draft.specs.declared.Row.{Row}
 use Rattle.draft.specs.Bytes.{bytes}
 use Rattle.draft.specs.Rows.{row, itemOf}
-use Rattle.draft.specs.Content.{contentRule, verdict, nameRule, heldOf, isCode, isMessage, isFault, faultRule}
+use Rattle.draft.specs.Content.{contentRule, verdict, nameRule, keyRule, heldOf, isCode, isMessage, isFault, faultRule}
 use Rattle.draft.specs.Codebook.{recorded}
 use Rattle.draft.specs.Table.{place, setRow, putRows, rowAt, from}
-use Rattle.draft.specs.Read.{Reading, got, refused as unread, pair, items, alike, tagOf, contents, string, only, name, value, nested, heldRows, faultStruct, callOrResponse, agree, message, messageWithin}
+use Rattle.draft.specs.Read.{Reading, got, refused as unread, pair, items, alike, nothing, tagOf, contents, string, only, stringBy, key, member, keeping, value, nested, heldRows, faultStruct, callOrResponse, agree, message, messageWithin}
+use Rattle.draft.specs.Writable.{pair as walkPair, items as walkItems, contentItem, only as walkOnly, string as walkString, stringBy as walkStringBy, member as walkMember, keeping as walkKeeping, value as walkValue, callOrResponse as walk, writableWithin, writable}
 use Rattle.draft.specs.Strings.{textsOf, repeats, position, sents}
 use Rattle.draft.specs.Written.{lsb, counted, stringBytes, itemBytes, itemsOf, messageOf, written, rowsOf}
 use Rattle.reader.specs.Answers.{reading, answerOf, tableOf, Report, reportOf}
@@ -98,10 +100,10 @@ cases =
     ∷ rewritten "binmode-rpc:RFS\u{2}\0\0\0U\u{b}\0\0\0faultString>\u{7}\t\0\0\0faultCode<\u{7}I\u{1}\0\0\0" 64 57
     (row 3 0 1 6 ∷ row 10 0 2 6 ∷ row 11 24 11 3 ∷ row 11 41 9 4 ∷ row 11 41 9 5 ∷ row 4 1 0 6 ∷ [])
     "binmode-rpc:RFS\u{2}\0\0\0U\u{b}\0\0\0faultString>\0\t\0\0\0faultCode<\0I\u{1}\0\0\0" 57
-    -- one member, three, the same key twice, another kind, another key
+    -- one member, three, another kind, another key; the same key twice is 20 at the second
     ∷ refused "binmode-rpc:RFS\u{1}\0\0\0U\t\0\0\0faultCodeI\u{1}\0\0\0" 64 14 14
     ∷ refused "binmode-rpc:RFS\u{3}\0\0\0U\t\0\0\0faultCodeI\u{1}\0\0\0U\u{b}\0\0\0faultStringU\u{1}\0\0\0xU\0\0\0\0t" 64 14 14
-    ∷ refused "binmode-rpc:RFS\u{2}\0\0\0>\0\t\0\0\0faultCodeI\u{1}\0\0\0<\0I\u{1}\0\0\0" 64 14 14
+    ∷ refused "binmode-rpc:RFS\u{2}\0\0\0>\0\t\0\0\0faultCodeI\u{1}\0\0\0<\0I\u{1}\0\0\0" 64 20 39
     ∷ refused "binmode-rpc:RFS\u{2}\0\0\0U\t\0\0\0faultCodetU\u{b}\0\0\0faultStringU\0\0\0\0" 64 14 14
     ∷ refused "binmode-rpc:RFS\u{2}\0\0\0U\t\0\0\0faultCodeI\u{1}\0\0\0U\u{b}\0\0\0faultstringU\0\0\0\0" 64 14 14
     -- a third member that is cut short, or that a small table has no row for: what fails inside the Struct comes first
@@ -146,6 +148,29 @@ cases =
     ∷ bad "D" 5 "5.ÿ"
     ∷ bad "8" 5 "19980230T14:08:5ÿ"
     ∷ refused "binmode-rpc:RA\u{2}\0\0\0tD\u{2}5.<\0" 64 17 19
+    -- 02: a key that its Struct has already, at its own place: the empty one, one recalled, one recorded, one that is not the last before it
+    ∷ refused "binmode-rpc:RS\u{2}\0\0\0U\0\0\0\0tU\0\0\0\0f" 64 20 24
+    ∷ refused "binmode-rpc:RS\u{2}\0\0\0>\0\u{1}\0\0\0at<\0f" 64 20 26
+    ∷ refused "binmode-rpc:RS\u{2}\0\0\0U\u{1}\0\0\0at>\u{7}\u{1}\0\0\0af" 64 20 25
+    ∷ refused "binmode-rpc:RS\u{3}\0\0\0U\u{1}\0\0\0atU\u{1}\0\0\0btU\u{1}\0\0\0at" 64 20 32
+    -- keys of different Structs do not meet, nor do a key and a value: a Struct in a Struct, before a key and behind it, Structs side by side
+    ∷ accepted "binmode-rpc:RS\u{1}\0\0\0>\0\u{1}\0\0\0aS\u{1}\0\0\0<\0t" 64 33
+    (row 2 0 1 6 ∷ row 10 0 1 6 ∷ row 11 24 1 3 ∷ row 10 0 1 6 ∷ row 11 24 1 5 ∷ row 5 1 0 6 ∷ [])
+    ∷ accepted "binmode-rpc:RS\u{2}\0\0\0U\u{1}\0\0\0aS\u{1}\0\0\0>\0\u{1}\0\0\0bt<\0f" 64 40
+    (row 2 0 1 8 ∷ row 10 0 2 8 ∷ row 11 23 1 3 ∷ row 10 0 1 6 ∷ row 11 35 1 5 ∷ row 5 1 0 6 ∷ row 11 35 1 7 ∷ row 5 0 0 8 ∷ [])
+    ∷ accepted "binmode-rpc:RA\u{2}\0\0\0S\u{1}\0\0\0>\0\u{1}\0\0\0atS\u{1}\0\0\0<\0f" 64 39
+    (row 2 0 1 8 ∷ row 9 0 2 8 ∷ row 10 0 1 5 ∷ row 11 29 1 4 ∷ row 5 1 0 5 ∷ row 10 0 1 8 ∷ row 11 29 1 7 ∷ row 5 0 0 8 ∷ [])
+    ∷ accepted "binmode-rpc:RS\u{1}\0\0\0>\0\u{1}\0\0\0a<\0" 64 27 (row 2 0 1 4 ∷ row 10 0 1 4 ∷ row 11 24 1 3 ∷ row 11 24 1 4 ∷ [])
+    -- behind a Struct inside, its Struct's keys are still known
+    ∷ refused "binmode-rpc:RS\u{2}\0\0\0U\u{1}\0\0\0aS\u{1}\0\0\0U\u{1}\0\0\0btU\u{1}\0\0\0af" 64 20 36
+    -- 20 comes before what the value would give, and before its row is asked for; a key cut short, bad text, an unset position and a row for the
+    -- key come before it
+    ∷ refused "binmode-rpc:RS\u{2}\0\0\0U\u{1}\0\0\0atU\u{1}\0\0\0a" 64 20 25
+    ∷ refused "binmode-rpc:RS\u{2}\0\0\0U\u{1}\0\0\0atU\u{1}\0\0\0a<\0" 20 20 25
+    ∷ refused "binmode-rpc:RS\u{2}\0\0\0U\u{1}\0\0\0atU\u{1}\0\0\0" 64 1 25
+    ∷ refused "binmode-rpc:RS\u{2}\0\0\0U\u{1}\0\0\0atU\u{2}\0\0\0aÿf" 64 5 25
+    ∷ refused "binmode-rpc:RS\u{2}\0\0\0U\0\0\0\0t<\0f" 64 6 24
+    ∷ refused "binmode-rpc:RS\u{2}\0\0\0U\u{1}\0\0\0atU\u{1}\0\0\0at" 16 9 25
     ∷ []
 
 -- a row's four words, one row after the other
@@ -175,5 +200,13 @@ given (c ∷ cs) = outcomeOf (c .sent) (c .words) (reading (c .sent) (c .words))
 
 -- THE STATEMENT: reading and the written form give what documents 01 and 02 say, for each case
 pub cases-read : given cases ≡ expected cases
-unfolding cases reading messageWithin message agree callOrResponse faultStruct heldRows heldOf isCode isMessage isFault faultRule nested value name only string contents tagOf alike items pair putRows setRow place recorded nameRule verdict contentRule isDouble unsigned pointed someDigits sign isDateTime parted isTime pairTo isDate isDay monthDays leap two twoDigits digits digit standardName among same ascii wellFormed octets step dueAfter dueBy within rowAt from rowsOf itemOf textsOf repeats position sents lsb counted stringBytes itemBytes itemsOf messageOf written
+unfolding cases reading messageWithin message agree callOrResponse faultStruct heldRows heldOf isCode isMessage isFault faultRule nested value keeping member key stringBy only string contents tagOf nothing alike items pair putRows setRow place recorded keyRule nameRule verdict contentRule isDouble unsigned pointed someDigits sign isDateTime parted isTime pairTo isDate isDay monthDays leap two twoDigits digits digit standardName among same ascii wellFormed octets step dueAfter dueBy within rowAt from rowsOf itemOf textsOf repeats position sents lsb counted stringBytes itemBytes itemsOf messageOf written
 cases-read = refl
+
+-- A table of two members whose keys lie at different places: it is not writable if they are the same bytes, and writable if they differ.
+abbrev keyed : List Row
+keyed = row 2 0 1 6 ∷ row 10 0 2 6 ∷ row 11 0 1 3 ∷ row 5 1 0 4 ∷ row 11 1 1 5 ∷ row 5 0 0 6 ∷ []
+
+pub keys-judged : (writable (wordsOf keyed) 6 (bytes "aa") ≡ false) × (writable (wordsOf keyed) 6 (bytes "ab") ≡ true)
+unfolding writable writableWithin walk walkValue walkItems walkMember walkPair walkKeeping walkStringBy walkString walkOnly contentItem place rowAt itemOf keyRule among same verdict contentRule wellFormed octets step dueAfter dueBy within
+keys-judged = (refl, refl)

@@ -30,7 +30,7 @@ use Rattle.written.specs.Derivable.{DerivesRows}
 use Rattle.written.proofs.Concluding.{rows-length}
 use Rattle.member.specs.declared.Member.{Member}
 use Rattle.member.specs.declared.Found.the-variants.{At, Absent}
-use Rattle.member.specs.Members.{hasKey, find}
+use Rattle.member.specs.Members.{members, keysOf, hasKey, find}
 use Rattle.lookup.specs.declared.Refusal as Why
 use Rattle.lookup.specs.declared.Refusal.the-variants.{NotWritable, NoMember, TooManyDigits}
 use Rattle.lookup.specs.declared.Answer.{Answer}
@@ -44,8 +44,9 @@ use Rattle.meant.specs.Parts.{Parts}
 use Rattle.meant.proofs.Parting.{double-parts}
 use Rattle.meant.specs.Meant.{membersOf, Said, StructAt, Answered}
 use Rattle.meant.proofs.Saying.{standing, struct-said, answered}
-use Rattle.demands.specs.Reading.{sound, one-meaning}
-use Rattle.demands.specs.Writing.{Octets, read-rows, read-writable}
+use Rattle.meant.proofs.Only.{members-distinct, found-only}
+use Rattle.demands.specs.Reading.{sound, one-meaning, Distinct}
+use Rattle.demands.specs.Writing.{Words, Octets, form-derived, read-rows, read-writable}
 
 -- UNWRITABLE first: an unwritable table is refused with 11, and one whose text bytes are too many is unwritable.
 pub unwritable-first : (T : List ℕ) (rows : ℕ) (s : List ℕ) (r : ℕ) (key : List ℕ) → writable T rows s ≡ false → lookup T rows s r key ≡ Refused NotWritable
@@ -57,7 +58,7 @@ unfolding writable writableWithin
 long-text-unwritable T rows s h = rw (lt-leb (length s) 65536 h)
 
 -- WHAT A TABLE SAYS. In a writable table, a key looked up at any row is answered by what the draft derives with the table's meaning: if that row is
--- a Struct's, by the first of its members with that key, and by 18 if there is none; if it is not, by 18.
+-- a Struct's, by the one of its members with that key, and by 18 if there is none; if it is not, by 18.
 module _ (T : List ℕ) (rows : ℕ) (s : List ℕ) (e : writable T rows s ≡ true) {deep : ℕ} {xs : List ℕ} (g : DerivesRows deep xs s (rowsOf 4096 T rows)) where
   pub table-says : (r : ℕ) (key : List ℕ) → Answered s (g .cells) r key (lookup T rows s r key)
   unfolding lookup rowsOf
@@ -75,7 +76,7 @@ module _ (T : List ℕ) (rows : ℕ) (s : List ℕ) (e : writable T rows s ≡ t
       (sym (counts (g .meaning)) ∙ rows-length 4096 T rows) key st)
 
 -- WHAT A MESSAGE SAYS. Of a message that was read, a key looked up in the table that reading left is answered by what the draft derives: by the
--- meaning of the first member with that key.
+-- meaning of the member with that key.
 module _ (s : List ℕ) (words : ℕ) {rows : List TableRow} {used : ℕ} {book : Book} (e : reading s words ≡ got rows used book) (o : Octets s) where
   -- the table after reading
   abbrev itsTable : List ℕ
@@ -90,17 +91,32 @@ module _ (s : List ℕ) (words : ℕ) {rows : List TableRow} {used : ℕ} {book 
       let g : DerivesRows 32 _ s (rowsOf 4096 itsTable (length rows)) = record { cells = d .cells; meaning = rw (read-rows s words e) (d .meaning); derived = d .begins .derived } in
       rw i at (table-says itsTable (length rows) s (read-writable s words e o) g r key)
 
--- THE FIRST of equal keys wins: whatever members stand behind it. Without one, none is found.
+-- THE ONLY ONE. In a writable table no two members of a Struct have the same key; so a member that has the key asked for is the one found,
+-- wherever it stands.
+module _ (T : List ℕ) (rows : ℕ) (s : List ℕ) (e : writable T rows s ≡ true) (w : Words T) where
+  -- the members of the Struct of a row, in its table
+  abbrev itsMembers : ℕ → List Member
+  itsMembers r = members (rowAt (roomOf 4096 (length T)) T) rows r
+
+  pub distinct-members : (r : ℕ) → Distinct (keysOf (rowAt (roomOf 4096 (length T)) T) s (itsMembers r))
+  unfolding rowsOf
+  distinct-members r =
+      let g = form-derived T rows s e w in
+      members-distinct (rowAt (roomOf 4096 (length T)) T) s (standing (rowAt (roomOf 4096 (length T)) T) s rows (g .meaning)) rows
+      (sym (counts (g .meaning)) ∙ rows-length 4096 T rows) (g .derived) r
+
+  pub only-one :
+      (r : ℕ) (key : List ℕ) (ms : List Member) (m : Member) (ns : List Member) → itsMembers r ≡ ms ++ (m ∷ ns)
+      → hasKey (rowAt (roomOf 4096 (length T)) T) s key (m .key) ≡ true → find (rowAt (roomOf 4096 (length T)) T) s key (itsMembers r) ≡ At m
+  only-one r key ms m ns i h =
+      rw i (found-only (rowAt (roomOf 4096 (length T)) T) s key ms m ns (rw i at (distinct-members r)) h)
+
+-- Without a member that has the key, none is found.
 module _ (row : ℕ → TableRow) (s key : List ℕ) where
   -- members none of which has the key
   pub data Without : List Member → Type 0 where
     no-members : Without []
     and-member : {m : Member} {ms : List Member} → hasKey row s key (m .key) ≡ false → Without ms → Without (m ∷ ms)
-
-  pub first-wins : {ms : List Member} → Without ms → (m : Member) (ns : List Member) → hasKey row s key (m .key) ≡ true → find row s key (ms ++ (m ∷ ns)) ≡ At m
-  unfolding find
-  first-wins no-members m ns h = rw h
-  first-wins (and-member e w) m ns h = rw e (first-wins w m ns h)
 
   pub none-found : {ms : List Member} → Without ms → find row s key ms ≡ Absent
   unfolding find

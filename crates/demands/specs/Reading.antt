@@ -1,15 +1,15 @@
 -- Demand 2 for reading: reading accepts exactly what the draft's grammar derives within the limits, and the rows say what was derived.
 -- The grammar and the meaning of rows are crate draft's Grammar and Meaning; the long arguments are in crate exact. Assumes nothing.
-use mathlib.Core.Path.{_≡_, refl, _∙_}
+use mathlib.Core.Path.{_≡_, refl, ap, _∙_}
 use mathlib.Core.Bool.{Bool, true, false}
 use mathlib.Core.Logic.{_↔_, _≢_, Iff·trans}
 use mathlib.Core.List.{List, [], _∷_, _++_}
-use Prim.Native.Nat.{ℕ, _≤_, _<_}
+use Prim.Native.Nat.{ℕ, suc, _+_, _≤_, _<_}
 use native.Mathlib.Omega.{arith}
-use lib.ListN.{length}
+use lib.ListN.{length, getD}
 use Rattle.text.specs.Rfc3629.{UTF8-octets}
 use Rattle.text.specs.Utf8.{wellFormed}
-use Rattle.text.specs.Texts.{ascii, same}
+use Rattle.text.specs.Texts.{ascii, same, among}
 use Rattle.text.proofs.Comparing.{clash}
 use Rattle.text.proofs.Grammar.{accepted, derived}
 use Rattle.lexical.specs.Double.{isDouble}
@@ -18,19 +18,20 @@ use Rattle.lexical.specs.Grammar.{Double, DateTime}
 use Rattle.lexical.proofs.Doubles.{double-exactly, double-ascii}
 use Rattle.lexical.proofs.DateTimes.{datetime-exactly, datetime-ascii}
 use Rattle.draft.specs.declared.Refusal.{Refusal}
-use Rattle.draft.specs.declared.Refusal.the-variants.{Ended, WrongPrefix, UnexpectedByte, BadText, UnsetPosition, StandardName, TooDeep, NoRow, TooLong, NotWritable, FormTooLong, OutputTooShort, BadFault, BadValue}
+use Rattle.draft.specs.declared.Refusal.the-variants.{Ended, WrongPrefix, UnexpectedByte, BadText, UnsetPosition, StandardName, TooDeep, NoRow, TooLong, NotWritable, FormTooLong, OutputTooShort, BadFault, BadValue, RepeatedKey}
 use Rattle.draft.specs.declared.Verdict.the-variants.{Fine}
 use Rattle.draft.specs.declared.Content.the-variants as content
 use Rattle.draft.specs.declared.Row.{Row}
 use Rattle.draft.specs.Bytes.{bytes}
-use Rattle.draft.specs.Content.{contentRule, asciiThen, Held, string, integer, isCode, isMessage, isFault, faultRule}
+use Rattle.draft.specs.Content.{contentRule, asciiThen, keyRule, Held, string, integer, isCode, isMessage, isFault, faultRule}
 use Rattle.draft.specs.Codebook.{Book}
 use Rattle.draft.specs.Table.{roomOf}
-use Rattle.draft.specs.Read.{Reading, got, refused, message, messageWithin}
-use Rattle.draft.specs.Grammar.{Cell, Keeps, Begins}
+use Rattle.draft.specs.Read.{Reading, got, refused, Reader, behind, pair, string as readString, firstText, stringBy, key, member, message, messageWithin}
+use Rattle.draft.specs.Grammar.{Cell, Sent, Keeps, Begins, Pairs, no-pairs, more-pairs, Pair}
 use Rattle.draft.specs.Meaning.{MeanSame, Realises}
 use Rattle.reader.specs.Answers.{reading}
 use Rattle.exact.proofs.Members.{fine-by, fault-by}
+use Rattle.exact.proofs.Keys.{Fresh, no-key, new-key, fresh-distinct, all-fresh}
 use Rattle.exact.proofs.Realising.{counts, same-meaning, one-meaning as one-list}
 use Rattle.exact.proofs.Deriving.{sound as derived-from}
 use Rattle.exact.proofs.Growing.{no-longer, longer, message-stays}
@@ -122,9 +123,10 @@ Meant FormTooLong most s room deep = ⊥
 Meant OutputTooShort most s room deep = ⊥
 Meant BadFault most s room deep = Underived s
 Meant BadValue most s room deep = Underived s
+Meant RepeatedKey most s room deep = Underived s
 
--- REFUSALS SPEAK THE TRUTH. 1, 2, 3, 5, 6, 7, 14 and 17 mean that no beginning of the message is derived at all, 8 and 9 that a derivation, if there
--- is one, is beyond the limits, and 10 only that there are too many bytes.
+-- REFUSALS SPEAK THE TRUTH. 1, 2, 3, 5, 6, 7, 14, 17 and 20 mean that no beginning of the message is derived at all, 8 and 9 that a derivation, if
+-- there is one, is beyond the limits, and 10 only that there are too many bytes.
 pub refusals-true :
     (most : ℕ) (s : List ℕ) (room deep : ℕ) {m : Refusal} {at : ℕ} → messageWithin most s room deep ≡ refused m at → Meant m most s room deep
 refusals-true most s room deep {m} {at} e = go m (within-refused most s room deep e)
@@ -144,6 +146,7 @@ refusals-true most s room deep {m} {at} e = go m (within-refused most s room dee
     by OutputTooShort e = of-reading s room deep e
     by BadFault e = λ used nesting cells b. underived s room deep e (omega arith) (omega arith) b
     by BadValue e = λ used nesting cells b. underived s room deep e (omega arith) (omega arith) b
+    by RepeatedKey e = λ used nesting cells b. underived s room deep e (omega arith) (omega arith) b
 
     go : (m : Refusal) → WithinRefused most s room deep m at → Meant m most s room deep
     go m (of-message e) = by m e
@@ -212,6 +215,58 @@ text-is-double t = Iff·trans (then-fine (ascii t) (isDouble t) (double-ascii t)
 pub text-is-datetime : (t : List ℕ) → Keeps content.DateTime t ↔ DateTime t
 unfolding contentRule
 text-is-datetime t = Iff·trans (then-fine (ascii t) (isDateTime t) (datetime-ascii t)) (datetime-exactly t)
+
+-- KEYS. The pairs of a Struct are n pairs whose keys are distinct: any two, at different places in the order of the pairs, differ as bytes,
+-- whichever way each is sent. Nothing else is asked of them.
+pub data PairsWith (d : ℕ) : List (List ℕ) → List ℕ → List Cell → List Sent → Type 0 where
+  none : PairsWith d [] [] [] []
+  more :
+      {keys : List (List ℕ)} {t xs ys zs : List ℕ} {us vs ws : List Cell} {fs gs hs : List Sent}
+      → Pair d t xs us fs
+      → PairsWith d keys ys vs gs
+      → zs ≡ xs ++ ys
+      → ws ≡ us ++ vs
+      → hs ≡ fs ++ gs
+      → PairsWith d (t ∷ keys) zs ws hs
+
+abbrev pub Distinct : List (List ℕ) → Type 0
+Distinct keys = (i j : ℕ) → i < j → j < length keys → getD keys i [] ≢ getD keys j []
+
+pub distinct-keys :
+    {d n : ℕ} {xs : List ℕ} {cs : List Cell} {fs : List Sent}
+    → Pairs d [] n xs cs fs ↔ ((keys : List (List ℕ)) × (length keys ≡ n) × PairsWith d keys xs cs fs × Distinct keys)
+distinct-keys = (
+  λ p. let h = taken p in (h .0, h .1, h .2, λ i j k l. fresh-distinct {ts = h .0} (h .3) i j (omega arith) (omega arith)),
+  λ h. rw (h .1) at (made (h .2) (all-fresh (h .0) (λ i j k l. h .3 i j (omega arith) (omega arith)))),
+)
+  where
+    taken :
+        {d n : ℕ} {seen : List (List ℕ)} {xs : List ℕ} {cs : List Cell} {fs : List Sent} → Pairs d seen n xs cs fs
+        → (keys : List (List ℕ)) × (length keys ≡ n) × PairsWith d keys xs cs fs × Fresh seen keys
+    taken no-pairs = ([], refl, none, no-key)
+    taken (more-pairs {t = t} p k ps e f g) = let h = taken ps in (t ∷ h .0, ap suc (h .1), more p (h .2) e f g, new-key k (h .3))
+
+    made :
+        {d : ℕ} {seen keys : List (List ℕ)} {xs : List ℕ} {cs : List Cell} {fs : List Sent} → PairsWith d keys xs cs fs → Fresh seen keys
+        → Pairs d seen (length keys) xs cs fs
+    made none no-key = no-pairs
+    made (more p ps e f g) (new-key k h) = more-pairs p k (made ps h) e f g
+
+-- 20 IN ITS ORDER, of a pair behind those whose keys were seen, whatever reads its value: what the key itself gives comes first; then 20 at the
+-- key's place if it was seen; and else the value is read behind it.
+module _ (s : List ℕ) (room : ℕ) (value : Reader) (seen : List (List ℕ)) (at r : ℕ) (book : Book) where
+  pub key-refused : {m : Refusal} {place : ℕ} → readString s room at r book ≡ refused m place → member s room value seen at r book ≡ refused m place
+  unfolding member pair key stringBy
+  key-refused e = rw e
+
+  module _ {rows : List Row} {to : ℕ} {book′ : Book} (e : readString s room at r book ≡ got rows to book′) where
+    pub key-repeated : among seen (firstText s room rows) ≡ true → member s room value seen at r book ≡ refused RepeatedKey at
+    unfolding member pair key stringBy keyRule
+    key-repeated h = rw (e, h)
+
+    pub key-new : among seen (firstText s room rows) ≡ false → member s room value seen at r book ≡ behind rows (value to (r + length rows) book′)
+    unfolding member pair key stringBy keyRule
+    key-new h = rw (e, h)
 
 -- FAULTS. What the grammar asks of a fault's Struct: the items below it are a faultCode, an Integer, and a faultString, a String, in either order,
 -- and no more.

@@ -32,6 +32,7 @@ use Rattle.draft.specs.declared.Refusal.the-variants.{
   OutputTooShort,
   BadFault,
   BadValue,
+  RepeatedKey,
 }
 use Rattle.draft.specs.Refusals.{numberOf, refusalOf}
 use Rattle.draft.specs.Rows.{itemOf}
@@ -145,10 +146,14 @@ module _ (n : ℕ) where
   unfolding refusalOf
   refusal-fault e = rw e
 
-  pub refusal-value : (n ≡ 1 → ⊥) → (n ≡ 2 → ⊥) → (n ≡ 3 → ⊥) → (n ≡ 5 → ⊥) → (n ≡ 6 → ⊥) → (n ≡ 7 → ⊥) → (n ≡ 8 → ⊥) → (n ≡ 9 → ⊥) → (n ≡ 10 → ⊥) → (n ≡ 11 → ⊥) → (n ≡ 12 → ⊥) → (n ≡ 13 → ⊥) → (n ≡ 14 → ⊥) → BadValue ≡ refusalOf n
+  pub refusal-value : n ≡ 17 → BadValue ≡ refusalOf n
   unfolding refusalOf
-  refusal-value a b c d e f g h i j k l m =
-      rw (ne-eqb _ _ a, ne-eqb _ _ b, ne-eqb _ _ c, ne-eqb _ _ d, ne-eqb _ _ e, ne-eqb _ _ f, ne-eqb _ _ g, ne-eqb _ _ h, ne-eqb _ _ i, ne-eqb _ _ j, ne-eqb _ _ k, ne-eqb _ _ l, ne-eqb _ _ m)
+  refusal-value e = rw e
+
+  pub refusal-key : (n ≡ 1 → ⊥) → (n ≡ 2 → ⊥) → (n ≡ 3 → ⊥) → (n ≡ 5 → ⊥) → (n ≡ 6 → ⊥) → (n ≡ 7 → ⊥) → (n ≡ 8 → ⊥) → (n ≡ 9 → ⊥) → (n ≡ 10 → ⊥) → (n ≡ 11 → ⊥) → (n ≡ 12 → ⊥) → (n ≡ 13 → ⊥) → (n ≡ 14 → ⊥) → (n ≡ 17 → ⊥) → RepeatedKey ≡ refusalOf n
+  unfolding refusalOf
+  refusal-key a b c d e f g h i j k l m o =
+      rw (ne-eqb _ _ a, ne-eqb _ _ b, ne-eqb _ _ c, ne-eqb _ _ d, ne-eqb _ _ e, ne-eqb _ _ f, ne-eqb _ _ g, ne-eqb _ _ h, ne-eqb _ _ i, ne-eqb _ _ j, ne-eqb _ _ k, ne-eqb _ _ l, ne-eqb _ _ m, ne-eqb _ _ o)
 
 -- no refusal has the number 0, and each its own
 pub number-some : (m : Refusal) → numberOf m ≡ 0 → ⊥
@@ -166,6 +171,7 @@ number-some FormTooLong e = omega (arith, e)
 number-some OutputTooShort e = omega (arith, e)
 number-some BadFault e = omega (arith, e)
 number-some BadValue e = omega (arith, e)
+number-some RepeatedKey e = omega (arith, e)
 
 pub number-own : (m : Refusal) → refusalOf (numberOf m) ≡ m
 unfolding refusalOf
@@ -183,5 +189,6 @@ number-own FormTooLong = refl
 number-own OutputTooShort = refl
 number-own BadFault = refl
 number-own BadValue = refl
+number-own RepeatedKey = refl
 
-pub ruleset refusals = (refusal-ended, refusal-prefix, refusal-byte, refusal-text, refusal-unset, refusal-name, refusal-deep, refusal-row, refusal-long, refusal-unwritable, refusal-form, refusal-output, refusal-fault, refusal-value)
+pub ruleset refusals = (refusal-ended, refusal-prefix, refusal-byte, refusal-text, refusal-unset, refusal-name, refusal-deep, refusal-row, refusal-long, refusal-unwritable, refusal-form, refusal-output, refusal-fault, refusal-value, refusal-key)

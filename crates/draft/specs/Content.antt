@@ -5,11 +5,11 @@ use Prim.Native.Nat.{ℕ, _+_}
 use lib.ListN.{length}
 use lib.Dec.{leb, eqb}
 use Rattle.text.specs.Utf8.{wellFormed}
-use Rattle.text.specs.Texts.{ascii, same, standardName}
+use Rattle.text.specs.Texts.{ascii, same, among, standardName}
 use Rattle.lexical.specs.Double.{isDouble}
 use Rattle.lexical.specs.DateTime.{isDateTime}
 use Rattle.draft.specs.declared.Refusal.{Refusal}
-use Rattle.draft.specs.declared.Refusal.the-variants.{Ended, BadText, StandardName, BadFault, BadValue}
+use Rattle.draft.specs.declared.Refusal.the-variants.{Ended, BadText, StandardName, BadFault, BadValue, RepeatedKey}
 use Rattle.draft.specs.declared.Verdict.{Verdict}
 use Rattle.draft.specs.declared.Verdict.the-variants.{Fine, Bad}
 use Rattle.draft.specs.declared.Content.{Content}
@@ -48,6 +48,10 @@ badIf false refusal = Fine
 -- the name in an Other is not a standard type's
 unfoldable pub nameRule : List ℕ → Verdict
 nameRule s = badIf (standardName s) StandardName
+
+-- a Struct's key is none of those before it
+unfoldable pub keyRule : List (List ℕ) → List ℕ → Verdict
+keyRule seen key = badIf (among seen key) RepeatedKey
 
 -- an item that stands in a fault's Struct, as the rule for its members sees it: a String with its text, an Integer, or something else
 pub data Held : Type 0 where

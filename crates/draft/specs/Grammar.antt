@@ -14,7 +14,7 @@ use Rattle.draft.specs.declared.Content.{Content}
 use Rattle.draft.specs.declared.Content.the-variants as content
 use Rattle.draft.specs.Bytes.{bytes}
 use Rattle.draft.specs.Rows.{below, kindOf}
-use Rattle.draft.specs.Content.{contentRule, nameRule, Held, heldOf, faultRule}
+use Rattle.draft.specs.Content.{contentRule, nameRule, keyRule, Held, heldOf, faultRule}
 
 -- MEANING. What an item means is a list of cells, one for each row of document 01's table and in the order of the rows.
 -- A cell says the row's kind, how many rows stand below it, and: how many things it holds (b), or its number (a), or its content bytes.
@@ -200,31 +200,32 @@ mutual
     struct :
         {d n i j k l below : ℕ} {xs : List ℕ} {cs : List Cell} {fs : List Sent}
         → LSB n i j k l
-        → Pairs d n xs cs fs
+        → Pairs d [] n xs cs fs
         → below ≡ length cs
         → Struct (suc d) (code "S" ∷ i ∷ j ∷ k ∷ l ∷ xs) (struct-cell n below ∷ cs) fs
 
-  -- (String,Value)..., n of them
-  -- 01: repeated keys are kept, in order
-  pub data Pairs : ℕ → ℕ → List ℕ → List Cell → List Sent → Type 0 where
-    no-pairs : {d : ℕ} → Pairs d zero [] [] []
+  -- (String,Value)..., n of them, behind pairs with the keys `seen`
+  -- 02: each key differs from those before it, compared as bytes, whichever way it is sent
+  pub data Pairs : ℕ → List (List ℕ) → ℕ → List ℕ → List Cell → List Sent → Type 0 where
+    no-pairs : {d : ℕ} {seen : List (List ℕ)} → Pairs d seen zero [] [] []
     more-pairs :
-        {d n : ℕ} {xs ys zs : List ℕ} {us vs ws : List Cell} {fs gs hs : List Sent}
-        → Pair d xs us fs
-        → Pairs d n ys vs gs
+        {d n : ℕ} {seen : List (List ℕ)} {t xs ys zs : List ℕ} {us vs ws : List Cell} {fs gs hs : List Sent}
+        → Pair d t xs us fs
+        → keyRule seen t ≡ Fine
+        → Pairs d (t ∷ seen) n ys vs gs
         → zs ≡ xs ++ ys
         → ws ≡ us ++ vs
         → hs ≡ fs ++ gs
-        → Pairs d (suc n) zs ws hs
+        → Pairs d seen (suc n) zs ws hs
 
-  -- (String,Value)
-  pub data Pair : ℕ → List ℕ → List Cell → List Sent → Type 0 where
+  -- (String,Value), with the key t
+  pub data Pair : ℕ → List ℕ → List ℕ → List Cell → List Sent → Type 0 where
     pair :
         {d : ℕ} {xs ys zs t : List ℕ} {cs : List Cell} {f : Sent} {fs : List Sent}
         → String xs t f
         → Value d ys cs fs
         → zs ≡ xs ++ ys
-        → Pair d zs (content-cell content.Text t ∷ cs) (f ∷ fs)
+        → Pair d t zs (content-cell content.Text t ∷ cs) (f ∷ fs)
 
   -- Other := 'O' String Binary
   -- 'Implementations MUST NOT encode any of the standard types using this construct'

@@ -23,7 +23,7 @@ use Rattle.draft.specs.declared.Entry.the-variants.{Unset, Text}
 use Rattle.draft.specs.declared.Row.{Row}
 use Rattle.draft.specs.Bytes.{bytes, byteAt, unsignedAt, part}
 use Rattle.draft.specs.Rows.{row, below, kindOf}
-use Rattle.draft.specs.Content.{verdict, nameRule, Held, heldOf, faultRule}
+use Rattle.draft.specs.Content.{verdict, nameRule, keyRule, Held, heldOf, faultRule}
 use Rattle.draft.specs.Codebook.{Book, clear, recorded}
 
 -- the rows, where the next byte stands, and the codebook; or why and where it is refused
@@ -58,14 +58,23 @@ behind rows (got others at book) = got (rows ++ others) at book
 unfoldable pub pair : Reader → Reader → Reader
 pair f g at r book = then (f at r book) (λ rows at′ book′. behind rows (g at′ (r + length rows) book′))
 
--- n more readings by f, one after the other, behind the rows `acc`, the first of which is row r; f sees those rows
-unfoldable pub items : (List Row → Reader) → ℕ → List Row → Reader
-items f zero acc at r book = got acc at book
-items f (suc n) acc at r book = then (f acc at (r + length acc) book) (λ rows at′ book′. items f n (acc ++ rows) at′ r book′)
+-- texts of what was read so far, the newest first
+abbrev pub Texts : Type 0
+Texts = List (List ℕ)
 
--- each alike, whatever the rows so far
-unfoldable pub alike : Reader → List Row → Reader
-alike f acc = f
+-- n more readings by f, one after the other, behind the rows `acc`, the first of which is row r. f sees the texts `seen`, to which `more`
+-- adds what it keeps of a reading's rows
+unfoldable pub items : (Texts → Reader) → (Texts → List Row → Texts) → ℕ → Texts → List Row → Reader
+items f more zero seen acc at r book = got acc at book
+items f more (suc n) seen acc at r book =
+    then (f seen at (r + length acc) book) (λ rows at′ book′. items f more n (more seen rows) (acc ++ rows) at′ r book′)
+
+-- each alike, whatever was seen, and nothing is kept
+unfoldable pub alike : Reader → Texts → Reader
+alike f seen = f
+
+unfoldable pub nothing : Texts → List Row → Texts
+nothing seen rows = seen
 
 -- an item's own row, in front of the rows of what it holds
 abbrev pub over : ℕ → ℕ → ℕ → Reading → Reading
@@ -182,9 +191,25 @@ module _ (s : List ℕ) (room : ℕ) where
   firstText [] = []
   firstText (x ∷ rows) = textOf s x
 
-  -- an Other's name, judged as soon as it is read, with the place o of the Other
-  unfoldable pub name : ℕ → Reader
-  name o at r book = then (string at r book) (λ rows at′ book′. judged (nameRule (firstText rows)) o (got rows at′ book′))
+  -- a String, judged as soon as it is read, with the place o for what its rule says
+  unfoldable pub stringBy : (List ℕ → Verdict) → ℕ → Reader
+  stringBy rule o at r book = then (string at r book) (λ rows at′ book′. judged (rule (firstText rows)) o (got rows at′ book′))
+
+  -- an Other's name, with the place of the Other
+  abbrev pub name : ℕ → Reader
+  name o at r book = stringBy nameRule o at r book
+
+  -- a Struct's key behind those seen, with its own place
+  unfoldable pub key : Texts → Reader
+  key seen at r book = stringBy (keyRule seen) at at r book
+
+  -- a key and its value
+  unfoldable pub member : Reader → Texts → Reader
+  member f seen = pair (key seen) f
+
+  -- the key is the first row of its pair
+  unfoldable pub keeping : Texts → List Row → Texts
+  keeping seen rows = firstText rows ∷ seen
 
   abbrev pub otherItem : Reader
   otherItem at r book = opened 1 at r (over 12 2 r (pair (name at) (only (code "B") (longItem content.Binary)) (at + 1) (r + 1) book))
@@ -199,18 +224,18 @@ module _ (s : List ℕ) (room : ℕ) where
   plainItem Other at r book = otherItem at r book
 
   -- a count, and that many items, each read by f. Counts are not judged beforehand
-  abbrev pub counted : ℕ → (List Row → Reader) → Reader
-  counted kind f at r book =
-      opened 5 at r (over kind (unsignedAt s (at + 1)) r (items f (unsignedAt s (at + 1)) [] (at + 5) (r + 1) book))
+  abbrev pub counted : ℕ → (Texts → Reader) → (Texts → List Row → Texts) → Reader
+  counted kind f more at r book =
+      opened 5 at r (over kind (unsignedAt s (at + 1)) r (items f more (unsignedAt s (at + 1)) [] [] (at + 5) (r + 1) book))
 
   -- 8 where nothing more may nest
   abbrev pub arrayItem : Nest → Reader
   arrayItem floor at r book = refused TooDeep at
-  arrayItem (under f) at r book = counted 9 (alike f) at r book
+  arrayItem (under f) at r book = counted 9 (alike f) nothing at r book
 
   abbrev pub structItem : Nest → Reader
   structItem floor at r book = refused TooDeep at
-  structItem (under f) at r book = counted 10 (alike (pair string f)) at r book
+  structItem (under f) at r book = counted 10 (member f) keeping at r book
 
   abbrev pub item : Tag → Nest → Reader
   item (Plain plain) nest at r book = plainItem plain at r book

@@ -18,6 +18,7 @@ use Rattle.draft.specs.declared.Refusal.the-variants.{
   OutputTooShort,
   BadFault,
   BadValue,
+  RepeatedKey,
 }
 
 abbrev pub numberOf : Refusal → ℕ
@@ -49,6 +50,8 @@ numberOf OutputTooShort = 13
 numberOf BadFault = 14
 -- 02: a Double or a DateTime in ASCII that is no such text
 numberOf BadValue = 17
+-- 02: a key that its Struct has already
+numberOf RepeatedKey = 20
 
 abbrev pickRefusal : Bool → Refusal → Refusal → Refusal
 pickRefusal true x y = x
@@ -70,4 +73,5 @@ refusalOf n =
     (pickRefusal (eqb n 12) FormTooLong
     (pickRefusal (eqb n 13) OutputTooShort
     (pickRefusal (eqb n 14) BadFault
-    BadValue))))))))))))
+    (pickRefusal (eqb n 17) BadValue
+    RepeatedKey)))))))))))))

@@ -2,7 +2,7 @@
 -- Every word of every row is judged. Limits are parameters. Assumes nothing.
 use Prim.Native.Nat.{ℕ, zero, suc, _+_, _*_, _-_}
 use mathlib.Core.Bool.{Bool, true, false, _&&_}
-use mathlib.Core.List.{List}
+use mathlib.Core.List.{List, [], _∷_}
 use lib.ListN.{length}
 use lib.Dec.{ltb, leb, eqb}
 use Rattle.draft.specs.declared.Verdict.{Verdict}
@@ -26,9 +26,9 @@ use Rattle.draft.specs.declared.Extent.{Extent}
 use Rattle.draft.specs.declared.Extent.the-variants.{Until, Unfit}
 use Rattle.draft.specs.declared.Row.{Row}
 use Rattle.draft.specs.Rows.{kindOf, itemOf}
-use Rattle.draft.specs.Content.{verdict, nameRule, faultRule}
+use Rattle.draft.specs.Content.{verdict, nameRule, keyRule, faultRule}
 use Rattle.draft.specs.Table.{roomOf, rowAt, from}
-use Rattle.draft.specs.Read.{textOf, heldRows}
+use Rattle.draft.specs.Read.{Texts, textOf, heldRows}
 
 abbrev pub fit : Bool → Extent → Extent
 fit true o = o
@@ -52,14 +52,17 @@ Walk = ℕ → Extent
 unfoldable pub pair : Walk → Walk → Walk
 pair f g r = then (f r) g
 
--- n more items by f, the next at row r; f sees the row of the first too
-unfoldable pub items : (ℕ → Walk) → ℕ → ℕ → Walk
-items f zero first r = Until r
-items f (suc n) first r = then (f first r) (λ next. items f n first next)
+-- n more items by f, the next at row r. f sees the texts `seen`, to which `more` adds what it keeps of the item at a row
+unfoldable pub items : (Texts → Walk) → (Texts → ℕ → Texts) → ℕ → Texts → Walk
+items f more zero seen r = Until r
+items f more (suc n) seen r = then (f seen r) (λ next. items f more n (more seen r) next)
 
--- each alike, wherever the first stands
-unfoldable pub alike : Walk → ℕ → Walk
-alike f first = f
+-- each alike, whatever was seen, and nothing is kept
+unfoldable pub alike : Walk → Texts → Walk
+alike f seen = f
+
+unfoldable pub nothing : Texts → ℕ → Texts
+nothing seen r = seen
 
 -- 'end' is the row number just after the item's last descendant
 abbrev pub closed : Row → Extent → Extent
@@ -100,12 +103,12 @@ unfoldable pub contentItem : List ℕ → ContentOf → Row → Walk
 contentItem s c x r = fit (sized c (x .b)) (ruled (verdict c s (x .a) (x .b)) (leaf x r))
 
 -- b items, each walked by f
-abbrev pub counted : (ℕ → Walk) → Row → Walk
-counted f x r = over x (items f (x .b) (r + 1) (r + 1))
+abbrev pub counted : (Texts → Walk) → (Texts → ℕ → Texts) → Row → Walk
+counted f more x r = over x (items f more (x .b) [] (r + 1))
 
 abbrev pub arrayItem : Nest → Row → Walk
 arrayItem floor x r = Unfit
-arrayItem (under f) x r = counted (alike f) x r
+arrayItem (under f) x r = counted (alike f) nothing x r
 
 -- the rows by their numbers, how many there are, and the text bytes
 module _ (row : ℕ → Row) (rows : ℕ) (s : List ℕ) where
@@ -116,9 +119,21 @@ module _ (row : ℕ → Row) (rows : ℕ) (s : List ℕ) where
   unfoldable pub string : Walk
   string r = only (kindOf Text) (contentItem s Text) r
 
+  -- a String that keeps a rule
+  unfoldable pub stringBy : (List ℕ → Verdict) → Walk
+  stringBy rule r = then (string r) (λ next. ruled (rule (textOf s (row r))) (Until next))
+
   -- an Other's name
-  unfoldable pub name : Walk
-  name r = then (string r) (λ next. ruled (nameRule (textOf s (row r))) (Until next))
+  abbrev pub name : Walk
+  name r = stringBy nameRule r
+
+  -- a key and its value, behind pairs with the keys seen
+  unfoldable pub member : Walk → Texts → Walk
+  member f seen = pair (stringBy (keyRule seen)) f
+
+  -- the key is the first row of its pair
+  unfoldable pub keeping : Texts → ℕ → Texts
+  keeping seen r = textOf s (row r) ∷ seen
 
   abbrev pub otherItem : Row → Walk
   otherItem x r = holding 2 x (pair name (only (kindOf Binary) (contentItem s Binary)) (r + 1))
@@ -126,7 +141,7 @@ module _ (row : ℕ → Row) (rows : ℕ) (s : List ℕ) where
   -- b pairs of key and value
   abbrev pub structItem : Nest → Row → Walk
   structItem floor x r = Unfit
-  structItem (under f) x r = counted (alike (pair string f)) x r
+  structItem (under f) x r = counted (member f) keeping x r
 
   abbrev pub item : Item → Nest → Row → Walk
   item Integer nest x r = integerItem x r

@@ -19,6 +19,7 @@ pub enum Refusal {
     OutputTooShort,
     BadFault,
     BadValue,
+    RepeatedKey,
 }
 
 // What a rule says of some content.
@@ -115,6 +116,7 @@ pub fn number(refusal: Refusal) -> u8
         Refusal::OutputTooShort => 13,
         Refusal::BadFault => 14,
         Refusal::BadValue => 17,
+        Refusal::RepeatedKey => 20,
     }
 }
 
@@ -136,7 +138,8 @@ pub fn refusal_of(number: usize) -> Refusal
         12 => Refusal::FormTooLong,
         13 => Refusal::OutputTooShort,
         14 => Refusal::BadFault,
-        _ => Refusal::BadValue,
+        17 => Refusal::BadValue,
+        _ => Refusal::RepeatedKey,
     }
 }
 

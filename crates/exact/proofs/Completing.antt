@@ -11,6 +11,7 @@ use lib.Dec.{eqb}
 use lib.ListN.{length, getD, length-append}
 use borrow.Author.Tests.{lt-ltb, le-leb, eq-eqb}
 use Rattle.draft.specs.declared.Row.{Row}
+use Rattle.draft.specs.declared.Verdict.{Verdict}
 use Rattle.draft.specs.declared.Verdict.the-variants.{Fine}
 use Rattle.draft.specs.declared.Content.{Content}
 use Rattle.draft.specs.declared.Content.the-variants as content
@@ -22,9 +23,9 @@ use Rattle.draft.specs.declared.Form.the-variants.{Regular, Recorded, Recalled}
 use Rattle.draft.specs.declared.Entry.the-variants.{Text}
 use Rattle.draft.specs.Bytes.{byteAt, part}
 use Rattle.draft.specs.Rows.{row, below, kindOf}
-use Rattle.draft.specs.Content.{verdict, nameRule, faultRule}
+use Rattle.draft.specs.Content.{verdict, nameRule, keyRule, faultRule}
 use Rattle.draft.specs.Codebook.{Book, clear, recorded as record-text}
-use Rattle.draft.specs.Read.{Reading, got, Reader, over, pair as read-pair, items, alike, leaf, tagOf, present, opened, contents as read-contents, integerItem, booleanItem, shortItem, longItem, recordedItem, recalled as recalledEntry, recalledItem, stringItem, string as read-string, only, firstText, name, otherItem, counted, arrayItem, structItem, item, value, nested, callItem, faultStruct, responseItem, callOrResponse, prefix, agree, message}
+use Rattle.draft.specs.Read.{Reading, got, Reader, over, pair as read-pair, items, alike, leaf, tagOf, present, opened, contents as read-contents, integerItem, booleanItem, shortItem, longItem, recordedItem, recalled as recalledEntry, recalledItem, stringItem, string as read-string, only, firstText, stringBy, name, Texts, nothing, key, member, keeping, otherItem, counted, arrayItem, structItem, item, value, nested, callItem, faultStruct, responseItem, callOrResponse, prefix, agree, message}
 use Rattle.draft.specs.Grammar.{Cell, cell, holding, number, content-cell, heldCells, Sent, regular, recorded, recalled, LSB, Keeps, Message, call-message, response-message, Call, call, Response, value-response, fault-response, fault, Value, integer-value, boolean-value, double-value, datetime-value, binary-value, array-value, struct-value, string-value, other-value, Integer, integer, boolean-true, boolean-false, Double, double, datetime, Binary, binary, Array, array, Values, no-values, more-values, Struct, struct, Pairs, no-pairs, more-pairs, Pair, pair, Other, other, String, regular-string, recorded-string, recalled-string, string-data, Recording, look, after, Legal, legal-recalled}
 use Rattle.draft.specs.Meaning.{hasNumber, hasContent, says-contents, Means, means, Realises, no-more, and-then}
 use Rattle.exact.proofs.Standing.{Here, ends, front, back, byte-of, second, four, part-here}
@@ -54,10 +55,10 @@ pub record ReadBy (s : List ℕ) (room : ℕ) (f : Reader) (xs : List ℕ) (cs :
       → Reads s (f at r book) r cs (at + length xs) (after R fs)
 
 -- the same of a run of n items
-pub record RunBy (s : List ℕ) (room : ℕ) (f : Reader) (n : ℕ) (xs : List ℕ) (cs : List Cell) (fs : List Sent) : Type 0 where
+pub record RunBy (s : List ℕ) (room : ℕ) (f : Texts → Reader) (more : Texts → List Row → Texts) (n : ℕ) (seen : Texts) (xs : List ℕ) (cs : List Cell) (fs : List Sent) : Type 0 where
   pub reads :
       (acc : List Row) (at r : ℕ) (book : Book) (R : List Recording) → Here s at xs → Legal R fs → Agrees s book R → r + length acc + length cs ≤ room
-      → ReadsOn s (items (alike f) n acc at r book) acc (r + length acc) cs (at + length xs) (after R fs)
+      → ReadsOn s (items f more n seen acc at r book) acc (r + length acc) cs (at + length xs) (after R fs)
 
 by :
     {s : List ℕ} {o o′ : Reading} {r : ℕ} {cs : List Cell} {to to′ : ℕ} {R : List Recording} → o ≡ o′ → to′ ≡ to → Reads s o′ r cs to′ R
@@ -272,11 +273,11 @@ module _ (s : List ℕ) (room : ℕ) where
       (rows : List Row) {r : ℕ} {t : List ℕ} {cs : List Cell} (c : Content) → Realises s r rows (content-cell c t ∷ cs) → firstText s room rows ≡ t
   first-text (x ∷ rows) c (and-then (means k e (says-contents l i j)) m) = j
 
-  name-read :
-      (o : ℕ) {xs t : List ℕ} {f : Sent} → String xs t f → nameRule t ≡ Fine
-      → ReadBy s room (name s room o) xs (content-cell content.Text t ∷ []) (f ∷ [])
-  unfolding name
-  name-read o x k =
+  string-by-read :
+      (rule : List ℕ → Verdict) {xs t : List ℕ} {f : Sent} → String xs t f → rule t ≡ Fine → (o : ℕ)
+      → ReadBy s room (stringBy s room rule o) xs (content-cell content.Text t ∷ []) (f ∷ [])
+  unfolding stringBy
+  string-by-read rule x k o =
       record {
         reads = λ at r book R h l a i.
             let g = string-read x .reads at r book R h l a i in
@@ -284,31 +285,43 @@ module _ (s : List ℕ) (room : ℕ) where
             (record { rows = g .rows; book = g .book; is = refl; realises = g .realises; agrees = g .agrees });
       }
 
+  name-read :
+      (o : ℕ) {xs t : List ℕ} {f : Sent} → String xs t f → nameRule t ≡ Fine
+      → ReadBy s room (name s room o) xs (content-cell content.Text t ∷ []) (f ∷ [])
+  name-read o x k = string-by-read nameRule x k o
+
+  key-read :
+      (seen : Texts) {xs t : List ℕ} {f : Sent} → String xs t f → keyRule seen t ≡ Fine
+      → ReadBy s room (key s room seen) xs (content-cell content.Text t ∷ []) (f ∷ [])
+  unfolding key
+  key-read seen x k = record { reads = λ at. string-by-read (keyRule seen) x k at .reads at }
+
   -- a run of items: none, and one more in front
-  no-items : {f : Reader} → RunBy s room f zero [] [] []
+  no-items : {f : Texts → Reader} {more : Texts → List Row → Texts} {seen : Texts} → RunBy s room f more zero seen [] [] []
   unfolding items
   no-items = record { reads = λ acc at r book R h l a i. record { rows = []; book = book; is = rw (append-nil, add-zero); realises = no-more; agrees = a } }
 
   more-reads :
-      (f : Reader) (n : ℕ) (acc : List Row) (at r : ℕ) (book : Book) {to to₁ : ℕ} {us vs ws : List Cell} {R R₁ : List Recording}
-      (g : Reads s (f at (r + length acc) book) (r + length acc) us to₁ R₁)
-      → ReadsOn s (items (alike f) n (acc ++ g .rows) to₁ r (g .book)) (acc ++ g .rows) (r + length (acc ++ g .rows)) vs to R → ws ≡ us ++ vs
-      → ReadsOn s (items (alike f) (suc n) acc at r book) acc (r + length acc) ws to R
-  unfolding items alike
-  more-reads f n acc at r book g t e =
+      (f : Texts → Reader) (more : Texts → List Row → Texts) (n : ℕ) (seen seen′ : Texts) (acc : List Row) (at r : ℕ) (book : Book) {to to₁ : ℕ} {us vs ws : List Cell}
+      {R R₁ : List Recording} (g : Reads s (f seen at (r + length acc) book) (r + length acc) us to₁ R₁) → more seen (g .rows) ≡ seen′
+      → ReadsOn s (items f more n seen′ (acc ++ g .rows) to₁ r (g .book)) (acc ++ g .rows) (r + length (acc ++ g .rows)) vs to R → ws ≡ us ++ vs
+      → ReadsOn s (items f more (suc n) seen acc at r book) acc (r + length acc) ws to R
+  unfolding items
+  more-reads f more n seen seen′ acc at r book g c t e =
       let a : r + length (acc ++ g .rows) ≡ r + length acc + length (g .rows) = omega (arith, length-append acc (g .rows)) in
       record {
         rows = g .rows ++ t .rows;
         book = t .book;
-        is = rw (g .is) (t .is ∙ rw append-assoc);
+        is = rw (g .is, c) (t .is ∙ rw append-assoc);
         realises = realises-append (g .realises) (rw a at (t .realises)) e;
         agrees = t .agrees;
       }
 
   more-items :
-      {f : Reader} {n : ℕ} {xs ys zs : List ℕ} {us vs ws : List Cell} {fs gs hs : List Sent} → ReadBy s room f xs us fs → RunBy s room f n ys vs gs
-      → zs ≡ xs ++ ys → ws ≡ us ++ vs → hs ≡ fs ++ gs → RunBy s room f (suc n) zs ws hs
-  more-items {f} {n} {xs} {ys} {zs} {us} {vs} {ws} {fs} {gs} {hs} p q e i j =
+      {f : Texts → Reader} {more : Texts → List Row → Texts} {n : ℕ} {seen seen′ : Texts} {xs ys zs : List ℕ} {us vs ws : List Cell} {fs gs hs : List Sent}
+      → ReadBy s room (f seen) xs us fs → ((r : ℕ) (rows : List Row) → Realises s r rows us → more seen rows ≡ seen′) → RunBy s room f more n seen′ ys vs gs
+      → zs ≡ xs ++ ys → ws ≡ us ++ vs → hs ≡ fs ++ gs → RunBy s room f more (suc n) seen zs ws hs
+  more-items {f} {more} {n} {seen} {seen′} {xs} {ys} {zs} {us} {vs} {ws} {fs} {gs} {hs} p c q e i j =
       record {
         reads = λ acc at r book R h l a k.
             let m = ap length i ∙ length-append us vs in
@@ -318,21 +331,21 @@ module _ (s : List ℕ) (room : ℕ) where
             let b = length-append acc (g .rows) in
             let t = q .reads (acc ++ g .rows) (at + length xs) r (g .book) (after R fs) (back xs ys h e) (legal-back fs gs l′) (g .agrees) (omega (arith, b, m, counts (g .realises))) in
             let y : at + length xs + length ys ≡ at + length zs = omega (arith, z) in
-            rw (j, after-append) (more-reads f n acc at r book g (rw y at t) i);
+            rw (j, after-append) (more-reads f more n seen seen′ acc at r book g (c (r + length acc) (g .rows) (g .realises)) (rw y at t) i);
       }
 
   -- a count, and that many items
   counted-read :
-      (kind : ℕ) {f : Reader} {x i j k l n m : ℕ} {xs : List ℕ} {cs : List Cell} {fs : List Sent} → hasNumber kind ≡ false → hasContent kind ≡ false
-      → LSB n i j k l → RunBy s room f n xs cs fs → m ≡ length cs
-      → ReadBy s room (counted s room kind (alike f)) (x ∷ i ∷ j ∷ k ∷ l ∷ xs) (cell kind m (holding n) ∷ cs) fs
-  counted-read kind {f} {x} {i} {j} {k} {l} {n} {m} {xs} {cs} {fs} p q e g z =
+      (kind : ℕ) {f : Texts → Reader} {more : Texts → List Row → Texts} {x i j k l n m : ℕ} {xs : List ℕ} {cs : List Cell} {fs : List Sent} → hasNumber kind ≡ false → hasContent kind ≡ false
+      → LSB n i j k l → RunBy s room f more n [] xs cs fs → m ≡ length cs
+      → ReadBy s room (counted s room kind f more) (x ∷ i ∷ j ∷ k ∷ l ∷ xs) (cell kind m (holding n) ∷ cs) fs
+  counted-read kind {f} {more} {x} {i} {j} {k} {l} {n} {m} {xs} {cs} {fs} p q e g z =
       opened-read 5 (omega arith) (omega arith)
       (record {
         reads = λ at r book R h le a y.
             let t = g .reads [] (at + 5) (r + 1) book R (back (x ∷ i ∷ j ∷ k ∷ l ∷ []) xs h refl) le a (omega arith) in
             let u : r + 1 + 0 ≡ r + 1 = omega arith in
-            let w : Reads s (items (alike f) n [] (at + 5) (r + 1) book) (r + 1) cs (at + 5 + length xs) (after R fs) =
+            let w : Reads s (items f more n [] [] (at + 5) (r + 1) book) (r + 1) cs (at + 5 + length xs) (after R fs) =
             record { rows = t .rows; book = t .book; is = t .is; realises = rw u at (t .realises); agrees = t .agrees } in
             rw (four (back (x ∷ []) (i ∷ j ∷ k ∷ l ∷ xs) h refl) e) (by refl (omega arith) (over-reads kind n r p q w z));
       })
@@ -360,8 +373,12 @@ module _ (s : List ℕ) (room : ℕ) where
   struct-begins : {d : ℕ} {xs : List ℕ} {cs : List Cell} {fs : List Sent} → Struct d xs cs fs → (0 < length xs) × (getD xs 0 0 ≡ code "S")
   struct-begins (struct e vs m) = (omega arith, refl)
 
+  -- the key of a pair is the text of its first row
+  key-text : (rows : List Row) {d r : ℕ} {t xs : List ℕ} {cs : List Cell} {fs : List Sent} → Pair d t xs cs fs → Realises s r rows cs → firstText s room rows ≡ t
+  key-text rows (pair x v e) m = first-text rows content.Text m
+
   mutual
-    unfolding tagOf hasNumber hasContent nested
+    unfolding tagOf hasNumber hasContent nested alike nothing member keeping
 
     value-read : {d : ℕ} {xs : List ℕ} {cs : List Cell} {fs : List Sent} → Value d xs cs fs → ReadBy s room (value s room d) xs cs fs
     value-read {d} (integer-value (integer e)) = by-tag d (tag.Plain plain.Integer) (omega arith) refl (integer-read e)
@@ -379,24 +396,25 @@ module _ (s : List ℕ) (room : ℕ) where
         {d : ℕ} {xs : List ℕ} {cs : List Cell} {fs : List Sent} → Array d xs cs fs → ReadBy s room (arrayItem s room (nested s room d)) xs cs fs
     array-read (array e vs m) = counted-read 9 refl refl e (values-read vs) m
 
-    values-read : {d n : ℕ} {xs : List ℕ} {cs : List Cell} {fs : List Sent} → Values d n xs cs fs → RunBy s room (value s room d) n xs cs fs
+    values-read : {d n : ℕ} {xs : List ℕ} {cs : List Cell} {fs : List Sent} → Values d n xs cs fs → RunBy s room (alike (value s room d)) nothing n [] xs cs fs
     values-read no-values = no-items
-    values-read (more-values v vs e f g) = more-items (value-read v) (values-read vs) e f g
+    values-read (more-values v vs e f g) = more-items (value-read v) (λ r rows m. refl) (values-read vs) e f g
 
     struct-read :
         {d : ℕ} {xs : List ℕ} {cs : List Cell} {fs : List Sent} → Struct d xs cs fs → ReadBy s room (structItem s room (nested s room d)) xs cs fs
     struct-read (struct e ps m) = counted-read 10 refl refl e (pairs-read ps) m
 
     pairs-read :
-        {d n : ℕ} {xs : List ℕ} {cs : List Cell} {fs : List Sent} → Pairs d n xs cs fs
-        → RunBy s room (read-pair (read-string s room) (value s room d)) n xs cs fs
+        {d n : ℕ} {seen : Texts} {xs : List ℕ} {cs : List Cell} {fs : List Sent} → Pairs d seen n xs cs fs
+        → RunBy s room (member s room (value s room d)) (keeping s room) n seen xs cs fs
     pairs-read no-pairs = no-items
-    pairs-read (more-pairs p ps e f g) = more-items (member-read p) (pairs-read ps) e f g
+    pairs-read {seen = seen} (more-pairs p k ps e f g) =
+        more-items (member-read p seen k) (λ r rows m. rw (key-text rows p m)) (pairs-read ps) e f g
 
     member-read :
-        {d : ℕ} {xs : List ℕ} {cs : List Cell} {fs : List Sent} → Pair d xs cs fs
-        → ReadBy s room (read-pair (read-string s room) (value s room d)) xs cs fs
-    member-read (pair x v e) = pair-read (string-read x) (value-read v) e
+        {d : ℕ} {t xs : List ℕ} {cs : List Cell} {fs : List Sent} → Pair d t xs cs fs → (seen : Texts) → keyRule seen t ≡ Fine
+        → ReadBy s room (member s room (value s room d) seen) xs cs fs
+    member-read (pair x v e) seen k = pair-read (key-read seen x k) (value-read v) e
 
   call-read : {d : ℕ} {xs : List ℕ} {cs : List Cell} {fs : List Sent} → Call d xs cs fs → ReadBy s room (callItem s room d) xs cs fs
   unfolding hasNumber hasContent

@@ -27,9 +27,9 @@ use Rattle.draft.specs.declared.Entry.{Entry}
 use Rattle.draft.specs.declared.Entry.the-variants.{Unset, Text}
 use Rattle.draft.specs.Bytes.{byteAt, unsignedAt, part}
 use Rattle.draft.specs.Rows.{row, below, kindOf}
-use Rattle.draft.specs.Content.{contentRule, allThere, verdict, nameRule, faultRule}
+use Rattle.draft.specs.Content.{contentRule, allThere, verdict, nameRule, keyRule, faultRule}
 use Rattle.draft.specs.Codebook.{Book, clear, recorded as record-text}
-use Rattle.draft.specs.Read.{Reading, got, refused, pick, then, judged, Reader, behind, over, pair as read-pair, items, alike, leaf, pickTag, tagOf, Nest, floor, under, present, opened, contents as read-contents, integerItem, booleanItem, shortItem, longItem, recordedItem, recalled as recalledEntry, recalledItem, stringItem, ifString, string as read-string, only, firstText, name, otherItem, counted, arrayItem, structItem, item, value, nested, callItem, heldRows, faultStruct, responseItem, callOrResponse, prefix, agree, message}
+use Rattle.draft.specs.Read.{Reading, got, refused, pick, then, judged, Reader, behind, over, pair as read-pair, items, alike, leaf, pickTag, tagOf, Nest, floor, under, present, opened, contents as read-contents, integerItem, booleanItem, shortItem, longItem, recordedItem, recalled as recalledEntry, recalledItem, stringItem, ifString, string as read-string, only, firstText, stringBy, name, Texts, nothing, key, member, keeping, otherItem, counted, arrayItem, structItem, item, value, nested, callItem, heldRows, faultStruct, responseItem, callOrResponse, prefix, agree, message}
 use Rattle.draft.specs.Grammar.{Cell, cell, holding, content-cell, heldCells, Sent, regular, LSB, Keeps, Message, call-message, response-message, Call, call, Response, value-response, fault-response, fault, Value, integer-value, boolean-value, double-value, datetime-value, binary-value, array-value, struct-value, string-value, other-value, Integer, integer, Boolean, boolean-true, boolean-false, Double, double, datetime, Binary, binary, Array, array, Values, no-values, more-values, Struct, struct, Pairs, no-pairs, more-pairs, Pair, pair, Other, other, String, regular-string, recorded-string, recalled-string, string-data, Recording, after, Legal, legal-none, legal-regular, legal-recorded, legal-recalled}
 use Rattle.draft.specs.Meaning.{hasNumber, hasContent, Means, Realises, no-more, and-then}
 use Rattle.exact.proofs.Standing.{Here, nothing-here, ends, join, bytes-at, long, byte-before, two-before, five-before, six-before}
@@ -169,12 +169,16 @@ one {P} {s} {room} {at} {r} {R} {rows} {to} {book} {x} {to₀} {book₀} {used} 
       fits = rw (← i) (omega arith);
     }
 
--- productions of one row, and an Other's name
+-- productions of one row, and a String that keeps a rule
 pub data OneString : List ℕ → List Cell → List Sent → Type 0 where
   one-string : {xs t : List ℕ} {f : Sent} → String xs t f → OneString xs (content-cell content.Text t ∷ []) (f ∷ [])
 
-pub data OneName : List ℕ → List Cell → List Sent → Type 0 where
-  one-name : {xs t : List ℕ} {f : Sent} → String xs t f → nameRule t ≡ Fine → OneName xs (content-cell content.Text t ∷ []) (f ∷ [])
+pub data OneBy (rule : List ℕ → Verdict) : List ℕ → List Cell → List Sent → Type 0 where
+  one-by : {xs t : List ℕ} {f : Sent} → String xs t f → rule t ≡ Fine → OneBy rule xs (content-cell content.Text t ∷ []) (f ∷ [])
+
+-- a pair whose key is none of those seen
+pub data Member (d : ℕ) (seen : Texts) : List ℕ → List Cell → List Sent → Type 0 where
+  a-member : {t xs : List ℕ} {us : List Cell} {fs : List Sent} → Pair d t xs us fs → keyRule seen t ≡ Fine → Member d seen xs us fs
 
 pub data OneBinary : List ℕ → List Cell → List Sent → Type 0 where
   one-binary : {xs t : List ℕ} → Binary xs t → OneBinary xs (content-cell content.Binary t ∷ []) []
@@ -198,14 +202,14 @@ pub data CallOrResponse (d : ℕ) : List ℕ → List Cell → List Sent → Typ
   of-call : {xs : List ℕ} {cs : List Cell} {fs : List Sent} → Call d xs cs fs → CallOrResponse d xs cs fs
   of-response : {xs : List ℕ} {cs : List Cell} {fs : List Sent} → Response d xs cs fs → CallOrResponse d xs cs fs
 
-pub other-join : Joins OneName OneBinary OtherBody
-other-join xs ys us vs fs gs (one-name x k) (one-binary y) = other-body x k y refl
+pub member-join : {d : ℕ} {seen : Texts} → Joins (OneBy (keyRule seen)) (Value d) (Member d seen)
+member-join xs ys us vs fs gs (one-by x k) y = a-member (pair x y refl) k
+
+pub other-join : Joins (OneBy nameRule) OneBinary OtherBody
+other-join xs ys us vs fs gs (one-by x k) (one-binary y) = other-body x k y refl
 
 pub call-join : {d : ℕ} → Joins OneString (Array d) (CallBody d)
 call-join xs ys us vs fs gs (one-string x) y = call-body x y refl
-
-pub pair-join : {d : ℕ} → Joins OneString (Value d) (Pair d)
-pair-join xs ys us vs fs gs (one-string x) y = pair x y refl
 
 pub other-make :
     {d : ℕ} {xs : List ℕ} {cs : List Cell} {fs : List Sent} → OtherBody xs cs fs → Value d (code "O" ∷ xs) (cell 12 (length cs) (holding 2) ∷ cs) fs
@@ -389,35 +393,35 @@ module _ (s : List ℕ) (room : ℕ) where
             g .derived at r book R rows to book′ (eqb-true _ _ (i .0)) (i .1) a;
       }
 
-  -- an Other's name
-  pub name-sound : (o : ℕ) → Sound s room (name s room o) OneName
-  unfolding name
-  name-sound o =
+  -- a String that keeps a rule
+  pub string-by-sound : (rule : List ℕ → Verdict) (o : ℕ) → Sound s room (stringBy s room rule o) (OneBy rule)
+  unfolding stringBy
+  string-by-sound rule o =
       record {
         derived = λ at r book R rows to book′ e a.
             let f = then-by (read-string s room at r book) _ e in
-            let g = judged-by (nameRule (firstText s room (f .new))) o _ (f .next) in
+            let g = judged-by (rule (firstText s room (f .new))) o _ (f .next) in
             let h = string-sound .derived at r book R rows to book′ (f .is ∙ g .1) a in
             let i : f .new ≡ rows = cc in
-            let k : nameRule (firstText s room rows) ≡ Fine = rw i at (g .0) in
+            let k : rule (firstText s room rows) ≡ Fine = rw i at (g .0) in
             named h k;
       }
     where
       named :
           {at r : ℕ} {R : List Recording} {rows : List Row} {to : ℕ} {book : Book} → Derived OneString s room at r R rows to book
-          → nameRule (firstText s room rows) ≡ Fine → Derived OneName s room at r R rows to book
+          → rule (firstText s room rows) ≡ Fine → Derived (OneBy rule) s room at r R rows to book
       named {at} {r} {R} {rows} {to} {book} h k = go (h .used) (h .cells) (h .sents) (h .derives) (h .here) (h .ends) (h .legal) (h .agrees) (h .realises) (h .fits)
         where
           go :
               (used : List ℕ) (cells : List Cell) (sents : List Sent) → OneString used cells sents → Here s at used → to ≡ at + length used
               → Legal R sents → Agrees s book (after R sents) → Realises s r rows cells → r + length rows ≤ room
-              → Derived OneName s room at r R rows to book
+              → Derived (OneBy rule) s room at r R rows to book
           go used cells sents (one-string x) p q l a m f =
               record {
                 used = used;
                 cells = cells;
                 sents = sents;
-                derives = one-name x (rw (first-text s room rows content.Text m) at k);
+                derives = one-by x (rw (first-text s room rows content.Text m) at k);
                 here = p;
                 ends = q;
                 legal = l;
@@ -425,6 +429,14 @@ module _ (s : List ℕ) (room : ℕ) where
                 realises = m;
                 fits = f;
               }
+
+  -- an Other's name, a Struct's key
+  pub name-sound : (o : ℕ) → Sound s room (name s room o) (OneBy nameRule)
+  name-sound o = string-by-sound nameRule o
+
+  pub key-sound : (seen : Texts) → Sound s room (key s room seen) (OneBy (keyRule seen))
+  unfolding key
+  key-sound seen = record { derived = λ at r book R rows to book′ e a. string-by-sound (keyRule seen) at .derived at r book R rows to book′ e a }
 
   -- one after the other
   joined :
@@ -491,13 +503,13 @@ module _ (s : List ℕ) (room : ℕ) where
     all : rows ≡ acc ++ new
     derived : Derived Q s room at r R new to book
 
-  record SoundOn (f : Reader) (n : ℕ) (Q : Production) : Type 0 where
+  record SoundOn (f : Texts → Reader) (more : Texts → List Row → Texts) (n : ℕ) (seen : Texts) (Q : Production) : Type 0 where
     derived :
         (acc : List Row) (at r : ℕ) (book : Book) (R : List Recording) (rows : List Row) (to : ℕ) (book′ : Book)
-        → items (alike f) n acc at r book ≡ got rows to book′ → Agrees s book R → at ≤ length s → r + length acc ≤ room
+        → items f more n seen acc at r book ≡ got rows to book′ → Agrees s book R → at ≤ length s → r + length acc ≤ room
         → DerivedOn Q at acc (r + length acc) R rows to book′
 
-  no-items : {f : Reader} (Q : Production) → Q [] [] [] → SoundOn f zero Q
+  no-items : {f : Texts → Reader} {more : Texts → List Row → Texts} {seen : Texts} (Q : Production) → Q [] [] [] → SoundOn f more zero seen Q
   unfolding items
   no-items Q q =
       record {
@@ -535,36 +547,54 @@ module _ (s : List ℕ) (room : ℕ) where
       let b : r + length (acc ++ new) ≡ r + length acc + length new = omega (arith, length-append acc new) in
       record { new = new ++ t .new; all = t .all ∙ append-assoc acc new (t .new); derived = joined T make g (rw b at (t .derived)) }
 
+  -- what was derived, with the rows that it is in
+  with-rows :
+      {P : Production} {at r : ℕ} {R : List Recording} {rows : List Row} {to : ℕ} {book : Book} → Derived P s room at r R rows to book
+      → Derived (λ xs us fs. P xs us fs × Realises s r rows us) s room at r R rows to book
+  with-rows g =
+      record {
+        used = g .used;
+        cells = g .cells;
+        sents = g .sents;
+        derives = (g .derives, g .realises);
+        here = g .here;
+        ends = g .ends;
+        legal = g .legal;
+        agrees = g .agrees;
+        realises = g .realises;
+        fits = g .fits;
+      }
+
   more-items :
-      {P Q : Production} (T : Production) {f : Reader} {n : ℕ}
-      → Joins P Q T → Sound s room f P
-      → SoundOn f n Q → SoundOn f (suc n) T
-  unfolding items alike
-  more-items T {f} {n} make p q =
+      {P : Production} {Q : Texts → Production} (T : Production) {f : Texts → Reader} {more : Texts → List Row → Texts} {n : ℕ} {seen : Texts}
+      → ((r : ℕ) (rows : List Row) → Joins (λ xs us fs. P xs us fs × Realises s r rows us) (Q (more seen rows)) T) → Sound s room (f seen) P
+      → ((seen′ : Texts) → SoundOn f more n seen′ (Q seen′)) → SoundOn f more (suc n) seen T
+  unfolding items
+  more-items T {f} {more} {n} {seen} make p q =
       record {
         derived = λ acc at r book R rows to book′ e a h k.
-            let i = then-by (f at (r + length acc) book) _ e in
-            let g = p .derived at (r + length acc) book R (i .new) (i .middle) (i .between) (i .is) a in
-            joined-on T r make g
-            (q .derived (acc ++ i .new) (i .middle) r (i .between) (after R (g .sents)) rows to book′ (i .next) (g .agrees)
+            let i = then-by (f seen at (r + length acc) book) _ e in
+            let g = with-rows (p .derived at (r + length acc) book R (i .new) (i .middle) (i .between) (i .is) a) in
+            joined-on T r (make (r + length acc) (i .new)) g
+            (q (more seen (i .new)) .derived (acc ++ i .new) (i .middle) r (i .between) (after R (g .sents)) rows to book′ (i .next) (g .agrees)
             (omega (arith, ends (g .here), g .ends))
             (omega (arith, length-append acc (i .new), g .fits)));
       }
 
   -- a count, and that many items
   counted-sound :
-      (b : ℕ) (kind : ℕ) {f : Reader} (P : ℕ → Production) (Q : Production)
-      → hasNumber kind ≡ false → hasContent kind ≡ false → ((n : ℕ) → SoundOn f n (P n))
+      (b : ℕ) (kind : ℕ) {f : Texts → Reader} {more : Texts → List Row → Texts} (P : ℕ → Production) (Q : Production)
+      → hasNumber kind ≡ false → hasContent kind ≡ false → ((n : ℕ) → SoundOn f more n [] (P n))
       →
       ((n i j k l : ℕ) (xs : List ℕ) (cs : List Cell) (fs : List Sent) → LSB n i j k l → P n xs cs fs → Q (b ∷ i ∷ j ∷ k ∷ l ∷ xs)
       (cell kind (length cs) (holding n) ∷ cs) fs)
-      → SoundAt s room b (counted s room kind (alike f)) Q
-  counted-sound b kind {f} P Q h i run make =
+      → SoundAt s room b (counted s room kind f more) Q
+  counted-sound b kind {f} {more} P Q h i run make =
       record {
         derived = λ at r book R rows to book′ j e a.
             let n = unsignedAt s (at + 1) in
             let g = opened-by s room 5 at r _ e in
-            let k = over-by kind n r (items (alike f) n [] (at + 5) (r + 1) book) (g .2) in
+            let k = over-by kind n r (items f more n [] [] (at + 5) (r + 1) book) (g .2) in
             let t = run n .derived [] (at + 5) (r + 1) book R (k .new) to book′ (k .is) a (g .1) (omega (arith, g .0)) in
             let u : r + 1 + 0 ≡ r + 1 = omega arith in
             let ps = b ∷ byteAt s (at + 1) ∷ byteAt s (at + 1 + 1) ∷ byteAt s (at + 1 + 2) ∷ byteAt s (at + 1 + 3) ∷ [] in
@@ -588,14 +618,34 @@ module _ (s : List ℕ) (room : ℕ) where
             (rw b at (byte-before {s = s} {at = at} (omega (arith, f .1)) (nothing-here (f .1)))) refl h (g .all);
       }
 
-  values-sound : (d : ℕ) → Sound s room (value s room d) (Value d) → (n : ℕ) → SoundOn (value s room d) n (Values d n)
-  values-sound d sound zero = no-items (Values d zero) no-values
-  values-sound d sound (suc n) = more-items (Values d (suc n)) (λ xs ys us vs fs gs x y. more-values x y refl refl refl) sound (values-sound d sound n)
+  pub alike-sound : (d : ℕ) → Sound s room (value s room d) (Value d) → (seen : Texts) → Sound s room (alike (value s room d) seen) (Value d)
+  unfolding alike
+  alike-sound d sound seen = sound
 
-  pairs-sound : (d : ℕ) → Sound s room (value s room d) (Value d) → (n : ℕ) → SoundOn (read-pair (read-string s room) (value s room d)) n (Pairs d n)
-  pairs-sound d sound zero = no-items (Pairs d zero) no-pairs
-  pairs-sound d sound (suc n) =
-      more-items (Pairs d (suc n)) (λ xs ys us vs fs gs x y. more-pairs x y refl refl refl) (pair-sound (Pair d) pair-join string-sound sound)
+  values-sound :
+      (d : ℕ) → Sound s room (value s room d) (Value d) → (n : ℕ) (seen : Texts) → SoundOn (alike (value s room d)) nothing n seen (Values d n)
+  values-sound d sound zero seen = no-items (Values d zero) no-values
+  values-sound d sound (suc n) seen =
+      more-items {Q = λ seen′. Values d n} (Values d (suc n)) (λ r rows xs ys us vs fs gs x y. more-values (x .0) y refl refl refl) (alike-sound d sound seen)
+      (values-sound d sound n)
+
+  -- the key of a pair is the text of its first row
+  more-pairs-by :
+      {d n r : ℕ} {seen : Texts} (rows : List Row) {xs ys : List ℕ} {us vs : List Cell} {fs gs : List Sent} → Member d seen xs us fs → Realises s r rows us
+      → Pairs d (keeping s room seen rows) n ys vs gs → Pairs d seen (suc n) (xs ++ ys) (us ++ vs) (fs ++ gs)
+  unfolding keeping
+  more-pairs-by rows (a-member (pair x v e) k) m y = more-pairs (pair x v e) k (rw (first-text s room rows content.Text m) at y) refl refl refl
+
+  pub member-sound : (d : ℕ) → Sound s room (value s room d) (Value d) → (seen : Texts) → Sound s room (member s room (value s room d) seen) (Member d seen)
+  unfolding member
+  member-sound d sound seen = pair-sound (Member d seen) member-join (key-sound seen) sound
+
+  pairs-sound :
+      (d : ℕ) → Sound s room (value s room d) (Value d) → (n : ℕ) (seen : Texts)
+      → SoundOn (member s room (value s room d)) (keeping s room) n seen (Pairs d seen n)
+  pairs-sound d sound zero seen = no-items (Pairs d seen zero) no-pairs
+  pairs-sound d sound (suc n) seen =
+      more-items {Q = λ seen′. Pairs d seen′ n} (Pairs d seen (suc n)) (λ r rows xs ys us vs fs gs x y. more-pairs-by rows (x .0) (x .1) y) (member-sound d sound seen)
       (pairs-sound d sound n)
 
   -- nothing nests at the floor
@@ -608,12 +658,12 @@ module _ (s : List ℕ) (room : ℕ) where
   array-under :
       (d : ℕ) → Sound s room (value s room d) (Value d) → SoundAt s room (code "A") (arrayItem s room (under (value s room d))) (Array (suc d))
   unfolding hasNumber hasContent
-  array-under d sound = counted-sound (code "A") 9 (Values d) (Array (suc d)) refl refl (values-sound d sound) (λ n i j k l xs cs fs e x. array e x refl)
+  array-under d sound = counted-sound (code "A") 9 (Values d) (Array (suc d)) refl refl (λ n. values-sound d sound n []) (λ n i j k l xs cs fs e x. array e x refl)
 
   struct-under :
       (d : ℕ) → Sound s room (value s room d) (Value d) → SoundAt s room (code "S") (structItem s room (under (value s room d))) (Struct (suc d))
   unfolding hasNumber hasContent
-  struct-under d sound = counted-sound (code "S") 10 (Pairs d) (Struct (suc d)) refl refl (pairs-sound d sound) (λ n i j k l xs cs fs e x. struct e x refl)
+  struct-under d sound = counted-sound (code "S") 10 (Pairs d []) (Struct (suc d)) refl refl (λ n. pairs-sound d sound n []) (λ n i j k l xs cs fs e x. struct e x refl)
 
   -- one production for another
   as-value :

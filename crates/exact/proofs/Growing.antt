@@ -12,11 +12,11 @@ use lib.Seq.{take-append-le, drop-append-le}
 use borrow.Author.Tests.{ltb-true, ltb-false, leb-true, leb-false, lt-ltb, le-leb, eqb-true}
 use Rattle.text.specs.Utf8.{wellFormed}
 use Rattle.text.proofs.Comparing.{clash}
-use Rattle.text.specs.Texts.{ascii, standardName}
+use Rattle.text.specs.Texts.{ascii, among, standardName}
 use Rattle.lexical.specs.Double.{isDouble}
 use Rattle.lexical.specs.DateTime.{isDateTime}
 use Rattle.draft.specs.declared.Refusal.{Refusal}
-use Rattle.draft.specs.declared.Refusal.the-variants.{Ended, WrongPrefix, UnexpectedByte, BadText, UnsetPosition, StandardName, TooDeep, NoRow, TooLong, NotWritable, FormTooLong, OutputTooShort, BadFault, BadValue}
+use Rattle.draft.specs.declared.Refusal.the-variants.{Ended, WrongPrefix, UnexpectedByte, BadText, UnsetPosition, StandardName, TooDeep, NoRow, TooLong, NotWritable, FormTooLong, OutputTooShort, BadFault, BadValue, RepeatedKey}
 use Rattle.draft.specs.declared.Row.{Row}
 use Rattle.draft.specs.declared.Verdict.{Verdict}
 use Rattle.draft.specs.declared.Verdict.the-variants.{Fine, Bad}
@@ -32,17 +32,17 @@ use Rattle.draft.specs.declared.Entry.{Entry}
 use Rattle.draft.specs.declared.Entry.the-variants.{Unset, Text}
 use Rattle.draft.specs.Bytes.{bytes, byteAt, unsignedAt, part}
 use Rattle.draft.specs.Rows.{below}
-use Rattle.draft.specs.Content.{contentRule, fineIf, asciiThen, badIf, allThere, verdict, nameRule, Held, isFault, faultRule}
+use Rattle.draft.specs.Content.{contentRule, fineIf, asciiThen, badIf, allThere, verdict, nameRule, keyRule, Held, isFault, faultRule}
 use Rattle.wanting.specs.Want.{fieldsOf, announced, wantOf}
 use Rattle.wanting.proofs.Wanting.{want-none, want-fields, want-content}
 use Rattle.draft.specs.Codebook.{Book, clear, recorded as record-text}
-use Rattle.draft.specs.Grammar.{Payload, Cell, Sent, Recording, after, Pair}
+use Rattle.draft.specs.Grammar.{Payload, Cell, Sent, Recording, after, Value, pair}
 use Rattle.draft.specs.Meaning.{Realises, no-more, and-then, means, Says, says-holding, says-number, says-contents}
-use Rattle.draft.specs.Read.{Reading, got, refused, pick, then, judged, Reader, behind, over, pair as read-pair, items, alike, tagOf, Nest, floor, under, present, opened, contents as read-contents, shortItem, longItem, recalled as recalledEntry, stringItem, ifString, string as read-string, only, firstText, name, otherItem, counted, arrayItem, structItem, item, value, nested, callItem, heldRows, faultStruct, responseItem, callOrResponse, prefix, agree, message}
+use Rattle.draft.specs.Read.{Reading, got, refused, pick, then, judged, Reader, behind, over, pair as read-pair, items, alike, tagOf, Nest, floor, under, present, opened, contents as read-contents, shortItem, longItem, recalled as recalledEntry, stringItem, ifString, string as read-string, only, firstText, stringBy, name, Texts, nothing, key, member, keeping, otherItem, counted, arrayItem, structItem, item, value, nested, callItem, heldRows, faultStruct, responseItem, callOrResponse, prefix, agree, message}
 use Rattle.exact.proofs.Replaying.{Agrees, agrees-clear}
 use Rattle.exact.proofs.Realising.{held-below}
 use Rattle.exact.proofs.Completing.{value-is}
-use Rattle.exact.proofs.Deriving.{Production, Sound, OneString, one-string, pair-join, string-sound, only-sound, name-sound, value-sound, struct-sound, pair-sound}
+use Rattle.exact.proofs.Deriving.{Production, Sound, OneString, one-string, Member, a-member, string-sound, only-sound, name-sound, key-sound, member-sound, alike-sound, value-sound, struct-sound}
 
 -- what says that there is too little; bytes only if there may be more of them, and are as many as are wanted
 pub data TooLittle (more limits : Bool) (s s′ : List ℕ) : Refusal → ℕ → Type 0 where
@@ -66,6 +66,7 @@ OfReading FormTooLong = ⊥
 OfReading OutputTooShort = ⊥
 OfReading BadFault = Unit {0}
 OfReading BadValue = Unit {0}
+OfReading RepeatedKey = Unit {0}
 
 -- an answer, and the answer when there is more: acceptance stays, and so does a refusal that does not say that there is too little
 pub data Stays (more limits : Bool) (s s′ : List ℕ) : Reading → Reading → Type 0 where
@@ -171,6 +172,10 @@ content-of content.Text t e = fine-of (wellFormed t) BadText tt e
 name-of : (t : List ℕ) {m : Refusal} → nameRule t ≡ Bad m → OfReading m
 unfolding nameRule
 name-of t e = bad-of (standardName t) StandardName tt e
+
+key-of : (seen : Texts) (t : List ℕ) {m : Refusal} → keyRule seen t ≡ Bad m → OfReading m
+unfolding keyRule
+key-of seen t e = bad-of (among seen t) RepeatedKey tt e
 
 fault-of : (items : List Held) {m : Refusal} → faultRule items ≡ Bad m → OfReading m
 unfolding faultRule
@@ -368,17 +373,32 @@ module _ {more : Bool} (limits : Bool) (s s′ : List ℕ) (room room′ : ℕ) 
   first-same [] y m = refl
   first-same (x ∷ rows) (one-string y) (and-then (means i j (says-contents p q e)) m) = same-part l (x .a) (x .b) q
 
-  name-grows : (o : ℕ) → Grows (name s room o) (name s′ room′ o)
-  unfolding name
-  name-grows o =
+  string-by-grows : (rule : List ℕ → Verdict) (o : ℕ) → ((t : List ℕ) (m : Refusal) → rule t ≡ Bad m → OfReading m) → Grows (stringBy s room rule o) (stringBy s′ room′ rule o)
+  unfolding stringBy
+  string-by-grows rule o of =
       record {
         stays = λ at r book R a.
             then-stays (string-grows .stays at r book R a)
             (λ rows to book′ e.
             let h = string-sound s room .derived at r book R rows to book′ e a in
             rw (first-same rows (h .derives) (h .realises))
-            (judged-stays (nameRule (firstText s room rows)) o rows to book′ (λ m. name-of (firstText s room rows))));
+            (judged-stays (rule (firstText s room rows)) o rows to book′ (of (firstText s room rows))));
       }
+
+  name-grows : (o : ℕ) → Grows (name s room o) (name s′ room′ o)
+  name-grows o = string-by-grows nameRule o (λ t m. name-of t)
+
+  key-grows : (seen : Texts) → Grows (key s room seen) (key s′ room′ seen)
+  unfolding key
+  key-grows seen = record { stays = λ at. string-by-grows (keyRule seen) at (λ t m. key-of seen t) .stays at }
+
+  -- the key of a pair that was read lies in the bytes
+  keeps-same :
+      {d r : ℕ} {seen : Texts} (rows : List Row) {used : List ℕ} {cells : List Cell} {sents : List Sent} → Member d seen used cells sents → Realises s r rows cells
+      → keeping s′ room′ seen rows ≡ keeping s room seen rows
+  unfolding keeping
+  keeps-same [] y m = refl
+  keeps-same (x ∷ rows) (a-member (pair y v z) k) (and-then (means i j (says-contents p q e)) m) = rw (same-part l (x .a) (x .b) q)
 
   pair-grows :
       {P : Production} {f f′ g g′ : Reader} → Sound s room f P → Grows f f′ → Grows g g′
@@ -393,27 +413,32 @@ module _ {more : Bool} (limits : Bool) (s s′ : List ℕ) (room room′ : ℕ) 
             behind-stays rows (q .stays to (r + length rows) book′ (after R (h .sents)) (h .agrees)));
       }
 
-  items-stay :
-      {P : Production} {f f′ : Reader} → Sound s room f P → Grows f f′
-      → (n : ℕ) (acc : List Row) (at r : ℕ) (book : Book) (R : List Recording) → Agrees s book R
-      → Stays more limits s s′ (items (alike f) n acc at r book) (items (alike f′) n acc at r book)
-  unfolding items alike
-  items-stay sound p zero acc at r book R a = accepts
-  items-stay sound p (suc n) acc at r book R a =
-      then-stays (p .stays at (r + length acc) book R a)
-      (λ rows to book′ e.
-      let h = sound .derived at (r + length acc) book R rows to book′ e a in
-      items-stay sound p n (acc ++ rows) to r book′ (after R (h .sents)) (h .agrees))
+  -- n items, where what is kept of each is the same
+  module _
+      (P : Texts → Production) {f f′ : Texts → Reader} {more-of more-of′ : Texts → List Row → Texts} (sound : (seen : Texts) → Sound s room (f seen) (P seen))
+      (p : (seen : Texts) → Grows (f seen) (f′ seen))
+      (same : (seen : Texts) (r : ℕ) (rows : List Row) (used : List ℕ) (cells : List Cell) (sents : List Sent) → P seen used cells sents → Realises s r rows cells
+      → more-of′ seen rows ≡ more-of seen rows)
+    where
+      items-stay :
+          (n : ℕ) (seen : Texts) (acc : List Row) (at r : ℕ) (book : Book) (R : List Recording) → Agrees s book R
+          → Stays more limits s s′ (items f more-of n seen acc at r book) (items f′ more-of′ n seen acc at r book)
+      unfolding items
+      items-stay zero seen acc at r book R a = accepts
+      items-stay (suc n) seen acc at r book R a =
+          then-stays (p seen .stays at (r + length acc) book R a)
+          (λ rows to book′ e.
+          let h = sound seen .derived at (r + length acc) book R rows to book′ e a in
+          rw (same seen (r + length acc) rows (h .used) (h .cells) (h .sents) (h .derives) (h .realises))
+          (items-stay n (more-of seen rows) (acc ++ rows) to r book′ (after R (h .sents)) (h .agrees)))
 
-  counted-grows :
-      (kind : ℕ) (t : Tag) → fieldsOf t ≡ 5 → {P : Production} {f f′ : Reader} → Sound s room f P → Grows f f′
-      → GrowsAt t (counted s room kind (alike f)) (counted s′ room′ kind (alike f′))
-  counted-grows kind t five {f = f} {f′} sound p =
-      record {
-        stays = λ at r book R a g.
-            opened-stays 5 at r (λ k. omega (arith, five, fields-end t at g (omega (arith, five))))
-            (λ h. rw (unsigned-same (at + 1) (omega arith)) (over-stays kind (unsignedAt s (at + 1)) r (items-stay sound p (unsignedAt s (at + 1)) [] (at + 5) (r + 1) book R a)));
-      }
+      counted-grows : (kind : ℕ) (t : Tag) → fieldsOf t ≡ 5 → GrowsAt t (counted s room kind f more-of) (counted s′ room′ kind f′ more-of′)
+      counted-grows kind t five =
+          record {
+            stays = λ at r book R a g.
+                opened-stays 5 at r (λ k. omega (arith, five, fields-end t at g (omega (arith, five))))
+                (λ h. rw (unsigned-same (at + 1) (omega arith)) (over-stays kind (unsignedAt s (at + 1)) r (items-stay (unsignedAt s (at + 1)) [] [] (at + 5) (r + 1) book R a)));
+          }
 
   binary-grows : GrowsAt (tag.Plain plain.Binary) (longItem s room content.Binary) (longItem s′ room′ content.Binary)
   binary-grows =
@@ -471,26 +496,39 @@ module _ {more : Bool} (limits : Bool) (s s′ : List ℕ) (room room′ : ℕ) 
   struct-floor zero i = record { stays = λ at r book R a g. refuses {m = TooDeep} tt }
   struct-floor (suc d′) i = record { stays = λ at r book R a g. changes (little-nesting (deeper d′ i)) }
 
-  struct-under :
-      (d d′ : ℕ) → Grows (value s room d) (value s′ room′ d′)
-      → GrowsAt tag.Struct (structItem s room (under (value s room d))) (structItem s′ room′ (under (value s′ room′ d′)))
-  struct-under d d′ g =
-      counted-grows 10 tag.Struct refl (pair-sound s room (Pair d) pair-join (string-sound s room) (value-sound s room d))
-      (pair-grows (string-sound s room) string-grows g)
+  module _ (d d′ : ℕ) (g : Grows (value s room d) (value s′ room′ d′)) where
+    member-grows : (seen : Texts) → Grows (member s room (value s room d) seen) (member s′ room′ (value s′ room′ d′) seen)
+    unfolding member
+    member-grows seen = pair-grows (key-sound s room seen) (key-grows seen) g
+
+    alike-grows : (seen : Texts) → Grows (alike (value s room d) seen) (alike (value s′ room′ d′) seen)
+    unfolding alike
+    alike-grows seen = g
+
+    array-under : GrowsAt tag.Array (arrayItem s room (under (value s room d))) (arrayItem s′ room′ (under (value s′ room′ d′)))
+    unfolding nothing
+    array-under =
+        counted-grows (λ seen. Value d) (alike-sound s room d (value-sound s room d)) alike-grows
+        (λ seen r rows used cells sents y m. refl) 9 tag.Array refl
+
+    struct-under : GrowsAt tag.Struct (structItem s room (under (value s room d))) (structItem s′ room′ (under (value s′ room′ d′)))
+    struct-under =
+        counted-grows (Member d) (member-sound s room d (value-sound s room d)) member-grows
+        (λ seen r rows used cells sents y m. keeps-same rows y m) 10 tag.Struct refl
 
   value-grows : (d d′ : ℕ) → d ≤ d′ → (limits ≡ false → d′ ≤ d) → Grows (value s room d) (value s′ room′ d′)
   unfolding nested
   value-grows zero d′ h eq = by-tag zero d′ (array-floor d′ eq) (struct-floor d′ eq)
   value-grows (suc d) zero h eq = absurd (omega arith)
   value-grows (suc d) (suc d′) h eq =
-      by-tag (suc d) (suc d′) (counted-grows 9 tag.Array refl (value-sound s room d) (value-grows d d′ (omega arith) (λ e. let i = eq e in omega arith)))
+      by-tag (suc d) (suc d′) (array-under d d′ (value-grows d d′ (omega arith) (λ e. let i = eq e in omega arith)))
       (struct-under d d′ (value-grows d d′ (omega arith) (λ e. let i = eq e in omega arith)))
 
   array-grows : (d d′ : ℕ) → d ≤ d′ → (limits ≡ false → d′ ≤ d) → GrowsAt tag.Array (arrayItem s room (nested s room d)) (arrayItem s′ room′ (nested s′ room′ d′))
   unfolding nested
   array-grows zero d′ h eq = array-floor d′ eq
   array-grows (suc d) zero h eq = absurd (omega arith)
-  array-grows (suc d) (suc d′) h eq = counted-grows 9 tag.Array refl (value-sound s room d) (value-grows d d′ (omega arith) (λ e. let i = eq e in omega arith))
+  array-grows (suc d) (suc d′) h eq = array-under d d′ (value-grows d d′ (omega arith) (λ e. let i = eq e in omega arith))
 
   struct-grows : (d d′ : ℕ) → d ≤ d′ → (limits ≡ false → d′ ≤ d) → GrowsAt tag.Struct (structItem s room (nested s room d)) (structItem s′ room′ (nested s′ room′ d′))
   unfolding nested

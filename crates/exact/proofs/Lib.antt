@@ -7,3 +7,4 @@ pub mod Deriving
 pub mod Growing
 pub mod Concluding
 pub mod Members
+pub mod Keys

@@ -29,7 +29,7 @@ use Rattle.draft.specs.Content.{verdict, allThere, contentRule, nameRule}
 use Rattle.draft.specs.Bytes.{part}
 use Rattle.draft.specs.Codebook.{Book, recorded}
 use Rattle.draft.specs.Table.{setRow, putRows, rowAt}
-use Rattle.draft.specs.Read.{Reading, got, refused, Reader, pick, opened, pair, then, judged, leaf, contents, integerItem, booleanItem, shortItem, longItem, recordedItem, recalledItem, recalled, ifString, string, textOf, firstText, name, otherItem, pickTag, tagOf}
+use Rattle.draft.specs.Read.{Reading, got, refused, Reader, pick, opened, pair, then, judged, leaf, contents, integerItem, booleanItem, shortItem, longItem, recordedItem, recalledItem, recalled, ifString, string, textOf, firstText, stringBy, name, otherItem, pickTag, tagOf}
 use Rattle.codebook.specs.Words.{bookOf}
 use Rattle.table.proofs.Stored.{first-row}
 use Rattle.item.specs.declared.Step.{Step}
@@ -167,24 +167,24 @@ row-text-is s e f = e ∙ rw f
 pub got-did : {o : Reading} {bytes room from r : ℕ} {T T₁ W₁ : List ℕ} {step : Step} → step .number ≡ 0 → (g : Got o bytes room from r T T₁ W₁ step) → Did (got (g .rows) (step .at) (bookOf W₁)) bytes room from r T T₁ W₁ step
 got-did e g = record { says = rw (e, g .next); leaves = record { wrote = g .wrote; ahead = g .ahead; within = g .within; fits = rw (sym (g .next)) (g .fits); holds = refl } }
 
--- a String's refusal is the name's
-pub name-refused : (s : List ℕ) (q at : ℕ) (book : Book) {bytes room from from′ r : ℕ} {T T₁ T′ W₁ W′ : List ℕ} {step : Step} → Did (string s room at r book) bytes room from r T T₁ W₁ step → (step .number ≡ 0 → ⊥) → Did (name s room q at r book) bytes room from′ r T T′ W′ step
-unfolding name
-name-refused s q at book {room = room} {r = r} d n =
+-- a String's refusal is that of one which is to keep a rule
+pub name-refused : (s : List ℕ) (rule : List ℕ → Verdict) (q at : ℕ) (book : Book) {bytes room from from′ r : ℕ} {T T₁ T′ W₁ W′ : List ℕ} {step : Step} → Did (string s room at r book) bytes room from r T T₁ W₁ step → (step .number ≡ 0 → ⊥) → Did (stringBy s room rule q at r book) bytes room from′ r T T′ W′ step
+unfolding stringBy
+name-refused s rule q at book {room = room} {r = r} d n =
     let z = did-not d n in
     let e : string s room at r book ≡ refused (z .why) (z .place) = z .reading in
-    did-no (z .why) (z .says) (ap (λ (o : Reading). then o (λ rows at′ book′. judged (nameRule (firstText s room rows)) q (got rows at′ book′))) e)
+    did-no (z .why) (z .says) (ap (λ (o : Reading). then o (λ rows at′ book′. judged (rule (firstText s room rows)) q (got rows at′ book′))) e)
 
 first-there : (s : List ℕ) (room r : ℕ) (T T₁ : List ℕ) (rows : List Row) (x : Row) → T₁ ≡ putRows room T r rows → rows ≡ x ∷ [] → r < room → room * 4 ≤ length T → textOf s (rowAt room T₁ r) ≡ firstText s room rows
 first-there s room r T T₁ rows x i e h l = rw (i, e, first-row room T r x [] h l)
 
-name-by : (s : List ℕ) (room q at r : ℕ) (book : Book) {rows : List Row} {to : ℕ} {book′ : Book} {v : Verdict} → string s room at r book ≡ got rows to book′ → v ≡ nameRule (firstText s room rows) → name s room q at r book ≡ judged v q (got rows to book′)
-unfolding name
-name-by s room q at r book e f = rw (e, f)
+name-by : (s : List ℕ) (rule : List ℕ → Verdict) (room q at r : ℕ) (book : Book) {rows : List Row} {to : ℕ} {book′ : Book} {v : Verdict} → string s room at r book ≡ got rows to book′ → v ≡ rule (firstText s room rows) → stringBy s room rule q at r book ≡ judged v q (got rows to book′)
+unfolding stringBy
+name-by s rule room q at r book e f = rw (e, f)
 
 -- a String that was read, whose row is in the table
 module _ (s : List ℕ) (at : ℕ) (book : Book) {bytes room from r : ℕ} {T T₁ W₁ : List ℕ} {step : Step} (d : Did (string s room at r book) bytes room from r T T₁ W₁ step) (e : step .number ≡ 0) where
-  the-row : (x : Row) × (did-next d e .rows ≡ x ∷ [])
+  pub the-row : (x : Row) × (did-next d e .rows ≡ x ∷ [])
   the-row = rw (did-next d e .reading) at (string-one s room at r book)
 
   pub string-row : r < room
@@ -193,15 +193,15 @@ module _ (s : List ℕ) (at : ℕ) (book : Book) {bytes room from r : ℕ} {T T�
       let n : length (g .rows) ≡ 1 = rw (the-row .1) in
       omega (arith, g .next, g .fits)
 
-  named : {t : List ℕ} {v : Verdict} → room * 4 ≤ length T → t ≡ textOf s (rowAt room T₁ r) → v ≡ nameRule t → v ≡ nameRule (firstText s room (did-next d e .rows))
-  named l f g = g ∙ ap nameRule (f ∙ first-there s room r T T₁ (did-next d e .rows) (the-row .0) (did-next d e .wrote) (the-row .1) string-row l)
+  pub named : {t : List ℕ} → room * 4 ≤ length T → t ≡ textOf s (rowAt room T₁ r) → t ≡ firstText s room (did-next d e .rows)
+  named l f = f ∙ first-there s room r T T₁ (did-next d e .rows) (the-row .0) (did-next d e .wrote) (the-row .1) string-row l
 
-  -- the name of the Other at q, as its rule says
-  module _ (q : ℕ) {t : List ℕ} {v : Verdict} (l : room * 4 ≤ length T) (f : t ≡ textOf s (rowAt room T₁ r)) (g : v ≡ nameRule t) where
-    name-is : name s room q at r book ≡ judged v q (got (did-next d e .rows) (step .at) (bookOf W₁))
-    name-is = name-by s room q at r book (did-next d e .reading) (named l f g)
+  -- as its rule says, at q
+  module _ (rule : List ℕ → Verdict) (q : ℕ) {t : List ℕ} {v : Verdict} (l : room * 4 ≤ length T) (f : t ≡ textOf s (rowAt room T₁ r)) (g : v ≡ rule t) where
+    pub name-is : stringBy s room rule q at r book ≡ judged v q (got (did-next d e .rows) (step .at) (bookOf W₁))
+    name-is = name-by s rule room q at r book (did-next d e .reading) (g ∙ ap rule (named l f))
 
-    pub name-judged : {answer : Step} → answer ≡ judgedAt v q step → Did (name s room q at r book) bytes room from r T T₁ W₁ answer
+    pub name-judged : {answer : Step} → answer ≡ judgedAt v q step → Did (stringBy s room rule q at r book) bytes room from r T T₁ W₁ answer
     name-judged i = done name-is (judged-did v q (got-did e (did-next d e)) i)
 
 -- an item's own row

@@ -2,3 +2,4 @@
 pub mod Structs
 pub mod Saying
 pub mod Parting
+pub mod Only

@@ -15,6 +15,7 @@ use Rattle.draft.specs.declared.Content.the-variants as content
 use Rattle.draft.specs.Bytes.{part}
 use Rattle.draft.specs.Rows.{itemOf}
 use Rattle.draft.specs.Table.{from}
+use Rattle.draft.specs.Read.{Texts}
 use Rattle.draft.specs.Grammar.{Payload, holding, number, contents, Cell, cell, Sent, content-cell, struct-cell, Value, integer-value, boolean-value, double-value, datetime-value, binary-value, array-value, struct-value, string-value, other-value, Array, array, Struct, struct, Pairs, no-pairs, more-pairs, pair, Other, other, Derives}
 use Rattle.draft.specs.Meaning.{Says, says-holding, says-number, says-contents, Means, means, Realises, no-more, and-then}
 use Rattle.member.specs.declared.Found.{Found}
@@ -38,24 +39,24 @@ module _ (row : ℕ → Row) (s : List ℕ) where
   standing zero no-more = no-row
   standing (suc n) (and-then m t) = and-row m (standing n t)
 
-  first-part : (us vs : List Cell) {r : ℕ} → Standing r (us ++ vs) → Standing r us
+  pub first-part : (us vs : List Cell) {r : ℕ} → Standing r (us ++ vs) → Standing r us
   first-part [] vs t = no-row
   first-part (c ∷ us) vs (and-row m t) = and-row m (first-part us vs t)
 
-  last-part : (us vs : List Cell) {r : ℕ} → Standing r (us ++ vs) → Standing (r + length us) vs
+  pub last-part : (us vs : List Cell) {r : ℕ} → Standing r (us ++ vs) → Standing (r + length us) vs
   last-part [] vs {r} t = let z : r ≡ r + 0 = omega arith in rw z at t
   last-part (c ∷ us) vs {r} (and-row m t) = let z : suc r + length us ≡ r + suc (length us) = omega arith in rw z at (last-part us vs t)
 
   -- ---- a value's row
 
   -- a value's first cell says how many come after it
-  record First (cs : List Cell) : Type 0 where
-    kind : ℕ
-    payload : Payload
-    rest : List Cell
-    is : cs ≡ cell kind (length rest) payload ∷ rest
+  pub record First (cs : List Cell) : Type 0 where
+    pub kind : ℕ
+    pub payload : Payload
+    pub rest : List Cell
+    pub is : cs ≡ cell kind (length rest) payload ∷ rest
 
-  value-first : {d : ℕ} {xs : List ℕ} {cs : List Cell} {fs : List Sent} → Value d xs cs fs → First cs
+  pub value-first : {d : ℕ} {xs : List ℕ} {cs : List Cell} {fs : List Sent} → Value d xs cs fs → First cs
   value-first (integer-value v) = record { kind = 4; payload = _; rest = []; is = refl }
   value-first (boolean-value v) = record { kind = 5; payload = _; rest = []; is = refl }
   value-first (double-value v) = record { kind = 6; payload = _; rest = []; is = refl }
@@ -67,7 +68,7 @@ module _ (row : ℕ → Row) (s : List ℕ) where
   value-first (other-value (other {t = t} {u = u} n h b e)) =
       record { kind = 12; payload = holding 2; rest = content-cell content.Text t ∷ content-cell content.Binary u ∷ []; is = refl }
 
-  value-end : {r : ℕ} {cs : List Cell} → First cs → Standing r cs → row r .end ≡ r + length cs
+  pub value-end : {r : ℕ} {cs : List Cell} → First cs → Standing r cs → row r .end ≡ r + length cs
   value-end {r} {cs} f t = go (rw (f .is) at t) ∙ rw (f .is) (omega arith)
     where
       go : Standing r (cell (f .kind) (length (f .rest)) (f .payload) ∷ f .rest) → row r .end ≡ r + 1 + length (f .rest)
@@ -87,10 +88,10 @@ module _ (row : ℕ → Row) (s : List ℕ) where
 
   -- ---- the members, one by one
 
-  key-text : {r : ℕ} {t : List ℕ} {cs : List Cell} → Standing r (content-cell content.Text t ∷ cs) → part s (row r .a) (row r .b) ≡ t
+  pub key-text : {r : ℕ} {t : List ℕ} {cs : List Cell} → Standing r (content-cell content.Text t ∷ cs) → part s (row r .a) (row r .b) ≡ t
   key-text (and-row (means k e (says-contents h i j)) t) = j
 
-  behind : {r : ℕ} {c : Cell} {cs : List Cell} → Standing r (c ∷ cs) → Standing (r + 1) cs
+  pub behind : {r : ℕ} {c : Cell} {cs : List Cell} → Standing r (c ∷ cs) → Standing (r + 1) cs
   behind {r} (and-row m t) = rw add-one t
 
   module _ (rows : ℕ) (key : List ℕ) where
@@ -126,10 +127,10 @@ module _ (row : ℕ → Row) (s : List ℕ) where
             let other : k ≡ key → ⊥ = λ i. clash (same-self key) (rw i at e) in
             rw (one-member n r h false (has false e), value-end (value-first v) at-value) (later-member other more)
 
-    members-said : {d n r : ℕ} {xs : List ℕ} {ws : List Cell} {fs : List Sent} (p : Pairs d n xs ws fs) → Standing r ws → r + length ws ≤ rows → Said s key r (membersOf p) (answer n r)
+    members-said : {d n r : ℕ} {seen : Texts} {xs : List ℕ} {ws : List Cell} {fs : List Sent} (p : Pairs d seen n xs ws fs) → Standing r ws → r + length ws ≤ rows → Said s key r (membersOf p) (answer n r)
     unfolding membersOf membersFrom find
     members-said no-pairs t h = no-member
-    members-said {r = r} (more-pairs {n = n} {vs = vs} {ws = ws} (pair {t = k} {cs = cs} string value q) pairs z w g) t h =
+    members-said {r = r} (more-pairs {n = n} {vs = vs} {ws = ws} (pair {t = k} {cs = cs} string value q) u pairs z w g) t h =
         let stands : Standing r (content-cell content.Text k ∷ (cs ++ vs)) = rw w at t in
         let l : length ws ≡ suc (length cs + length vs) = rw w (ap suc (length-append cs vs)) in
         let c = value-first value in
@@ -138,7 +139,7 @@ module _ (row : ℕ → Row) (s : List ℕ) where
 
   -- ---- a key looked up, where the rows from row 0 on have the meanings of the cells, and there are no others
 
-  kind-at : {cs : List Cell} {r : ℕ} → Standing r cs → (i : ℕ) → i < length cs → row (r + i) .kind ≡ kindAt cs i
+  pub kind-at : {cs : List Cell} {r : ℕ} → Standing r cs → (i : ℕ) → i < length cs → row (r + i) .kind ≡ kindAt cs i
   unfolding kindAt
   kind-at no-row i h = absurd (omega arith)
   kind-at {r = r} (and-row (means k e p) t) zero h = let z : r + 0 ≡ r = omega arith in rw z k

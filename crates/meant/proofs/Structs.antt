@@ -9,6 +9,7 @@ use lib.ListN.{length, length-append}
 use Rattle.draft.specs.declared.Content.{Content}
 use Rattle.draft.specs.declared.Content.the-variants as content
 use Rattle.draft.specs.Rows.{kindOf}
+use Rattle.draft.specs.Read.{Texts}
 use Rattle.draft.specs.Grammar.{Payload, Cell, cell, Sent, content-cell, struct-cell, Derives, Message, call-message, response-message, Call, call, Response, value-response, fault-response, Fault, fault, Value, integer-value, boolean-value, double-value, datetime-value, binary-value, array-value, struct-value, string-value, other-value, Array, array, Values, no-values, more-values, Struct, struct, Pairs, no-pairs, more-pairs, Pair, pair, Other, other}
 use Rattle.meant.specs.Meant.{StructAt}
 
@@ -42,7 +43,7 @@ beside kind below p n f zero e = absurd (n e)
 beside kind below p n f (suc r) e = under (cell kind below p) (f r e)
 
 -- a Struct's own cell in front of those of its pairs
-opened : {d n below : ℕ} {xs : List ℕ} {ws : List Cell} {fs : List Sent} → Pairs d n xs ws fs → below ≡ length ws → Structs ws → Structs (struct-cell n below ∷ ws)
+opened : {d n below : ℕ} {xs : List ℕ} {ws : List Cell} {fs : List Sent} → Pairs d [] n xs ws fs → below ≡ length ws → Structs ws → Structs (struct-cell n below ∷ ws)
 unfolding kindAt
 opened {d} {n} {below} {xs} {ws} {fs} p h f zero e =
     record { d = d; n = n; xs = xs; ws = ws; fs = fs; pairs = p; before = []; after = []; is = rw (h, append-nil); place = refl }
@@ -111,11 +112,11 @@ mutual
   struct-structs : {d : ℕ} {xs : List ℕ} {cs : List Cell} {fs : List Sent} → Struct d xs cs fs → Structs cs
   struct-structs (struct l p h) = opened p h (pairs-structs p)
 
-  pairs-structs : {d n : ℕ} {xs : List ℕ} {cs : List Cell} {fs : List Sent} → Pairs d n xs cs fs → Structs cs
+  pairs-structs : {d n : ℕ} {seen : Texts} {xs : List ℕ} {cs : List Cell} {fs : List Sent} → Pairs d seen n xs cs fs → Structs cs
   pairs-structs no-pairs = none
-  pairs-structs (more-pairs p ps z w h) = joined w (pair-structs p) (pairs-structs ps)
+  pairs-structs (more-pairs p k ps z w h) = joined w (pair-structs p) (pairs-structs ps)
 
-  pair-structs : {d : ℕ} {xs : List ℕ} {cs : List Cell} {fs : List Sent} → Pair d xs cs fs → Structs cs
+  pair-structs : {d : ℕ} {t xs : List ℕ} {cs : List Cell} {fs : List Sent} → Pair d t xs cs fs → Structs cs
   pair-structs (pair s v e) = text-no-struct (value-structs v)
 
   other-structs : {xs : List ℕ} {cs : List Cell} {f : Sent} → Other xs cs f → Structs cs

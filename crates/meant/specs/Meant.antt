@@ -1,4 +1,4 @@
--- What a message says to one who looks a member up, in the grammar's terms: the members of a Struct as the draft derives them, and what the first of
+-- What a message says to one who looks a member up, in the grammar's terms: the members of a Struct as the draft derives them, and what the one of
 -- them with a key answers. Rows come in only as numbers, by the place of a cell. Assumes nothing.
 use mathlib.Core.Path.{_≡_}
 use mathlib.Core.List.{List, [], _∷_, _++_}
@@ -8,6 +8,7 @@ use lib.ListN.{length}
 use Rattle.decimal.specs.Decimal.{decimalOf}
 use Rattle.draft.specs.declared.Content.the-variants as content
 use Rattle.draft.specs.Bytes.{part}
+use Rattle.draft.specs.Read.{Texts}
 use Rattle.draft.specs.Grammar.{Cell, Sent, integer-cell, boolean-cell, content-cell, array-cell, struct-cell, other-cell, Pairs, no-pairs, more-pairs, pair}
 use Rattle.lookup.specs.declared.Refusal.the-variants as why
 use Rattle.lookup.specs.declared.Answer.{Answer}
@@ -20,9 +21,9 @@ pub record Meaning : Type 0 where
   pub value : List Cell
 
 -- the members that a Struct's pairs derive, in order
-unfoldable pub membersOf : {d n : ℕ} {xs : List ℕ} {cs : List Cell} {fs : List Sent} → Pairs d n xs cs fs → List Meaning
+unfoldable pub membersOf : {d n : ℕ} {seen : Texts} {xs : List ℕ} {cs : List Cell} {fs : List Sent} → Pairs d seen n xs cs fs → List Meaning
 membersOf no-pairs = []
-membersOf (more-pairs (pair {t = t} {cs = cs} string value _) pairs _ _ _) = record { key = t; value = cs } ∷ membersOf pairs
+membersOf (more-pairs (pair {t = t} {cs = cs} string value _) _ pairs _ _ _) = record { key = t; value = cs } ∷ membersOf pairs
 
 -- the answer to a value by what it means, if its row is r and s are the message's bytes: an Integer's bits with their sign, a Boolean, the f64 of a
 -- Double's text, where a String's text lies in s, and the row of any other item
@@ -37,7 +38,7 @@ pub data Answers (s : List ℕ) (r : ℕ) : List Cell → Answer → Type 0 wher
   struct : {n below : ℕ} {cs : List Cell} → Answers s r (struct-cell n below ∷ cs) (Row r)
   other : {cs : List Cell} → Answers s r (other-cell ∷ cs) (Row r)
 
--- the answer to a key, among members the first of which has its key at row r: the first with that key answers, whatever comes after it
+-- the answer to a key, among members the first of which has its key at row r: the one with that key answers
 pub data Said (s key : List ℕ) : ℕ → List Meaning → Answer → Type 0 where
   no-member : {r : ℕ} → Said s key r [] (Refused why.NoMember)
   this-member : {r : ℕ} {m : Meaning} {ms : List Meaning} {a : Answer} → m .key ≡ key → Answers s (r + 1) (m .value) a → Said s key r (m ∷ ms) a
@@ -54,7 +55,7 @@ pub record StructAt (cells : List Cell) (r : ℕ) : Type 0 where
   pub xs : List ℕ
   pub ws : List Cell
   pub fs : List Sent
-  pub pairs : Pairs d n xs ws fs
+  pub pairs : Pairs d [] n xs ws fs
   pub before : List Cell
   pub after : List Cell
   pub is : cells ≡ before ++ (struct-cell n (length ws) ∷ (ws ++ after))

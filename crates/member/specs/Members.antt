@@ -39,7 +39,12 @@ module _ (row : ℕ → Row) (s : List ℕ) where
   unfoldable pub hasKey : List ℕ → ℕ → Bool
   hasKey key r = same (textOf s (row r)) key
 
-  -- 'with repeated keys the first wins'
+  -- the texts of members' keys, in order
+  unfoldable pub keysOf : List Member → List (List ℕ)
+  keysOf [] = []
+  keysOf (m ∷ ms) = textOf s (row (m .key)) ∷ keysOf ms
+
+  -- the first with a key; in a writable table it is the only one
   unfoldable pub find : List ℕ → List Member → Found
   find key [] = Absent
   find key (m ∷ ms) = pickFound (hasKey key (m .key)) (At m) (find key ms)

@@ -2,7 +2,7 @@
 use mathlib.Core.Path.{_≡_, refl, ap, _∙_}
 use mathlib.Core.Bool.{Bool, true, false}
 use mathlib.Core.List.{List}
-use Prim.Native.Nat.{ℕ, _+_, _≤_, _<_}
+use Prim.Native.Nat.{ℕ, _+_, _/_, _≤_, _<_, min}
 use native.Mathlib.Omega.{arith}
 use native.Mathlib.Nat.{zero-add}
 use lib.ListN.{length, getD, replicate}
@@ -91,4 +91,8 @@ module _ (s : List ℕ) (words : ℕ) where
 pub zeros : (words words₁ : ℕ) {T : List ℕ} → T ≡ replicate words 0 → words₁ ≡ words → T ≡ replicate words₁ 0
 zeros words words₁ e k = rw k e
 
-pub ruleset whole = (body-no, body-got, read-long, read-wrong, read-short, read-on, zeros)
+-- notes for as many rows as a table may have are enough
+pub many-enough : (room bytes : ℕ) → room ≤ 4096 → min room bytes ≤ 12288 / 3
+many-enough room bytes h = omega arith
+
+pub ruleset whole = (many-enough, body-no, body-got, read-long, read-wrong, read-short, read-on, zeros)

@@ -12,6 +12,7 @@ use Rattle.item.specs.declared.Step.{Step}
 use Rattle.item.specs.Contract.{refusedAt, Did}
 use Rattle.item.proofs.Readings.{done, did-no, did-ends, opened-full, opened-on, only-short, only-no, only-on, over-closed}
 use Rattle.item.proofs.Items.{ahead-next, one-in}
+use Rattle.keys.proofs.Keeping.{noted-blank}
 
 -- what follows `R`
 module _ (s : List ℕ) (deep at : ℕ) (book : Book) {bytes room from r : ℕ} {T T′ W′ : List ℕ} (h : r < room) (k : at < length s) where
@@ -27,4 +28,4 @@ module _ (s : List ℕ) (deep at : ℕ) (book : Book) {bytes room from r : ℕ} 
 pub ahead-two : (n : ℕ) → n + 1 ≤ n + 2 + 1
 ahead-two n = omega arith
 
-pub ruleset responding = (only-short, only-no, only-on, did-ends, opened-full, opened-on, over-closed, response-short, response-fault, response-value, ahead-next, ahead-two, one-in)
+pub ruleset responding = (only-short, only-no, only-on, did-ends, opened-full, opened-on, over-closed, response-short, response-fault, response-value, ahead-next, ahead-two, one-in, noted-blank)

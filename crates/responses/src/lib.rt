@@ -1,12 +1,15 @@
 // Reading a Response: a Value, or a fault's Struct, which is judged once it is read.
-// Assumes that the place is in the message, the rows fit the table and the codebook has its 512 words.
+// Assumes that the place is in the message, the rows fit the table, the codebook has its 512 words and the notes on keys are blank, with an
+// entry for each row.
 use draft::Refusal;
 use item::Step;
+ghost use mathlib.Core.Path.{_≡_};
 ghost use Prim.Native.Nat.{_+_, _<_};
-ghost use lib.ListN.{length};
+ghost use lib.ListN.{length, replicate};
 ghost use Rattle.draft.specs.Read.{only, structItem, nested, faultStruct, responseItem};
 ghost use Rattle.codebook.specs.Words.{bookOf};
 ghost use Rattle.item.specs.Contract.{Ready, Did};
+ghost use Rattle.member_keys.specs.Contract.{Entries};
 
 // A Struct, where nothing else is allowed.
 fn read_struct_only(
@@ -17,15 +20,16 @@ fn read_struct_only(
     room: usize,
     table: &mut [u32],
     book: &mut [u32],
+    notes: &mut [u16],
 ) -> Step
-    requires { ⌜ Ready at row room (length (now s)) (length (now table)) (length (now book)) ⌝ }
+    requires { ⌜ Ready at row room (length (now s)) (length (now table)) (length (now book)) × Entries at row room (length (now s)) (length (now notes)) × (now notes ≡ replicate (length (now notes)) 0) ⌝ }
     ensures { λ r. ⌜ Did (only (now (s .entry)) room 83 (structItem (now (s .entry)) room (nested (now (s .entry)) room deep)) at row (bookOf (now (book .entry)))) (length (now (s .entry))) room (at + 1) row (now (table .entry)) (now (table .exit)) (now (book .exit)) r ⌝ }
 {
     if s.len() <= at {
         return item::refuse(Refusal::Ended, at);
     }
     if s[at] == b'S' {
-        value::read_struct(s, at, row, deep, room, table, book)
+        value::read_struct(s, at, row, deep, room, table, book, notes)
     } else {
         item::refuse(Refusal::UnexpectedByte, at)
     }
@@ -40,11 +44,12 @@ fn read_fault_struct(
     room: usize,
     table: &mut [u32],
     book: &mut [u32],
+    notes: &mut [u16],
 ) -> Step
-    requires { ⌜ Ready at row room (length (now s)) (length (now table)) (length (now book)) ⌝ }
+    requires { ⌜ Ready at row room (length (now s)) (length (now table)) (length (now book)) × Entries at row room (length (now s)) (length (now notes)) × (now notes ≡ replicate (length (now notes)) 0) ⌝ }
     ensures { λ r. ⌜ Did (faultStruct (now (s .entry)) room deep at row (bookOf (now (book .entry)))) (length (now (s .entry))) room (at + 1) row (now (table .entry)) (now (table .exit)) (now (book .exit)) r ⌝ }
 {
-    let inside = read_struct_only(s, at, row, deep, room, table, book);
+    let inside = read_struct_only(s, at, row, deep, room, table, book, notes);
     if inside.number != 0 {
         return inside;
     }
@@ -61,8 +66,9 @@ pub fn read_response(
     room: usize,
     table: &mut [u32],
     book: &mut [u32],
+    notes: &mut [u16],
 ) -> Step
-    requires { ⌜ (at < length (now s)) × Ready at row room (length (now s)) (length (now table)) (length (now book)) ⌝ }
+    requires { ⌜ (at < length (now s)) × Ready at row room (length (now s)) (length (now table)) (length (now book)) × Entries at row room (length (now s)) (length (now notes)) × (now notes ≡ replicate (length (now notes)) 0) ⌝ }
     ensures { λ r. ⌜ Did (responseItem (now (s .entry)) room deep at row (bookOf (now (book .entry)))) (length (now (s .entry))) room (at + 1) row (now (table .entry)) (now (table .exit)) (now (book .exit)) r ⌝ }
 {
     let next = at + 1;
@@ -73,10 +79,10 @@ pub fn read_response(
         return item::refuse(Refusal::Ended, next);
     }
     if s[next] == b'F' {
-        let step = read_fault_struct(s, at + 2, row + 1, deep, room, table, book);
+        let step = read_fault_struct(s, at + 2, row + 1, deep, room, table, book, notes);
         item::close(step, 3, 1, row, room, table)
     } else {
-        let step = value::read_value(s, next, row + 1, deep, room, table, book);
+        let step = value::read_value(s, next, row + 1, deep, room, table, book, notes);
         item::close(step, 2, 1, row, room, table)
     }
 }

@@ -20,6 +20,7 @@ use Rattle.draft.specs.Content.{faultRule}
 use Rattle.draft.specs.Read.{heldRows}
 use Rattle.draft.specs.Writable.{only, structItem, item, nested, faultStruct, first, callOrResponse, wholly, writableWithin, writable}
 use Rattle.extents.specs.Asked.{Ready}
+use Rattle.keys.proofs.Keeping.{noted-blank}
 use Rattle.containers.proofs.Nesting.{nesting}
 
 -- where an item ends, as against the stated rows
@@ -65,7 +66,7 @@ row-in h l = omega (arith, h .stated)
 pub end-in : {n rows room words : ℕ} → Ready rows room words → n ≤ rows → n ≤ room
 end-in h l = omega (arith, h .stated)
 
-pub ruleset calling = (nesting, wholly-is, fault-no, fault-past, fault-bad, fault-fine, first-past, first-is, row-in, end-in)
+pub ruleset calling = (nesting, wholly-is, fault-no, fault-past, fault-bad, fault-fine, first-past, first-is, row-in, end-in, noted-blank)
 
 -- the whole table
 module _ (T : List ℕ) (rows : ℕ) (s : List ℕ) where

@@ -3,11 +3,12 @@ use draft::Extent;
 use draft::Item;
 use draft::Verdict;
 ghost use mathlib.Core.Path.{_≡_};
-ghost use Prim.Native.Nat.{_+_, _<_};
-ghost use lib.ListN.{length};
+ghost use Prim.Native.Nat.{_+_, _≤_, _<_};
+ghost use lib.ListN.{length, replicate};
 ghost use Rattle.draft.specs.Table.{rowAt};
 ghost use Rattle.draft.specs.Writable.{only, string, arrayItem, nested, pair, faultStruct, callOrResponse, wholly as whollyBy, writable as writableBy};
 ghost use Rattle.extents.specs.Asked.{Ready};
+ghost use Rattle.key_rows.specs.Contract.{Entries};
 
 // The most bytes that the texts may lie in.
 pub const MOST_BYTES: usize = 65536;
@@ -23,11 +24,12 @@ fn walk_fault_struct(
     text: &[u8],
     deep: usize,
     r: usize,
+    notes: &mut [u16],
 ) -> Extent
-    requires { ⌜ Ready rows room (length (now table)) ⌝ }
+    requires { ⌜ Ready rows room (length (now table)) × Entries rows (length (now notes)) × (now notes ≡ replicate (length (now notes)) 0) ⌝ }
     ensures { λ e. ⌜ e ≡ faultStruct (rowAt room (now (table .entry))) rows (now (text .entry)) deep r ⌝ }
 {
-    let extent = containers::walk_struct_only(table, room, rows, text, deep, r);
+    let extent = containers::walk_struct_only(table, room, rows, text, deep, r, notes);
     match extent {
         Extent::Unfit => Extent::Unfit,
         Extent::Until(next) => {
@@ -51,14 +53,23 @@ fn walk_method_and_array(
     text: &[u8],
     deep: usize,
     r: usize,
+    notes: &mut [u16],
 ) -> Extent
-    requires { ⌜ Ready rows room (length (now table)) ⌝ }
+    requires { ⌜ Ready rows room (length (now table)) × Entries rows (length (now notes)) × (now notes ≡ replicate (length (now notes)) 0) ⌝ }
     ensures { λ e. ⌜ e ≡ pair (string (rowAt room (now (table .entry))) rows (now (text .entry))) (only (rowAt room (now (table .entry))) rows (now (text .entry)) 9 (arrayItem (nested (rowAt room (now (table .entry))) rows (now (text .entry)) deep))) r ⌝ }
 {
     let extent = extents::walk_string(table, room, rows, text, r);
     match extent {
         Extent::Unfit => Extent::Unfit,
-        Extent::Until(next) => containers::walk_array_only(table, room, rows, text, deep, next),
+        Extent::Until(next) => containers::walk_array_only(
+            table,
+            room,
+            rows,
+            text,
+            deep,
+            next,
+            notes,
+        ),
     }
 }
 
@@ -69,8 +80,9 @@ fn walk_call_or_response(
     text: &[u8],
     deep: usize,
     r: usize,
+    notes: &mut [u16],
 ) -> Extent
-    requires { ⌜ Ready rows room (length (now table)) ⌝ }
+    requires { ⌜ Ready rows room (length (now table)) × Entries rows (length (now notes)) × (now notes ≡ replicate (length (now notes)) 0) ⌝ }
     ensures { λ e. ⌜ e ≡ callOrResponse (rowAt room (now (table .entry))) rows (now (text .entry)) deep r ⌝ }
 {
     if rows <= r {
@@ -80,15 +92,15 @@ fn walk_call_or_response(
     let item = draft::item_of(row.kind);
     match item {
         Item::Call => {
-            let extent = walk_method_and_array(table, room, rows, text, deep, r + 1);
+            let extent = walk_method_and_array(table, room, rows, text, deep, r + 1, notes);
             extents::close_holding(2, row, extent)
         }
         Item::Response => {
-            let extent = containers::walk_value(table, room, rows, text, deep, r + 1);
+            let extent = containers::walk_value(table, room, rows, text, deep, r + 1, notes);
             extents::close_holding(1, row, extent)
         }
         Item::Fault => {
-            let extent = walk_fault_struct(table, room, rows, text, deep, r + 1);
+            let extent = walk_fault_struct(table, room, rows, text, deep, r + 1, notes);
             extents::close_holding(1, row, extent)
         }
         Item::Integer => Extent::Unfit,
@@ -99,6 +111,51 @@ fn walk_call_or_response(
         Item::Other => Extent::Unfit,
         Item::Unknown => Extent::Unfit,
     }
+}
+
+// Notes on keys for up to 64 rows. Laying out the largest takes longer than walking a small table, so a small one gets small ones; the
+// length of an array has to be a constant, so there is a function for each.
+fn walk_few(table: &[u32], room: usize, rows: usize, text: &[u8]) -> Extent
+    requires { ⌜ Ready rows room (length (now table)) × (rows ≤ 64) ⌝ }
+    ensures { λ e. ⌜ e ≡ callOrResponse (rowAt room (now (table .entry))) rows (now (text .entry)) 32 0 ⌝ }
+{
+    let mut words = [0u16; 192];
+    let notes: &mut [u16] = &mut words;
+    walk_call_or_response(table, room, rows, text, MOST_NESTING, 0, notes)
+}
+
+// For up to 512 rows.
+fn walk_some(table: &[u32], room: usize, rows: usize, text: &[u8]) -> Extent
+    requires { ⌜ Ready rows room (length (now table)) × (rows ≤ 512) ⌝ }
+    ensures { λ e. ⌜ e ≡ callOrResponse (rowAt room (now (table .entry))) rows (now (text .entry)) 32 0 ⌝ }
+{
+    let mut words = [0u16; 1536];
+    let notes: &mut [u16] = &mut words;
+    walk_call_or_response(table, room, rows, text, MOST_NESTING, 0, notes)
+}
+
+// For as many rows as a table may have.
+fn walk_many(table: &[u32], room: usize, rows: usize, text: &[u8]) -> Extent
+    requires { ⌜ Ready rows room (length (now table)) ⌝ }
+    ensures { λ e. ⌜ e ≡ callOrResponse (rowAt room (now (table .entry))) rows (now (text .entry)) 32 0 ⌝ }
+{
+    let mut words = [0u16; 12288];
+    let notes: &mut [u16] = &mut words;
+    walk_call_or_response(table, room, rows, text, MOST_NESTING, 0, notes)
+}
+
+// The Call or Response of row 0, with notes on keys for the stated rows.
+fn walk_first(table: &[u32], room: usize, rows: usize, text: &[u8]) -> Extent
+    requires { ⌜ Ready rows room (length (now table)) ⌝ }
+    ensures { λ e. ⌜ e ≡ callOrResponse (rowAt room (now (table .entry))) rows (now (text .entry)) 32 0 ⌝ }
+{
+    if rows <= 64 {
+        return walk_few(table, room, rows, text);
+    }
+    if rows <= 512 {
+        return walk_some(table, room, rows, text);
+    }
+    walk_many(table, room, rows, text)
 }
 
 // Whether an item's rows are all the rows.
@@ -128,8 +185,5 @@ pub fn writable(table: &[u32], rows: usize, text: &[u8]) -> bool
         return false;
     }
     let room = table::room_of(table.len());
-    wholly(
-        rows,
-        walk_call_or_response(table, room, rows, text, MOST_NESTING, 0),
-    )
+    wholly(rows, walk_first(table, room, rows, text))
 }

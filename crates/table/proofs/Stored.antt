@@ -65,12 +65,20 @@ words-other c T r (x ∷ xs) i n =
     ∙ words-other c T (suc r) xs i (λ k j h l. n k j (omega arith) (omega arith))
 
 -- another row is as it was
-row-other : (c : ℕ) (T : List ℕ) (r q : ℕ) (x : Row) → r < c → q < c → (q ≡ r → ⊥) → rowAt c (setRow c T r x) q ≡ rowAt c T q
+pub row-other : (c : ℕ) (T : List ℕ) (r q : ℕ) (x : Row) → r < c → q < c → (q ≡ r → ⊥) → rowAt c (setRow c T r x) q ≡ rowAt c T q
 unfolding rowAt
 row-other c T r q x h k n = rw (word 0 (lit< tt), word 1 (lit< tt), word 2 (lit< tt), word 3 (lit< tt))
   where
     word : (j : ℕ) → j < 4 → getD (setRow c T r x) (place c q j) 0 ≡ getD T (place c q j) 0
     word j l = word-other c T r x (place c q j) (λ i m e. n (place-one c q r j i k h l m e .0))
+
+-- and so are the rows before several that were stored
+pub rows-kept : (c : ℕ) (T : List ℕ) (r q : ℕ) (xs : List Row) → q < r → r + length xs ≤ c → rowAt c (putRows c T r xs) q ≡ rowAt c T q
+unfolding putRows
+rows-kept c T r q [] h k = refl
+rows-kept c T r q (x ∷ xs) h k =
+    row-other c (putRows c T (suc r) xs) r q x (omega arith) (omega arith) (λ e. omega arith)
+    ∙ rows-kept c T (suc r) q xs (omega arith) (omega arith)
 
 rows-other : (c : ℕ) (T : List ℕ) (r q n : ℕ) (x : Row) → r < q → q + n ≤ c → rowsAt c (setRow c T r x) q n ≡ rowsAt c T q n
 unfolding from

@@ -1,2 +1,4 @@
 pub mod Values
 pub mod Turns
+pub mod Taking
+pub mod Keys

@@ -10,14 +10,14 @@ use Rattle.draft.specs.declared.Refusal.the-variants.{Ended, TooDeep}
 use Rattle.draft.specs.declared.Tag.{Tag}
 use Rattle.draft.specs.declared.Row.{Row}
 use Rattle.draft.specs.Codebook.{Book}
-use Rattle.draft.specs.Read.{Reading, refused, floor, under, Reader, pair, items, alike, over, string, counted, arrayItem, structItem, item, value, nested, tagOf}
+use Rattle.draft.specs.Read.{Reading, refused, floor, under, Reader, Texts, items, alike, nothing, member, keeping, over, counted, arrayItem, structItem, item, value, nested, tagOf}
 use Rattle.codebook.specs.Words.{bookOf}
 use Rattle.item.proofs.Tags.{tag-array, tag-struct}
 use Rattle.item.specs.declared.Step.{Step}
 use Rattle.item.specs.Contract.{refusedAt, Did}
-use Rattle.item.proofs.Readings.{done, did-no, did-ends, at-in, row-in, opened-full, opened-cut, opened-on, pair-first, pair-both, over-closed}
+use Rattle.item.proofs.Readings.{done, did-no, did-ends, at-in, row-in, opened-full, opened-cut, opened-on, over-closed}
 use Rattle.scalar.proofs.Scalars.{flat}
-use Rattle.value.proofs.Turns.{turn-again, turn-refused, turn-done, turn-less, ahead-next}
+use Rattle.value.proofs.Turns.{turn-less, ahead-next}
 
 -- a Value, by its byte
 value-is : (s : List ℕ) (room deep at r : ℕ) (book : Book) {t : Tag} → at < length s → t ≡ tagOf (getD s at 0) → value s room deep at r book ≡ item s room t (nested s room deep) at r book
@@ -61,14 +61,14 @@ module _ (s : List ℕ) (deep at : ℕ) (book : Book) {bytes room from r : ℕ} 
   pub struct-deep : {step : Step} → deep ≡ 0 → step ≡ refusedAt TooDeep at → Did (structItem s room (nested s room deep) at r book) bytes room from r T T′ W′ step
   struct-deep e f = did-no TooDeep f (rw (nested-none s room deep e))
 
-  pub array-less : {step : Step} → (deep ≡ 0 → ⊥) → Did (counted s room 9 (alike (value s room (deep - 1))) at r book) bytes room from r T T′ W′ step → Did (arrayItem s room (nested s room deep) at r book) bytes room from r T T′ W′ step
+  pub array-less : {step : Step} → (deep ≡ 0 → ⊥) → Did (counted s room 9 (alike (value s room (deep - 1))) nothing at r book) bytes room from r T T′ W′ step → Did (arrayItem s room (nested s room deep) at r book) bytes room from r T T′ W′ step
   array-less n d = done (rw (nested-less s room deep n)) d
 
-  pub struct-less : {step : Step} → (deep ≡ 0 → ⊥) → Did (counted s room 10 (alike (pair (string s room) (value s room (deep - 1)))) at r book) bytes room from r T T′ W′ step → Did (structItem s room (nested s room deep) at r book) bytes room from r T T′ W′ step
+  pub struct-less : {step : Step} → (deep ≡ 0 → ⊥) → Did (counted s room 10 (member s room (value s room (deep - 1))) (keeping s room) at r book) bytes room from r T T′ W′ step → Did (structItem s room (nested s room deep) at r book) bytes room from r T T′ W′ step
   struct-less n d = done (rw (nested-less s room deep n)) d
 
 -- the count, as it was read
-pub over-count : (f : List Row → Reader) (k at to : ℕ) (book : Book) {m n : ℕ} {bytes room from r : ℕ} {T T′ W′ : List ℕ} {step : Step} → m ≡ n → Did (over k m r (items f m [] to (r + 1) book)) bytes room from r T T′ W′ step → Did (over k n r (items f n [] to (r + 1) book)) bytes room from r T T′ W′ step
-over-count f k at to book e d = rw (← e) d
+pub over-count : (f : Texts → Reader) (more : Texts → List Row → Texts) (k at to : ℕ) (book : Book) {m n : ℕ} {bytes room from r : ℕ} {T T′ W′ : List ℕ} {step : Step} → m ≡ n → Did (over k m r (items f more m [] [] to (r + 1) book)) bytes room from r T T′ W′ step → Did (over k n r (items f more n [] [] to (r + 1) book)) bytes room from r T T′ W′ step
+over-count f more k at to book e d = rw (← e) d
 
-pub ruleset values = (opened-full, opened-cut, opened-on, over-closed, over-count, did-ends, at-in, row-in, pair-first, pair-both, value-short, value-array, value-struct, value-scalar, array-deep, struct-deep, array-less, struct-less, turn-again, turn-refused, turn-done, turn-less, ahead-next)
+pub ruleset values = (opened-full, opened-cut, opened-on, over-closed, over-count, did-ends, at-in, row-in, value-short, value-array, value-struct, value-scalar, array-deep, struct-deep, array-less, struct-less, turn-less, ahead-next)

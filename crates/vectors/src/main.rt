@@ -1,4 +1,4 @@
-// Reads the messages of document 01, the examples and counter-examples of the draft (document 002), and faults, Doubles and dates by
+// Reads the messages of document 01, the examples and counter-examples of the draft (document 002), and faults, Doubles, dates and keys by
 // document 02's rules, and lists each.
 ghost use Prim.Native.Nat.{_≤_, _<_};
 ghost use lib.ListN.{length};
@@ -156,6 +156,63 @@ fn run_other_faults(table: &mut [u32]) {
     );
 }
 
+// Keys, by document 02's rule that those of a Struct are distinct.
+fn run_keys(table: &mut [u32]) {
+    run(
+        b"02: the empty key twice",
+        b"binmode-rpc:RS\x02\0\0\0U\0\0\0\0tU\0\0\0\0f",
+        table,
+    );
+    run(
+        b"02: a key recalled for another member",
+        b"binmode-rpc:RS\x02\0\0\0>\0\x03\0\0\0pant<\0f",
+        table,
+    );
+    run(
+        b"02: a key in full and then recorded",
+        b"binmode-rpc:RS\x02\0\0\0U\x03\0\0\0pant>\x07\x03\0\0\0panf",
+        table,
+    );
+    run(
+        b"02: the first of three keys again, behind a Struct",
+        b"binmode-rpc:RS\x03\0\0\0U\x03\0\0\0panS\x01\0\0\0U\x03\0\0\0runtU\x03\0\0\0footU\x03\0\0\0pant",
+        table,
+    );
+    run(
+        b"02: a second key with nothing behind it",
+        b"binmode-rpc:RS\x02\0\0\0U\x03\0\0\0pantU\x03\0\0\0pan",
+        table,
+    );
+}
+
+fn run_other_keys(table: &mut [u32]) {
+    run(
+        b"02: a second key that is cut short",
+        b"binmode-rpc:RS\x02\0\0\0U\x03\0\0\0pantU\x03\0\0\0pa",
+        table,
+    );
+    run(
+        b"02: a second key recalled from a position never set, behind the empty key",
+        b"binmode-rpc:RS\x02\0\0\0U\0\0\0\0t<\0f",
+        table,
+    );
+    run(
+        b"02: one key in a Struct, in the Struct inside, and behind that as a value",
+        b"binmode-rpc:RS\x02\0\0\0>\0\x03\0\0\0panS\x01\0\0\0<\0tU\x03\0\0\0foo<\0",
+        table,
+    );
+    run(
+        b"02: one key in two Structs side by side",
+        b"binmode-rpc:RA\x02\0\0\0S\x01\0\0\0>\0\x03\0\0\0pantS\x01\0\0\0<\0f",
+        table,
+    );
+    run(
+        b"02: keys that differ in their last byte, their length and their case",
+        b"binmode-rpc:RS\x04\0\0\0U\x03\0\0\0pantU\x03\0\0\0patfU\x02\0\0\0patU\x03\0\0\0Panf",
+        table,
+    );
+}
+
 // A Response with an item of a tag, a size and a text. The text stands in its name.
 fn run_item(name: &[u8], item: &[u8], message: &mut [u8], table: &mut [u32]) {
     let start = spelling::put_text(message, 0, b"binmode-rpc:R");
@@ -252,10 +309,12 @@ fn run_dates(message: &mut [u8], table: &mut [u32]) {
     );
 }
 
-// Document 02's rules for faults, Doubles and dates.
+// Document 02's rules for faults, keys, Doubles and dates.
 fn run_rules(message: &mut [u8], table: &mut [u32]) {
     run_faults(table);
     run_other_faults(table);
+    run_keys(table);
+    run_other_keys(table);
     run_doubles(message, table);
     run_dates(message, table);
 }

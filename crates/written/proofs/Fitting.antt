@@ -10,6 +10,7 @@ use lib.Dec.{leb}
 use lib.ListN.{length, length-append}
 use borrow.Author.Tests.{eq-eqb, le-leb, lt-ltb}
 use Rattle.draft.specs.declared.Row.{Row}
+use Rattle.draft.specs.declared.Verdict.{Verdict}
 use Rattle.draft.specs.declared.Verdict.the-variants.{Fine}
 use Rattle.draft.specs.declared.Content.{Content as ContentOf}
 use Rattle.draft.specs.declared.Content.the-variants as content
@@ -18,10 +19,10 @@ use Rattle.draft.specs.declared.Item.the-variants as item
 use Rattle.draft.specs.declared.Extent.the-variants.{Until}
 use Rattle.draft.specs.Bytes.{Below, and-below}
 use Rattle.draft.specs.Rows.{below, itemOf}
-use Rattle.draft.specs.Content.{verdict, nameRule, faultRule}
+use Rattle.draft.specs.Content.{verdict, nameRule, keyRule, faultRule}
 use Rattle.draft.specs.Table.{from}
-use Rattle.draft.specs.Read.{textOf, heldRows, prefix}
-use Rattle.draft.specs.Writable.{ruled, Walk, pair as walk-pair, items, alike, closed, over, holding as walk-holding, integerItem, booleanItem, sized, contentItem, counted, arrayItem, only, string as walk-string, name, otherItem, structItem, item as walk-item, value, nested, faultStruct, first, callOrResponse}
+use Rattle.draft.specs.Read.{Texts, textOf, heldRows, prefix}
+use Rattle.draft.specs.Writable.{Walk, pair as walk-pair, items, alike, nothing, closed, over, holding as walk-holding, integerItem, booleanItem, sized, contentItem, counted, arrayItem, only, string as walk-string, stringBy, name, member, keeping, otherItem, structItem, item as walk-item, value, nested, faultStruct, first, callOrResponse}
 use Rattle.draft.specs.Grammar.{Payload, Message, call-message, response-message, holding, number, Cell, cell, content-cell, heldCells, Sent, Keeps, Call, call, Response, value-response, fault-response, fault, Value, integer-value, boolean-value, double-value, datetime-value, array-value, struct-value, string-value, other-value, boolean-true, boolean-false, double, datetime, binary-value, Binary, binary, Array, array, Values, no-values, more-values, Struct, struct, Pairs, no-pairs, more-pairs, Pair, pair, Other, other, String, regular-string, recorded-string, recalled-string}
 use Rattle.draft.specs.Meaning.{says-holding, says-number, says-contents, Means, means}
 use Rattle.exact.proofs.Standing.{long}
@@ -56,9 +57,9 @@ module _ (row : ℕ → Row) (rows : ℕ) (s : List ℕ) where
   record WalkedAt (f : Row → Walk) (cs : List Cell) : Type 0 where
     walks : (r : ℕ) → Stands row s r cs → r + length cs ≤ rows → f (row r) r ≡ Until (r + length cs)
 
-  -- the same of a run of n items
-  record RunBy (f : Walk) (n : ℕ) (cs : List Cell) : Type 0 where
-    walks : (begin r : ℕ) → Stands row s r cs → r + length cs ≤ rows → items (alike f) n begin r ≡ Until (r + length cs)
+  -- the same of a run of n items, behind those whose texts were seen
+  record RunBy (f : Texts → Walk) (more : Texts → ℕ → Texts) (n : ℕ) (seen : Texts) (cs : List Cell) : Type 0 where
+    walks : (r : ℕ) → Stands row s r cs → r + length cs ≤ rows → items f more n seen r ≡ Until (r + length cs)
 
   closed-is : (x : Row) {r n : ℕ} → x .end ≡ n → r ≡ n → closed x (Until r) ≡ Until n
   closed-is x {r} {n} e i = rw (i, eq-eqb (x .end) n e)
@@ -120,29 +121,33 @@ module _ (row : ℕ → Row) (rows : ℕ) (s : List ℕ) where
             rw (p .walks r (stands-front us vs h) (omega (arith, l)), q .walks (r + length us) (stands-back us vs h) (omega (arith, l)), e);
       }
 
-  no-items : {f : Walk} → RunBy f zero []
-  unfolding items
-  no-items = record { walks = λ begin r h i. rw add-zero }
+  module _ {f : Texts → Walk} {more : Texts → ℕ → Texts} where
+    no-items : {seen : Texts} → RunBy f more zero seen []
+    unfolding items
+    no-items = record { walks = λ r h i. rw add-zero }
 
-  more-items : {f : Walk} {n : ℕ} {us vs ws : List Cell} → WalkedBy f us → RunBy f n vs → ws ≡ us ++ vs → RunBy f (suc n) ws
-  unfolding items alike
-  more-items {f} {n} {us} {vs} p q e =
-      rw e
-      (record {
-        walks = λ begin r h i.
-            let l = length-append us vs in
-            let z : r + length us + length vs ≡ r + length (us ++ vs) = omega (arith, l) in
-            rw (p .walks r (stands-front us vs h) (omega (arith, l)), q .walks begin (r + length us) (stands-back us vs h) (omega (arith, l)), z);
-      })
+    -- the first, and the others behind what is kept of it
+    more-items :
+        {n : ℕ} {seen seen′ : Texts} {us vs ws : List Cell} → WalkedBy (f seen) us → ((r : ℕ) → Stands row s r us → more seen r ≡ seen′)
+        → RunBy f more n seen′ vs → ws ≡ us ++ vs → RunBy f more (suc n) seen ws
+    unfolding items
+    more-items {us = us} {vs} p kept q e =
+        rw e
+        (record {
+          walks = λ r h i.
+              let l = length-append us vs in
+              let z : r + length us + length vs ≡ r + length (us ++ vs) = omega (arith, l) in
+              rw
+              (p .walks r (stands-front us vs h) (omega (arith, l)), kept r (stands-front us vs h), q .walks (r + length us) (stands-back us vs h) (omega (arith, l)), z);
+        })
 
-  counted-fits :
-      (k : ℕ) {f : Walk} {n m : ℕ} {cs : List Cell} → RunBy f n cs → m ≡ length cs → WalkedAt (counted (alike f)) (cell k m (holding n) ∷ cs)
-  counted-fits k {f} {n} {m} {cs} g i = record { walks = λ r h l. go r (stands-head h) (g .walks (r + 1) (r + 1) (stands-tail h) (omega arith)) }
-    where
-      go :
-          (r : ℕ) → Means s r (row r) (cell k m (holding n)) → items (alike f) n (r + 1) (r + 1) ≡ Until (r + 1 + length cs)
-          → counted (alike f) (row r) r ≡ Until (r + suc (length cs))
-      go r (means h e (says-holding j l a b)) z = rw (a, b, z) (closed-is (row r) (omega (arith, e, i)) (omega arith))
+    counted-fits : (k : ℕ) {n m : ℕ} {cs : List Cell} → RunBy f more n [] cs → m ≡ length cs → WalkedAt (counted f more) (cell k m (holding n) ∷ cs)
+    counted-fits k {n} {m} {cs} g i = record { walks = λ r h l. go r (stands-head h) (g .walks (r + 1) (stands-tail h) (omega arith)) }
+      where
+        go :
+            (r : ℕ) → Means s r (row r) (cell k m (holding n)) → items f more n [] (r + 1) ≡ Until (r + 1 + length cs)
+            → counted f more (row r) r ≡ Until (r + suc (length cs))
+        go r (means h e (says-holding j l a b)) z = rw (a, b, z) (closed-is (row r) (omega (arith, e, i)) (omega arith))
 
   -- a Value by its kind
   by-kind :
@@ -171,19 +176,46 @@ module _ (row : ℕ → Row) (rows : ℕ) (s : List ℕ) where
   unfolding walk-string
   string-fits k = only-fits 11 (omega arith, refl) (text-fits k)
 
-  name-fits : {t : List ℕ} → Keeps content.Text t → nameRule t ≡ Fine → WalkedBy (name row rows s) (content-cell content.Text t ∷ [])
-  unfolding name
-  name-fits {t} k n = record { walks = λ r h l. rw (string-fits k .walks r h l) (go r (stands-head h)) }
-    where
-      go : (r : ℕ) → Means s r (row r) (content-cell content.Text t) → ruled (nameRule (textOf s (row r))) (Until (r + 1)) ≡ Until (r + 1)
-      go r (means h e (says-contents i j l)) = rw (l, n)
+  -- the text of the row where a String stands
+  text-there : {r : ℕ} {t : List ℕ} → Means s r (row r) (content-cell content.Text t) → textOf s (row r) ≡ t
+  text-there (means h e (says-contents i j l)) = l
+
+  -- a String that keeps a rule: an Other's name, a Struct's key
+  string-by-fits :
+      (rule : List ℕ → Verdict) {t : List ℕ} → Keeps content.Text t → rule t ≡ Fine → WalkedBy (stringBy row rows s rule) (content-cell content.Text t ∷ [])
+  unfolding stringBy
+  string-by-fits rule k n = record { walks = λ r h l. rw (string-fits k .walks r h l, text-there (stands-head h), n) }
+
+  -- the key of a pair is the text of its first row
+  key-there : {d r : ℕ} {t xs : List ℕ} {us : List Cell} {fs : List Sent} → Pair d t xs us fs → Stands row s r us → textOf s (row r) ≡ t
+  key-there (pair x v e) h = text-there (stands-head h)
+
+  key-kept :
+      {d : ℕ} (seen : Texts) {t xs : List ℕ} {us : List Cell} {fs : List Sent} → Pair d t xs us fs → (r : ℕ) → Stands row s r us
+      → keeping row rows s seen r ≡ t ∷ seen
+  unfolding keeping
+  key-kept seen p r h = rw (key-there p h)
+
+  none-kept : (seen : Texts) {us : List Cell} (r : ℕ) → Stands row s r us → nothing seen r ≡ seen
+  unfolding nothing
+  none-kept seen r h = refl
+
+  alike-fits : {f : Walk} {us : List Cell} (seen : Texts) → WalkedBy f us → WalkedBy (alike f seen) us
+  unfolding alike
+  alike-fits seen g = g
+
+  member-fits :
+      {f : Walk} (seen : Texts) {t : List ℕ} {cs : List Cell} → Keeps content.Text t → keyRule seen t ≡ Fine → WalkedBy f cs
+      → WalkedBy (member row rows s f seen) (content-cell content.Text t ∷ cs)
+  unfolding member
+  member-fits seen k n g = pair-fits (string-by-fits (keyRule seen) k n) g
 
   binary-fits : {xs t : List ℕ} → Binary xs t → WalkedAt (contentItem s content.Binary) (content-cell content.Binary t ∷ [])
   binary-fits (binary e f k) = content-fits content.Binary k refl
 
   other-fits : {xs : List ℕ} {cs : List Cell} {f : Sent} → Other xs cs f → Kept (f ∷ []) → WalkedAt (otherItem row rows s) cs
   other-fits (other x n y e) k =
-      let g = held-fits 12 2 (pair-fits (name-fits (keeps-text x k) n) (only-fits 8 (omega arith, refl) (binary-fits y))) refl in
+      let g = held-fits 12 2 (pair-fits (string-by-fits nameRule (keeps-text x k) n) (only-fits 8 (omega arith, refl) (binary-fits y))) refl in
       record { walks = λ r h l. g .walks r h l }
 
   -- a size byte
@@ -216,10 +248,11 @@ module _ (row : ℕ → Row) (rows : ℕ) (s : List ℕ) where
     array-fits (array e vs m) b k = let g = counted-fits 9 (values-fit vs (five b) k) m in record { walks = λ r h l. g .walks r h l }
 
     values-fit :
-        {d n : ℕ} {xs : List ℕ} {cs : List Cell} {fs : List Sent} → Values d n xs cs fs → Below 256 xs → Kept fs → RunBy (value row rows s d) n cs
+        {d n : ℕ} {xs : List ℕ} {cs : List Cell} {fs : List Sent} → Values d n xs cs fs → Below 256 xs → Kept fs
+        → RunBy (alike (value row rows s d)) nothing n [] cs
     values-fit no-values b k = no-items
     values-fit (more-values {xs = xs} {ys} {fs = fs} {gs} v vs e f g) b k =
-        more-items (value-fits v (below-front xs ys (rw e at b)) (kept-front fs gs (rw g at k)))
+        more-items (alike-fits [] (value-fits v (below-front xs ys (rw e at b)) (kept-front fs gs (rw g at k)))) (none-kept [])
         (values-fit vs (below-back xs ys (rw e at b)) (kept-back fs gs (rw g at k))) f
 
     struct-fits :
@@ -228,18 +261,18 @@ module _ (row : ℕ → Row) (rows : ℕ) (s : List ℕ) where
     struct-fits (struct e ps m) b k = let g = counted-fits 10 (pairs-fit ps (five b) k) m in record { walks = λ r h l. g .walks r h l }
 
     pairs-fit :
-        {d n : ℕ} {xs : List ℕ} {cs : List Cell} {fs : List Sent} → Pairs d n xs cs fs → Below 256 xs → Kept fs
-        → RunBy (walk-pair (walk-string row rows s) (value row rows s d)) n cs
+        {d n : ℕ} {seen : Texts} {xs : List ℕ} {cs : List Cell} {fs : List Sent} → Pairs d seen n xs cs fs → Below 256 xs → Kept fs
+        → RunBy (member row rows s (value row rows s d)) (keeping row rows s) n seen cs
     pairs-fit no-pairs b k = no-items
-    pairs-fit (more-pairs {xs = xs} {ys} {fs = fs} {gs} p ps e f g) b k =
-        more-items (pair-fit p (below-front xs ys (rw e at b)) (kept-front fs gs (rw g at k)))
+    pairs-fit {seen = seen} (more-pairs {xs = xs} {ys} {fs = fs} {gs} p n ps e f g) b k =
+        more-items (pair-fit seen p n (below-front xs ys (rw e at b)) (kept-front fs gs (rw g at k))) (key-kept seen p)
         (pairs-fit ps (below-back xs ys (rw e at b)) (kept-back fs gs (rw g at k))) f
 
     pair-fit :
-        {d : ℕ} {xs : List ℕ} {cs : List Cell} {fs : List Sent} → Pair d xs cs fs → Below 256 xs → Kept fs
-        → WalkedBy (walk-pair (walk-string row rows s) (value row rows s d)) cs
-    pair-fit (pair {xs = xs} {ys} {f = f} {fs} x v e) b k =
-        pair-fits (string-fits (keeps-text x k)) (value-fits v (below-back xs ys (rw e at b)) (kept-back (f ∷ []) fs k))
+        {d : ℕ} (seen : Texts) {t xs : List ℕ} {cs : List Cell} {fs : List Sent} → Pair d t xs cs fs → keyRule seen t ≡ Fine → Below 256 xs → Kept fs
+        → WalkedBy (member row rows s (value row rows s d) seen) cs
+    pair-fit seen (pair {xs = xs} {ys} {f = f} {fs} x v e) n b k =
+        member-fits seen (keeps-text x k) n (value-fits v (below-back xs ys (rw e at b)) (kept-back (f ∷ []) fs k))
 
   -- a Call or a Response
   first-fits :

@@ -10,7 +10,7 @@ use lib.Dec.{eqb}
 use lib.ListN.{length, length-append}
 use Rattle.draft.specs.declared.Content.the-variants as content
 use Rattle.draft.specs.Rows.{itemOf}
-use Rattle.draft.specs.Read.{prefix}
+use Rattle.draft.specs.Read.{Texts, prefix}
 use Rattle.draft.specs.Written.{lsb, counted, stringBytes}
 use Rattle.draft.specs.Strings.{costs}
 use Rattle.draft.specs.Grammar.{Cell, content-cell, Sent, regular, recorded, recalled, Keeps, Message, call-message, response-message, Call, call, Response, value-response, fault-response, fault, Value, integer-value, boolean-value, double-value, datetime-value, array-value, struct-value, string-value, other-value, integer, boolean-true, boolean-false, double, datetime, binary-value, Binary, binary, Array, array, Values, no-values, more-values, Struct, struct, Pairs, no-pairs, more-pairs, Pair, pair, Other, other, String, regular-string, recorded-string, recalled-string, string-data, Recording, text-at, first, look, Legal, legal-none, legal-regular, legal-recorded, legal-recalled}
@@ -123,11 +123,11 @@ mutual
   struct-measured : {d : ℕ} {xs : List ℕ} {cs : List Cell} {fs : List Sent} → Struct d xs cs fs → Measured xs cs fs
   struct-measured (struct e ps m) = let g = pairs-measured ps in record { same = g .same; size = omega (arith, g .size); honest = g .honest }
 
-  pairs-measured : {d n : ℕ} {xs : List ℕ} {cs : List Cell} {fs : List Sent} → Pairs d n xs cs fs → Measured xs cs fs
+  pairs-measured : {d n : ℕ} {seen : Texts} {xs : List ℕ} {cs : List Cell} {fs : List Sent} → Pairs d seen n xs cs fs → Measured xs cs fs
   pairs-measured no-pairs = record { same = refl; size = refl; honest = honest-none }
-  pairs-measured (more-pairs p ps e f g) = joined (pair-measured p) (pairs-measured ps) e f g
+  pairs-measured (more-pairs p k ps e f g) = joined (pair-measured p) (pairs-measured ps) e f g
 
-  pair-measured : {d : ℕ} {xs : List ℕ} {cs : List Cell} {fs : List Sent} → Pair d xs cs fs → Measured xs cs fs
+  pair-measured : {d : ℕ} {t xs : List ℕ} {cs : List Cell} {fs : List Sent} → Pair d t xs cs fs → Measured xs cs fs
   pair-measured (pair x v e) = joined (string-measured x) (value-measured v) e refl refl
 
 -- a whole message, behind its prefix

@@ -19,16 +19,16 @@ use Rattle.draft.specs.declared.Extent.{Extent}
 use Rattle.draft.specs.declared.Extent.the-variants.{Until, Unfit}
 use Rattle.draft.specs.Bytes.{part}
 use Rattle.draft.specs.Rows.{below, kindOf, itemOf}
-use Rattle.draft.specs.Content.{contentRule, verdict, nameRule, faultRule}
+use Rattle.draft.specs.Content.{contentRule, verdict, nameRule, keyRule, faultRule}
 use Rattle.draft.specs.Table.{from}
-use Rattle.draft.specs.Read.{textOf, heldRows}
-use Rattle.draft.specs.Writable.{fit, ruled, then, Walk, pair as walk-pair, items, alike, closed, leaf, over, holding as walk-holding, integerItem, booleanItem, sized, Nest, floor, under, contentItem, counted as walk-counted, arrayItem, only, string as walk-string, name, otherItem, structItem, item as walk-item, value, nested, faultStruct, first, callOrResponse}
+use Rattle.draft.specs.Read.{Texts, textOf, heldRows}
+use Rattle.draft.specs.Writable.{fit, ruled, then, Walk, pair as walk-pair, items, alike, nothing, closed, leaf, over, holding as walk-holding, integerItem, booleanItem, sized, Nest, floor, under, contentItem, counted as walk-counted, arrayItem, only, string as walk-string, stringBy, member, keeping, otherItem, structItem, item as walk-item, value, nested, faultStruct, first, callOrResponse}
 use Rattle.draft.specs.Written.{lsb, counted, stringBytes}
-use Rattle.draft.specs.Grammar.{holding, number, Cell, cell, content-cell, heldCells, Sent, regular, recorded, recalled, Keeps, Call, Response, value-response, fault-response, fault, Value, integer-value, boolean-value, double-value, datetime-value, array-value, struct-value, integer, boolean-true, boolean-false, double, datetime, binary, Array, array, Values, no-values, more-values, Struct, struct, Pairs, no-pairs, more-pairs, Pair, String, regular-string, recorded-string, recalled-string, string-data}
+use Rattle.draft.specs.Grammar.{holding, number, Cell, cell, content-cell, heldCells, Sent, regular, recorded, recalled, Keeps, Call, Response, value-response, fault-response, fault, Value, integer-value, boolean-value, double-value, datetime-value, array-value, struct-value, integer, boolean-true, boolean-false, double, datetime, binary, Array, array, Values, no-values, more-values, Struct, struct, Pairs, no-pairs, more-pairs, pair, String, regular-string, recorded-string, recalled-string, string-data}
 use Rattle.draft.specs.Meaning.{hasNumber, hasContent, says-holding, says-number, says-contents, Means, means}
 use Rattle.exact.proofs.Standing.{long}
 use Rattle.exact.proofs.Realising.{content-has}
-use Rattle.exact.proofs.Deriving.{Production, Joins, OneString, one-string, OneName, one-name, OneBinary, one-binary, OtherBody, CallBody, FaultStruct, CallOrResponse, of-call, of-response, there-by, other-join, call-join, pair-join, other-make, call-make, binary-make, string-make}
+use Rattle.exact.proofs.Deriving.{Production, Joins, OneString, one-string, OneBy, one-by, Member, a-member, OneBinary, one-binary, OtherBody, CallBody, FaultStruct, CallOrResponse, of-call, of-response, there-by, other-join, call-join, member-join, other-make, call-make, binary-make, string-make}
 use Rattle.written.proofs.Sending.{textIn, texts, none-sent, first-sent, split}
 use Rattle.written.proofs.Forming.{strings, form, HasKind, item-kind, strings-append, form-append}
 use Rattle.written.proofs.Limiting.{lsb-is}
@@ -108,11 +108,12 @@ writes-string {t} h k =
           rw (f .is, n, append-nil) (one-string (sent-string (f .sent) (f .stands) h k));
     }
 
-writes-name : {t : List ℕ} → length t < 4294967296 → Keeps content.Text t → nameRule t ≡ Fine → Writes OneName (content-cell content.Text t ∷ [])
-writes-name {t} h k n = writes-as (λ xs fs x. go xs fs x) (writes-string h k)
+writes-string-by :
+    (rule : List ℕ → Verdict) {t : List ℕ} → length t < 4294967296 → Keeps content.Text t → rule t ≡ Fine → Writes (OneBy rule) (content-cell content.Text t ∷ [])
+writes-string-by rule {t} h k n = writes-as (λ xs fs x. go xs fs x) (writes-string h k)
   where
-    go : (xs : List ℕ) (fs : List Sent) → OneString xs (content-cell content.Text t ∷ []) fs → OneName xs (content-cell content.Text t ∷ []) fs
-    go xs fs (one-string x) = one-name x n
+    go : (xs : List ℕ) (fs : List Sent) → OneString xs (content-cell content.Text t ∷ []) fs → OneBy rule xs (content-cell content.Text t ∷ []) fs
+    go xs fs (one-string x) = one-by x n
 
 writes-binary : {t : List ℕ} → length t < 4294967296 → Keeps content.Binary t → Writes OneBinary (content-cell content.Binary t ∷ [])
 unfolding form strings counted lsb itemOf
@@ -141,7 +142,7 @@ writes-values : {d : ℕ} → Writes (Values d zero) []
 unfolding form strings
 writes-values = record { derives = λ gs e. rw (none-sent gs e) no-values }
 
-writes-pairs : {d : ℕ} → Writes (Pairs d zero) []
+writes-pairs : {d : ℕ} {seen : Texts} → Writes (Pairs d seen zero) []
 unfolding form strings
 writes-pairs = record { derives = λ gs e. rw (none-sent gs e) no-pairs }
 
@@ -150,7 +151,7 @@ module _ {d n : ℕ} (h : n < 4294967296) {cs : List Cell} where
   unfolding form strings itemOf lsb
   writes-array p = record { derives = λ gs e. array (lsb-is n h) (p .derives gs e) refl }
 
-  writes-struct : Writes (Pairs d n) cs → Writes (Struct (suc d)) (cell 10 (length cs) (holding n) ∷ cs)
+  writes-struct : Writes (Pairs d [] n) cs → Writes (Struct (suc d)) (cell 10 (length cs) (holding n) ∷ cs)
   unfolding form strings itemOf lsb
   writes-struct p = record { derives = λ gs e. struct (lsb-is n h) (p .derives gs e) refl }
 
@@ -244,16 +245,16 @@ module _ (row : ℕ → Row) (rows : ℕ) (s : List ℕ) where
   unfolding walk-string
   string-sound = only-sound 11 (content-sound content.Text OneString (λ t h z k. writes-string h k))
 
-  -- an Other's name
-  name-sound : Sound (name row rows s) OneName
-  unfolding name walk-string
-  name-sound =
+  -- a String that keeps a rule: an Other's name, a Struct's key
+  string-by-sound : (rule : List ℕ → Verdict) → Sound (stringBy row rows s rule) (OneBy rule)
+  unfolding stringBy walk-string
+  string-by-sound rule =
       record {
         walked = λ r to e.
             let f = then-by (walk-string row rows s r) _ e in
-            let g = ruled-by (nameRule (textOf s (row r))) _ (f .next) in
+            let g = ruled-by (rule (textOf s (row r))) _ (f .next) in
             let h = only-by 11 (contentItem s content.Text) (f .is ∙ g .1) in
-            content-at content.Text r to (λ l z k. writes-name l k (g .0)) (h .0) (h .1);
+            content-at content.Text r to (λ l z k. writes-string-by rule l k (g .0)) (h .0) (h .1);
       }
 
   -- one after the other
@@ -296,31 +297,40 @@ module _ (row : ℕ → Row) (rows : ℕ) (s : List ℕ) where
       let g = holding-by b (row r) (f (r + 1)) e in
       over-walked k b h i j (g .0) (g .1) (p .walked (r + 1) to) (λ w. make)
 
-  -- n items, one after the other
-  record SoundOn (f : Walk) (n : ℕ) (Q : Production) : Type 0 where
-    walked : (first r to : ℕ) → items (alike f) n first r ≡ Until to → Walked Q r to
+  -- n items, one after the other, behind those whose texts were seen
+  record SoundOn (f : Texts → Walk) (more : Texts → ℕ → Texts) (n : ℕ) (seen : Texts) (Q : Production) : Type 0 where
+    walked : (r to : ℕ) → items f more n seen r ≡ Until to → Walked Q r to
 
-  no-items : {f : Walk} (Q : Production) → Writes Q [] → SoundOn f zero Q
+  no-items : {f : Texts → Walk} {more : Texts → ℕ → Texts} {seen : Texts} (Q : Production) → Writes Q [] → SoundOn f more zero seen Q
   unfolding items
-  no-items Q w = record { walked = λ first r to e. record { cells = []; ends = omega (arith, until-same e); stands = stands-none; writes = λ z. w } }
+  no-items Q w = record { walked = λ r to e. record { cells = []; ends = omega (arith, until-same e); stands = stands-none; writes = λ z. w } }
 
-  more-items : {P Q : Production} (T : Production) {f : Walk} {n : ℕ} → Joins P Q T → Sound f P → SoundOn f n Q → SoundOn f (suc n) T
-  unfolding items alike
-  more-items T {f} {n} make p q =
+  -- what is derived, with the rows where it stands
+  with-rows : {P : Production} {r to : ℕ} → Walked P r to → Walked (λ xs us fs. P xs us fs × Stands row s r us) r to
+  with-rows g = record { cells = g .cells; ends = g .ends; stands = g .stands; writes = λ w. writes-as (λ xs fs x. (x, g .stands)) (g .writes w) }
+
+  -- the first, and the others behind what is kept of it
+  more-items :
+      {P : Production} {Q : Texts → Production} (T : Production) {f : Texts → Walk} {more : Texts → ℕ → Texts} {n : ℕ} {seen : Texts}
+      → ((r : ℕ) → Joins (λ xs us fs. P xs us fs × Stands row s r us) (Q (more seen r)) T) → Sound (f seen) P
+      → ((seen′ : Texts) → SoundOn f more n seen′ (Q seen′)) → SoundOn f more (suc n) seen T
+  unfolding items
+  more-items T {f} {more} {n} {seen} make p q =
       record {
-        walked = λ first r to e.
-            let h = then-by (f r) _ e in
-            joined make (p .walked r (h .middle) (h .is)) (q .walked first (h .middle) to (h .next));
+        walked = λ r to e.
+            let h = then-by (f seen r) _ e in
+            joined (make r) (with-rows (p .walked r (h .middle) (h .is))) (q (more seen r) .walked (h .middle) to (h .next));
       }
 
   counted-sound :
-      (k : ℕ) {f : Walk} (P : ℕ → Production) (Q : Production) → hasNumber k ≡ false → hasContent k ≡ false → ((n : ℕ) → SoundOn f n (P n))
+      (k : ℕ) {f : Texts → Walk} {more : Texts → ℕ → Texts} (P : ℕ → Production) (Q : Production) → hasNumber k ≡ false → hasContent k ≡ false
+      → ((n : ℕ) → SoundOn f more n [] (P n))
       → ((n : ℕ) → n < 4294967296 → (cs : List Cell) → Writes (P n) cs → Writes Q (cell k (length cs) (holding n) ∷ cs))
-      → SoundAt k (walk-counted (alike f)) Q
-  counted-sound k {f} P Q h i run make =
+      → SoundAt k (walk-counted f more) Q
+  counted-sound k P Q h i run make =
       record {
         walked = λ r to j e.
-            over-walked {P = P (row r .b)} {Q = Q} k (row r .b) h i j refl e (λ z. run (row r .b) .walked (r + 1) (r + 1) to z) (λ w. make (row r .b) (w r .1));
+            over-walked {P = P (row r .b)} {Q = Q} k (row r .b) h i j refl e (λ z. run (row r .b) .walked (r + 1) to z) (λ w. make (row r .b) (w r .1));
       }
 
   -- the productions
@@ -332,17 +342,36 @@ module _ (row : ℕ → Row) (rows : ℕ) (s : List ℕ) where
   other-sound d =
       record {
         walked = λ r to j e.
-            held-walked {P = OtherBody} {Q = Value d} 12 2 refl refl j (pair-sound OtherBody other-join name-sound (only-sound 8 binary-sound)) (λ cs w. writes-other w) e;
+            held-walked {P = OtherBody} {Q = Value d} 12 2 refl refl j (pair-sound OtherBody other-join (string-by-sound nameRule) (only-sound 8 binary-sound)) (λ cs w. writes-other w) e;
       }
 
-  values-sound : (d : ℕ) → Sound (value row rows s d) (Value d) → (n : ℕ) → SoundOn (value row rows s d) n (Values d n)
-  values-sound d sound zero = no-items (Values d zero) writes-values
-  values-sound d sound (suc n) = more-items (Values d (suc n)) (λ xs ys us vs fs gs x y. more-values x y refl refl refl) sound (values-sound d sound n)
+  alike-sound : (d : ℕ) → Sound (value row rows s d) (Value d) → (seen : Texts) → Sound (alike (value row rows s d) seen) (Value d)
+  unfolding alike
+  alike-sound d sound seen = sound
 
-  pairs-sound : (d : ℕ) → Sound (value row rows s d) (Value d) → (n : ℕ) → SoundOn (walk-pair (walk-string row rows s) (value row rows s d)) n (Pairs d n)
-  pairs-sound d sound zero = no-items (Pairs d zero) writes-pairs
-  pairs-sound d sound (suc n) =
-      more-items (Pairs d (suc n)) (λ xs ys us vs fs gs x y. more-pairs x y refl refl refl) (pair-sound (Pair d) pair-join string-sound sound)
+  values-sound : (d : ℕ) → Sound (value row rows s d) (Value d) → (n : ℕ) (seen : Texts) → SoundOn (alike (value row rows s d)) nothing n seen (Values d n)
+  values-sound d sound zero seen = no-items (Values d zero) writes-values
+  values-sound d sound (suc n) seen =
+      more-items {Q = λ seen′. Values d n} (Values d (suc n)) (λ r xs ys us vs fs gs x y. more-values (x .0) y refl refl refl) (alike-sound d sound seen)
+      (values-sound d sound n)
+
+  -- the key of a pair is the text of its first row
+  more-pairs-by :
+      {d n r : ℕ} {seen : Texts} {xs ys : List ℕ} {us vs : List Cell} {fs gs : List Sent} → Member d seen xs us fs → Stands row s r us
+      → Pairs d (keeping row rows s seen r) n ys vs gs → Pairs d seen (suc n) (xs ++ ys) (us ++ vs) (fs ++ gs)
+  unfolding keeping
+  more-pairs-by (a-member (pair x v e) k) (stands-more (means h f (says-contents i j l)) t) y = more-pairs (pair x v e) k (rw l at y) refl refl refl
+
+  member-sound : (d : ℕ) → Sound (value row rows s d) (Value d) → (seen : Texts) → Sound (member row rows s (value row rows s d) seen) (Member d seen)
+  unfolding member
+  member-sound d sound seen = pair-sound (Member d seen) member-join (string-by-sound (keyRule seen)) sound
+
+  pairs-sound :
+      (d : ℕ) → Sound (value row rows s d) (Value d) → (n : ℕ) (seen : Texts)
+      → SoundOn (member row rows s (value row rows s d)) (keeping row rows s) n seen (Pairs d seen n)
+  pairs-sound d sound zero seen = no-items (Pairs d seen zero) writes-pairs
+  pairs-sound d sound (suc n) seen =
+      more-items {Q = λ seen′. Pairs d seen′ n} (Pairs d seen (suc n)) (λ r xs ys us vs fs gs x y. more-pairs-by (x .0) (x .1) y) (member-sound d sound seen)
       (pairs-sound d sound n)
 
   -- nothing nests at the floor
@@ -354,11 +383,11 @@ module _ (row : ℕ → Row) (rows : ℕ) (s : List ℕ) where
 
   array-under : (d : ℕ) → Sound (value row rows s d) (Value d) → SoundAt 9 (arrayItem (under (value row rows s d))) (Array (suc d))
   unfolding hasNumber hasContent
-  array-under d sound = counted-sound 9 (Values d) (Array (suc d)) refl refl (values-sound d sound) (λ n h cs w. writes-array h w)
+  array-under d sound = counted-sound 9 (Values d) (Array (suc d)) refl refl (λ n. values-sound d sound n []) (λ n h cs w. writes-array h w)
 
   struct-under : (d : ℕ) → Sound (value row rows s d) (Value d) → SoundAt 10 (structItem row rows s (under (value row rows s d))) (Struct (suc d))
   unfolding hasNumber hasContent
-  struct-under d sound = counted-sound 10 (Pairs d) (Struct (suc d)) refl refl (pairs-sound d sound) (λ n h cs w. writes-struct h w)
+  struct-under d sound = counted-sound 10 (Pairs d []) (Struct (suc d)) refl refl (λ n. pairs-sound d sound n []) (λ n h cs w. writes-struct h w)
 
   as-value : {P Q : Production} {r to : ℕ} → ((xs : List ℕ) (cs : List Cell) (fs : List Sent) → P xs cs fs → Q xs cs fs) → Walked P r to → Walked Q r to
   as-value make g = record { cells = g .cells; ends = g .ends; stands = g .stands; writes = λ w. writes-as (λ xs fs x. make xs (g .cells) fs x) (g .writes w) }

@@ -64,6 +64,8 @@ pub mod number {
     pub const NO_MEMBER: u8 = 18;
     /// A Double of more than 15 digits, or of more than 22 after the point.
     pub const TOO_MANY_DIGITS: u8 = 19;
+    /// A key that its Struct has already, compared as bytes.
+    pub const REPEATED_KEY: u8 = 20;
     /// A sound job ends before the card asked for.
     pub const NO_CARD: u8 = 26;
     /// A message in pieces: no answer yet.

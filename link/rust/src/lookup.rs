@@ -57,7 +57,7 @@ unsafe extern "C" {
     ) -> u8;
 }
 
-/// Looks up the first member with a key in the Struct of a row, in any table
+/// Looks up the member with a key in the Struct of a row, in any table
 /// with a stated number of rows, whose contents lie in `text`.
 pub fn lookup(table: &[u32], rows: usize, text: &[u8], row: usize, key: &[u8]) -> Lookup {
     let (mut sort, mut whole, mut decimal) = (u8::MAX, i64::MIN, f64::NAN);

@@ -1,7 +1,10 @@
 use borrow.Author.Needs.{needs}
+use mathlib.Core.Path.{_≡_, refl}
+use lib.ListN.{length}
 use Rattle.draft.specs.Table.{rowAt}
-use Rattle.draft.specs.Writable.{pair, alike, string, value}
-use Rattle.containers.proofs.Turns.{Turn}
+use Rattle.draft.specs.Writable.{value}
+use Rattle.keys.specs.Notes.{named}
+use Rattle.containers.proofs.Keys.{walked, Reaching, reaching-first, Pairing, pairing-first}
 use Rattle.containers.proofs.Nesting.{nesting}
 use Prim.Native.Nat.{ℕ, _<_, _+_, _*_}
 use borrow.Fn.Kinds.{In}
@@ -30,7 +33,7 @@ use Rattle.extents.proofs.walk_boolean.Reads as walk-boolean-reads
 use Rattle.extents.proofs.walk_content.Reads as walk-content-reads
 use Rattle.extents.proofs.walk_integer.Reads as walk-integer-reads
 use Rattle.containers.proofs.walk_other.Reads as walk-other-reads
-use Rattle.extents.proofs.walk_string.Reads as walk-string-reads
+use Rattle.key_rows.proofs.walk_key.Reads as walk-key-reads
 use Rattle.table.proofs.get_row.Reads as get-row-reads
 use Rattle.containers.proofs.+walk_array+walk_pair+walk_pairs+walk_struct+walk_value+walk_values.{
   statement,
@@ -39,76 +42,76 @@ use Rattle.containers.proofs.+walk_array+walk_pair+walk_pairs+walk_stru
   close,
 }
 
-abbrev μ-walk-array : Measures 2 walk-array-kinds.ps ℕ
+abbrev μ-walk-array : Measures 3 walk-array-kinds.ps ℕ
 μ-walk-array κs a = 4 * a .1 .1 .1 .1 .0 + 0
 
-abbrev μ-walk-pair : Measures 2 walk-pair-kinds.ps ℕ
+abbrev μ-walk-pair : Measures 3 walk-pair-kinds.ps ℕ
 μ-walk-pair κs a = 4 * a .1 .1 .1 .1 .0 + 2
 
-abbrev μ-walk-pairs : Measures 2 walk-pairs-kinds.ps ℕ
+abbrev μ-walk-pairs : Measures 3 walk-pairs-kinds.ps ℕ
 μ-walk-pairs κs a = 4 * a .1 .1 .1 .1 .0 + 3
 
-abbrev μ-walk-struct : Measures 2 walk-struct-kinds.ps ℕ
+abbrev μ-walk-struct : Measures 3 walk-struct-kinds.ps ℕ
 μ-walk-struct κs a = 4 * a .1 .1 .1 .1 .0 + 0
 
-abbrev μ-walk-value : Measures 2 walk-value-kinds.ps ℕ
+abbrev μ-walk-value : Measures 3 walk-value-kinds.ps ℕ
 μ-walk-value κs a = 4 * a .1 .1 .1 .1 .0 + 1
 
-abbrev μ-walk-values : Measures 2 walk-values-kinds.ps ℕ
+abbrev μ-walk-values : Measures 3 walk-values-kinds.ps ℕ
 μ-walk-values κs a = 4 * a .1 .1 .1 .1 .0 + 2
 
-abbrev walk-array-at : ℕ → In 2 walk-array-kinds.ps
+abbrev walk-array-at : ℕ → In 3 walk-array-kinds.ps
 walk-array-at t =
-    and 2 walk-array-kinds.ps (is 2 walk-array-kinds.ps μ-walk-array t) walk-array.Pre
+    and 3 walk-array-kinds.ps (is 3 walk-array-kinds.ps μ-walk-array t) walk-array.Pre
 
-abbrev walk-array-below : ℕ → In 2 walk-array-kinds.ps
+abbrev walk-array-below : ℕ → In 3 walk-array-kinds.ps
 walk-array-below t =
-    and 2 walk-array-kinds.ps (falls 2 walk-array-kinds.ps _<_ μ-walk-array t) walk-array.Pre
+    and 3 walk-array-kinds.ps (falls 3 walk-array-kinds.ps _<_ μ-walk-array t) walk-array.Pre
 
-abbrev walk-pair-at : ℕ → In 2 walk-pair-kinds.ps
-walk-pair-at t = and 2 walk-pair-kinds.ps (is 2 walk-pair-kinds.ps μ-walk-pair t) walk-pair.Pre
+abbrev walk-pair-at : ℕ → In 3 walk-pair-kinds.ps
+walk-pair-at t = and 3 walk-pair-kinds.ps (is 3 walk-pair-kinds.ps μ-walk-pair t) walk-pair.Pre
 
-abbrev walk-pair-below : ℕ → In 2 walk-pair-kinds.ps
+abbrev walk-pair-below : ℕ → In 3 walk-pair-kinds.ps
 walk-pair-below t =
-    and 2 walk-pair-kinds.ps (falls 2 walk-pair-kinds.ps _<_ μ-walk-pair t) walk-pair.Pre
+    and 3 walk-pair-kinds.ps (falls 3 walk-pair-kinds.ps _<_ μ-walk-pair t) walk-pair.Pre
 
-abbrev walk-pairs-at : ℕ → In 2 walk-pairs-kinds.ps
+abbrev walk-pairs-at : ℕ → In 3 walk-pairs-kinds.ps
 walk-pairs-at t =
-    and 2 walk-pairs-kinds.ps (is 2 walk-pairs-kinds.ps μ-walk-pairs t) walk-pairs.Pre
+    and 3 walk-pairs-kinds.ps (is 3 walk-pairs-kinds.ps μ-walk-pairs t) walk-pairs.Pre
 
-abbrev walk-pairs-below : ℕ → In 2 walk-pairs-kinds.ps
+abbrev walk-pairs-below : ℕ → In 3 walk-pairs-kinds.ps
 walk-pairs-below t =
-    and 2 walk-pairs-kinds.ps (falls 2 walk-pairs-kinds.ps _<_ μ-walk-pairs t) walk-pairs.Pre
+    and 3 walk-pairs-kinds.ps (falls 3 walk-pairs-kinds.ps _<_ μ-walk-pairs t) walk-pairs.Pre
 
-abbrev walk-struct-at : ℕ → In 2 walk-struct-kinds.ps
+abbrev walk-struct-at : ℕ → In 3 walk-struct-kinds.ps
 walk-struct-at t =
-    and 2 walk-struct-kinds.ps (is 2 walk-struct-kinds.ps μ-walk-struct t) walk-struct.Pre
+    and 3 walk-struct-kinds.ps (is 3 walk-struct-kinds.ps μ-walk-struct t) walk-struct.Pre
 
-abbrev walk-struct-below : ℕ → In 2 walk-struct-kinds.ps
+abbrev walk-struct-below : ℕ → In 3 walk-struct-kinds.ps
 walk-struct-below t =
-    and 2 walk-struct-kinds.ps (falls 2 walk-struct-kinds.ps _<_ μ-walk-struct t) walk-struct.Pre
+    and 3 walk-struct-kinds.ps (falls 3 walk-struct-kinds.ps _<_ μ-walk-struct t) walk-struct.Pre
 
-abbrev walk-value-at : ℕ → In 2 walk-value-kinds.ps
+abbrev walk-value-at : ℕ → In 3 walk-value-kinds.ps
 walk-value-at t =
-    and 2 walk-value-kinds.ps (is 2 walk-value-kinds.ps μ-walk-value t) walk-value.Pre
+    and 3 walk-value-kinds.ps (is 3 walk-value-kinds.ps μ-walk-value t) walk-value.Pre
 
-abbrev walk-value-below : ℕ → In 2 walk-value-kinds.ps
+abbrev walk-value-below : ℕ → In 3 walk-value-kinds.ps
 walk-value-below t =
-    and 2 walk-value-kinds.ps (falls 2 walk-value-kinds.ps _<_ μ-walk-value t) walk-value.Pre
+    and 3 walk-value-kinds.ps (falls 3 walk-value-kinds.ps _<_ μ-walk-value t) walk-value.Pre
 
-abbrev walk-values-at : ℕ → In 2 walk-values-kinds.ps
+abbrev walk-values-at : ℕ → In 3 walk-values-kinds.ps
 walk-values-at t =
-    and 2 walk-values-kinds.ps (is 2 walk-values-kinds.ps μ-walk-values t) walk-values.Pre
+    and 3 walk-values-kinds.ps (is 3 walk-values-kinds.ps μ-walk-values t) walk-values.Pre
 
-abbrev walk-values-below : ℕ → In 2 walk-values-kinds.ps
+abbrev walk-values-below : ℕ → In 3 walk-values-kinds.ps
 walk-values-below t =
-    and 2 walk-values-kinds.ps (falls 2 walk-values-kinds.ps _<_ μ-walk-values t) walk-values.Pre
+    and 3 walk-values-kinds.ps (falls 3 walk-values-kinds.ps _<_ μ-walk-values t) walk-values.Pre
 
 abbrev walk-array-calls : ℕ → walk-array-lts.Claims
 walk-array-calls t = (walk-values-below t, walk-values.Post, close-over-reads.Asked, close-over-reads.Learnt)
 
 abbrev walk-pair-calls : ℕ → walk-pair-lts.Claims
-walk-pair-calls t = (walk-string-reads.Asked, walk-string-reads.Learnt, walk-value-below t, walk-value.Post)
+walk-pair-calls t = (walk-key-reads.Asked, walk-key-reads.Learnt, walk-value-below t, walk-value.Post)
 
 abbrev walk-pairs-calls : ℕ → walk-pairs-lts.Claims
 walk-pairs-calls t = (walk-pair-below t, walk-pair.Post)
@@ -123,18 +126,18 @@ abbrev walk-values-calls : ℕ → walk-values-lts.Claims
 walk-values-calls t = (walk-value-below t, walk-value.Post)
 
 abbrev walk-pairs-Inv-loop : walk-pairs-lts.InvT-loop
-walk-pairs-Inv-loop table room rows text deep n first left₀ here₀ left here =
-    Turn (alike (pair (string (rowAt room table) rows text) (value (rowAt room table) rows text deep))) n first left here
+walk-pairs-Inv-loop table room rows text deep n first notes₀ left₀ here₀ notes left here =
+    Pairing text room rows table (value (rowAt room table) rows text deep) n first notes₀ left here notes × (length notes ≡ length notes₀)
 
 abbrev walk-pairs-μ-loop : walk-pairs-lts.MeasureT-loop
-walk-pairs-μ-loop table room rows text deep n first left₀ here₀ left here = left
+walk-pairs-μ-loop table room rows text deep n first notes₀ left₀ here₀ notes left here = left
 
 abbrev walk-values-Inv-loop : walk-values-lts.InvT-loop
-walk-values-Inv-loop table room rows text deep n first left₀ here₀ left here =
-    Turn (alike (value (rowAt room table) rows text deep)) n first left here
+walk-values-Inv-loop table room rows text deep n first notes₀ left₀ here₀ notes left here =
+    Reaching (named text room table) (value (rowAt room table) rows text deep) n first notes₀ left here notes × (length notes ≡ length notes₀)
 
 abbrev walk-values-μ-loop : walk-values-lts.MeasureT-loop
-walk-values-μ-loop table room rows text deep n first left₀ here₀ left here = left
+walk-values-μ-loop table room rows text deep n first notes₀ left₀ here₀ notes left here = left
 
 pub +walk-array+walk-pair+walk-pairs+walk-struct+walk-value+walk-values-spec :
     {M : Type 1} → statement M
@@ -149,51 +152,57 @@ pub +walk-array+walk-pair+walk-pairs+walk-struct+walk-value+walk-values-spec :
     (λ t. walk-array-lts.spec (walk-array-calls t)
     (walk-array-at t)
     walk-array.Post
-    (λ c. search nesting)  -- walk-array-returns
+    (λ c. (search nesting, search walked))  -- walk-array-returns
     (λ c. search needs)  -- walk-array-cast-n
     (λ c. search needs)  -- walk-array-sub-walk-values
     (λ c. search needs)  -- walk-array-add-walk-values
-    (λ c κs. search needs)  -- walk-array-walk-values-requires
+    (λ c κs. (search needs, (search needs, search needs, search walked)))  -- walk-array-walk-values-requires
     (λ c κs. search needs)  -- walk-array-close-over-requires
-    (λ c. search nesting))  -- walk-array-returns-2
+    (λ c. search needs)  -- walk-array-same-length
+    (λ c. (search nesting, search walked)))  -- walk-array-returns-2
     (λ t. walk-pair-lts.spec (walk-pair-calls t)
     (walk-pair-at t)
     walk-pair.Post
-    (λ c κs. search needs)  -- walk-pair-walk-string-requires
+    (λ c κs. search needs)  -- walk-pair-walk-key-requires
     (λ c. search needs)  -- walk-pair-enum-told
     (λ c. search needs)  -- walk-pair-enum-known-extent
-    (λ c κs. search needs)  -- walk-pair-walk-value-requires
-    (λ c. search nesting)  -- walk-pair-returns
-    (λ c. search nesting))  -- walk-pair-returns-2
+    (λ c κs. (search needs, (search needs, search needs, search walked)))  -- walk-pair-walk-value-requires
+    (λ c. search needs)  -- walk-pair-same-length
+    (λ c. (search walked, search walked))  -- walk-pair-returns
+    (λ c. search needs)  -- walk-pair-same-length-2
+    (λ c. (search walked, search walked)))  -- walk-pair-returns-2
     (λ t. walk-pairs-lts.spec
     (walk-pairs-calls t)
     (walk-pairs-at t)
     walk-pairs.Post
     walk-pairs-Inv-loop
     walk-pairs-μ-loop
-    (λ c. search needs)  -- walk-pairs-loop-holds
-    (λ c κs. search needs)  -- walk-pairs-walk-pair-requires
+    (λ c. (pairing-first (search needs), refl))  -- walk-pairs-loop-holds
+    (λ c κs. (search needs, (search needs, search walked, search needs, search needs, search walked)))  -- walk-pairs-walk-pair-requires
     (λ c. search needs)  -- walk-pairs-enum-told
-    (λ c. search nesting)  -- walk-pairs-returns
+    (λ c. search needs)  -- walk-pairs-same-length
+    (λ c. (search walked, search walked))  -- walk-pairs-returns
     (λ c. search needs)  -- walk-pairs-enum-known-extent
     (λ c. search needs)  -- walk-pairs-sub-left
     (λ c. search needs)  -- walk-pairs-loop-less
-    (λ c. search nesting)  -- walk-pairs-loop-again
-    (λ c. search nesting))  -- walk-pairs-returns-2
+    (λ c. (search walked, search needs))  -- walk-pairs-loop-again
+    (λ c. search needs)  -- walk-pairs-same-length-2
+    (λ c. (search walked, search walked)))  -- walk-pairs-returns-2
     (λ t. walk-struct-lts.spec (walk-struct-calls t)
     (walk-struct-at t)
     walk-struct.Post
-    (λ c. search nesting)  -- walk-struct-returns
+    (λ c. (search nesting, search walked))  -- walk-struct-returns
     (λ c. search needs)  -- walk-struct-cast-n
     (λ c. search needs)  -- walk-struct-sub-walk-pairs
     (λ c. search needs)  -- walk-struct-add-walk-pairs
-    (λ c κs. search needs)  -- walk-struct-walk-pairs-requires
+    (λ c κs. (search needs, (search needs, search needs, search needs, search walked)))  -- walk-struct-walk-pairs-requires
     (λ c κs. search needs)  -- walk-struct-close-over-requires
-    (λ c. search nesting))  -- walk-struct-returns-2
+    (λ c. search needs)  -- walk-struct-same-length
+    (λ c. (search nesting, search walked)))  -- walk-struct-returns-2
     (λ t. walk-value-lts.spec (walk-value-calls t)
     (walk-value-at t)
     walk-value.Post
-    (λ c. search nesting)  -- walk-value-returns
+    (λ c. (search nesting, search walked))  -- walk-value-returns
     (λ c κs. search needs)  -- walk-value-get-row-requires
     (λ c κs. search needs)  -- walk-value-item-of-requires
     (λ c. search needs)  -- walk-value-enum-told
@@ -203,37 +212,41 @@ pub +walk-array+walk-pair+walk-pairs+walk-struct+walk-value+walk-values-spec :
     (λ c. search needs)  -- walk-value-enum-known-item
     (λ c κs. search needs)  -- walk-value-walk-content-requires
     (λ c. search needs)  -- walk-value-enum-told-3
-    (λ c κs. search needs)  -- walk-value-walk-array-requires
+    (λ c κs. (search needs, (search needs, search needs, search needs, search needs)))  -- walk-value-walk-array-requires
     (λ c. search needs)  -- walk-value-enum-told-4
-    (λ c κs. search needs)  -- walk-value-walk-struct-requires
+    (λ c κs. (search needs, (search needs, search needs, search needs, search needs)))  -- walk-value-walk-struct-requires
     (λ c. search needs)  -- walk-value-enum-told-5
     (λ c κs. search needs)  -- walk-value-walk-other-requires
     (λ c. search needs)  -- walk-value-enum-told-6
     (λ c. search needs)  -- walk-value-enum-told-7
     (λ c. search needs)  -- walk-value-enum-told-8
     (λ c. search needs)  -- walk-value-enum-told-9
-    (λ c. search nesting)  -- walk-value-returns-2
-    (λ c. search nesting)  -- walk-value-returns-3
-    (λ c. search nesting)  -- walk-value-returns-4
-    (λ c. search nesting)  -- walk-value-returns-5
-    (λ c. search nesting)  -- walk-value-returns-6
-    (λ c. search nesting)  -- walk-value-returns-7
-    (λ c. search nesting)  -- walk-value-returns-8
-    (λ c. search nesting)  -- walk-value-returns-9
-    (λ c. search nesting)  -- walk-value-returns-10
-    (λ c. search nesting))  -- walk-value-returns-11
+    (λ c. (search nesting, search walked))  -- walk-value-returns-2
+    (λ c. (search nesting, search walked))  -- walk-value-returns-3
+    (λ c. (search nesting, search walked))  -- walk-value-returns-4
+    (λ c. search needs)  -- walk-value-same-length-5
+    (λ c. (search nesting, search needs))  -- walk-value-returns-5
+    (λ c. search needs)  -- walk-value-same-length-6
+    (λ c. (search nesting, search needs))  -- walk-value-returns-6
+    (λ c. (search nesting, search walked))  -- walk-value-returns-7
+    (λ c. (search nesting, search walked))  -- walk-value-returns-8
+    (λ c. (search nesting, search walked))  -- walk-value-returns-9
+    (λ c. (search nesting, search walked))  -- walk-value-returns-10
+    (λ c. (search nesting, search walked)))  -- walk-value-returns-11
     λ t. walk-values-lts.spec
     (walk-values-calls t)
     (walk-values-at t)
     walk-values.Post
     walk-values-Inv-loop
     walk-values-μ-loop
-    (λ c. search needs)  -- walk-values-loop-holds
-    (λ c κs. search needs)  -- walk-values-walk-value-requires
+    (λ c. (reaching-first (search needs), refl))  -- walk-values-loop-holds
+    (λ c κs. (search needs, (search needs, search needs, search walked)))  -- walk-values-walk-value-requires
     (λ c. search needs)  -- walk-values-enum-told
-    (λ c. search nesting)  -- walk-values-returns
+    (λ c. search needs)  -- walk-values-same-length
+    (λ c. (search walked, search walked))  -- walk-values-returns
     (λ c. search needs)  -- walk-values-enum-known-extent
     (λ c. search needs)  -- walk-values-sub-left
     (λ c. search needs)  -- walk-values-loop-less
-    (λ c. search nesting)  -- walk-values-loop-again
-    (λ c. search nesting)  -- walk-values-returns-2
+    (λ c. (search walked, search needs))  -- walk-values-loop-again
+    (λ c. search needs)  -- walk-values-same-length-2
+    (λ c. (search walked, search walked))  -- walk-values-returns-2

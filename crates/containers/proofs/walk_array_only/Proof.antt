@@ -8,5 +8,6 @@ walk-array-only-spec = tie.close (tie.spec
     (λ c. search nesting)  -- returns
     (λ c κs. search needs)  -- get-row-requires
     (λ c κs. search needs)  -- walk-array-requires
+    (λ c. search needs)  -- same-length
     (λ c. search nesting)  -- returns-2
     (λ c. search nesting))  -- returns-3

@@ -8,5 +8,6 @@ walk-struct-only-spec = tie.close (tie.spec
     (λ c. search nesting)  -- returns
     (λ c κs. search needs)  -- get-row-requires
     (λ c κs. search needs)  -- walk-struct-requires
+    (λ c. search needs)  -- same-length
     (λ c. search nesting)  -- returns-2
     (λ c. search nesting))  -- returns-3

@@ -17,4 +17,5 @@ refusal-of-spec = tie.close (tie.spec
     (λ c. search refusals)  -- returns-11
     (λ c. search refusals)  -- returns-12
     (λ c. search refusals)  -- returns-13
-    (λ c. search refusals))  -- returns-14
+    (λ c. search refusals)  -- returns-14
+    (λ c. search refusals))  -- returns-15

@@ -7,7 +7,7 @@ pub read-body-spec : {M : Type 1} → statement M
 read-body-spec = tie.close (tie.spec
     (λ c κs. search needs)  -- room-of-requires
     (λ c. search needs)  -- slice-aggregate-book
-    (λ c κs. search needs)  -- read-call-or-response-requires
+    (λ c κs. search needs)  -- read-first-requires
     (λ c κs. search needs)  -- clear-requires
     (λ c κs. search needs)  -- refusal-of-requires
     (λ c. search needs)  -- same-length

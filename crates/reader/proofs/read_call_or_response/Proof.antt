@@ -11,11 +11,13 @@ read-call-or-response-spec = tie.close (tie.spec
     (λ c κs. search needs)  -- read-call-requires
     (λ c. search needs)  -- same-length
     (λ c. search needs)  -- same-length-2
+    (λ c. search needs)  -- same-length-2b
     (λ c. search messages)  -- returns-2
     (λ c. search needs)  -- shared-slice-read-if3
     (λ c κs. search needs)  -- read-response-requires
     (λ c. search needs)  -- same-length-3
     (λ c. search needs)  -- same-length-4
+    (λ c. search needs)  -- same-length-4b
     (λ c. search messages)  -- returns-3
     (λ c κs. search needs)  -- refuse-requires-2
     (λ c. search messages))  -- returns-4

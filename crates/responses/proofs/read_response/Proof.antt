@@ -13,14 +13,16 @@ read-response-spec = tie.close (tie.spec
     (λ c. search needs)  -- shared-slice-read-if3
     (λ c. search needs)  -- add-read-fault-struct
     (λ c. search needs)  -- add-read-fault-struct-2
-    (λ c κs. search needs)  -- read-fault-struct-requires
+    (λ c κs. (search needs, search needs, search needs))  -- read-fault-struct-requires
     (λ c κs. (search responding, search needs, search needs, search needs))  -- close-requires
     (λ c. search needs)  -- add-read-value
-    (λ c κs. search needs)  -- read-value-requires
+    (λ c κs. (search needs, search needs, search responding))  -- read-value-requires
     (λ c κs. (search responding, search needs, search needs, search needs))  -- close-requires-2
     (λ c. search needs)  -- same-length
     (λ c. search needs)  -- same-length-2
+    (λ c. search needs)  -- same-length-2b
     (λ c. search responding)  -- returns-3
     (λ c. search needs)  -- same-length-3
     (λ c. search needs)  -- same-length-4
+    (λ c. search needs)  -- same-length-4b
     (λ c. search responding))  -- returns-4

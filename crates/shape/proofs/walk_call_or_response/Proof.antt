@@ -14,11 +14,11 @@ walk-call-or-response-spec = tie.close (tie.spec
     (λ c κs. search needs)  -- close-holding-requires
     (λ c. search needs)  -- enum-told-2
     (λ c. search needs)  -- add-walk-value
-    (λ c κs. search needs)  -- walk-value-requires
+    (λ c κs. (search needs, search needs, search calling))  -- walk-value-requires
     (λ c κs. search needs)  -- close-holding-requires-2
     (λ c. search needs)  -- enum-told-3
-    (λ c. search needs)  -- add-walk-struct-only
-    (λ c κs. search needs)  -- walk-struct-only-requires
+    (λ c. search needs)  -- add-walk-fault-struct
+    (λ c κs. search needs)  -- walk-fault-struct-requires
     (λ c κs. search needs)  -- close-holding-requires-3
     (λ c. search needs)  -- enum-told-4
     (λ c. search needs)  -- enum-told-5
@@ -27,8 +27,11 @@ walk-call-or-response-spec = tie.close (tie.spec
     (λ c. search needs)  -- enum-told-8
     (λ c. search needs)  -- enum-told-9
     (λ c. search needs)  -- enum-told-10
+    (λ c. search needs)  -- same-length-2
     (λ c. search calling)  -- returns-2
+    (λ c. search needs)  -- same-length-3
     (λ c. search calling)  -- returns-3
+    (λ c. search needs)  -- same-length-4
     (λ c. search calling)  -- returns-4
     (λ c. search calling)  -- returns-5
     (λ c. search calling)  -- returns-6

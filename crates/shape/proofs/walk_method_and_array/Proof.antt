@@ -8,6 +8,7 @@ walk-method-and-array-spec = tie.close (tie.spec
     (λ c κs. search needs)  -- walk-string-requires
     (λ c. search needs)  -- enum-told
     (λ c. search needs)  -- enum-known-extent
-    (λ c κs. search needs)  -- walk-array-only-requires
+    (λ c κs. (search needs, search needs, search calling))  -- walk-array-only-requires
     (λ c. search calling)  -- returns
+    (λ c. search needs)  -- same-length
     (λ c. search calling))  -- returns-2

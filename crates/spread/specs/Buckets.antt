@@ -1,0 +1,32 @@
+-- A text's bucket, of so many: its bytes, four at a time, and then a salt are mixed into a number below 2^32, which is scaled. Bytes that
+-- are not there count as 0. Assumes nothing.
+use Prim.Native.Nat.{ℕ, zero, suc, _+_, _-_, _*_, _/_, _%_, min}
+use mathlib.Core.Bool.{cond}
+use mathlib.Core.List.{List}
+use lib.ListN.{length}
+use lib.Dec.{leb}
+use Rattle.draft.specs.Bytes.{unsignedAt}
+
+unfoldable pub mixed : ℕ → ℕ → ℕ
+mixed h w = (h + w) * 1540483477 % 4294967296
+
+-- the first n fours
+unfoldable pub fours : List ℕ → ℕ → ℕ
+fours t zero = 0
+fours t (suc n) = mixed (fours t n) (unsignedAt t (n * 4))
+
+-- the fours within the first 64 bytes, and the last four bytes
+unfoldable pub long : List ℕ → ℕ
+long t = mixed (fours t (min (length t / 4) 16)) (unsignedAt t (length t - 4))
+
+-- five fours that lie evenly in the text, with no loop, m bytes from the first to the last: of 4 to 20 bytes each is in one of them
+unfoldable pub five : List ℕ → ℕ → ℕ
+five t m =
+    mixed (mixed (mixed (mixed (unsignedAt t 0) (unsignedAt t (m / 4))) (unsignedAt t (m / 2))) (unsignedAt t (m * 3 / 4))) (unsignedAt t m)
+
+unfoldable pub mixedOf : List ℕ → ℕ
+mixedOf t = cond (leb 4 (length t)) (cond (leb (length t) 20) (five t (length t - 4)) (long t)) (long t)
+
+-- so that equal texts go to different buckets where the salts differ
+unfoldable pub bucketOf : ℕ → ℕ → List ℕ → ℕ
+bucketOf buckets salt t = mixed (mixedOf t) salt * buckets / 4294967296

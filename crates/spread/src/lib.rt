@@ -1,0 +1,108 @@
+// A text's bucket: a number by which texts are spread, so that one is compared with few others.
+ghost use mathlib.Core.Path.{_≡_};
+ghost use Prim.Native.Nat.{_+_, _*_, _-_, _≤_, _<_, _/_, min};
+ghost use lib.ListN.{length};
+ghost use Rattle.draft.specs.Bytes.{unsignedAt, byteAt};
+ghost use Rattle.spread.specs.Buckets.{mixed, fours, long, five, mixedOf, bucketOf};
+
+// A byte as a number: the caller has no fit of the element to show.
+fn byte(x: u8) -> usize
+    ensures { λ r. ⌜ (r ≡ x) × (r < 256) ⌝ }
+{
+    x as usize
+}
+
+// The number of the four bytes at i, the lowest first.
+fn four(t: &[u8], i: usize) -> usize
+    requires { ⌜ i + 4 ≤ length (now t) ⌝ }
+    ensures { λ r. ⌜ (r ≡ unsignedAt (now (t .entry)) i) × (r < 4294967296) ⌝ }
+{
+    byte(t[i]) + byte(t[i + 1]) * 256 + byte(t[i + 2]) * 65536 + byte(t[i + 3]) * 16777216
+}
+
+// The byte at i, or 0.
+fn byte_or_none(t: &[u8], i: usize) -> usize
+    ensures { λ r. ⌜ (r ≡ byteAt (now (t .entry)) i) × (r < 256) ⌝ }
+{
+    if i < t.len() {
+        return byte(t[i]);
+    }
+    0
+}
+
+// The last four bytes, or as many as there are.
+fn last_four(t: &[u8]) -> usize
+    ensures { λ r. ⌜ (r ≡ unsignedAt (now (t .entry)) (length (now (t .entry)) - 4)) × (r < 4294967296) ⌝ }
+{
+    if 4 <= t.len() {
+        return four(t, t.len() - 4);
+    }
+    byte_or_none(t, 0) + byte_or_none(t, 1) * 256 + byte_or_none(t, 2) * 65536
+}
+
+fn mix(h: usize, w: usize) -> usize
+    requires { ⌜ (h < 4294967296) × (w < 4294967296) ⌝ }
+    ensures { λ r. ⌜ (r ≡ mixed h w) × (r < 4294967296) ⌝ }
+{
+    (h + w) * 1540483477 % 4294967296
+}
+
+// The first n fours.
+fn mix_fours(t: &[u8], n: usize) -> usize
+    requires { ⌜ (n * 4 ≤ length (now t)) × (n ≤ 16) ⌝ }
+    ensures { λ r. ⌜ (r ≡ fours (now (t .entry)) n) × (r < 4294967296) ⌝ }
+{
+    let mut h = 0;
+    let mut i = 0;
+    while i < n {
+        h = mix(h, four(t, i * 4));
+        i += 1;
+    }
+    h
+}
+
+fn few(n: usize) -> usize
+    ensures { λ r. ⌜ (r ≡ min (n / 4) 16) × (r * 4 ≤ n) × (r ≤ 16) ⌝ }
+{
+    let q = n / 4;
+    if q < 16 { q } else { 16 }
+}
+
+// A text of other lengths: the fours within its first 64 bytes, and its last.
+fn mix_long(t: &[u8]) -> usize
+    ensures { λ r. ⌜ (r ≡ long (now (t .entry))) × (r < 4294967296) ⌝ }
+{
+    mix(mix_fours(t, few(t.len())), last_four(t))
+}
+
+// A text of 4 to 20 bytes, with no loop, since a length that varies makes a loop's end hard to foresee.
+fn mix_five(t: &[u8]) -> usize
+    requires { ⌜ (4 ≤ length (now t)) × (length (now t) ≤ 20) ⌝ }
+    ensures { λ r. ⌜ (r ≡ five (now (t .entry)) (length (now (t .entry)) - 4)) × (r < 4294967296) ⌝ }
+{
+    let m = t.len() - 4;
+    let two = mix(four(t, 0), four(t, m / 4));
+    let three = mix(two, four(t, m / 2));
+    let more = mix(three, four(t, m * 3 / 4));
+    mix(more, four(t, m))
+}
+
+fn mix_text(t: &[u8]) -> usize
+    ensures { λ r. ⌜ (r ≡ mixedOf (now (t .entry))) × (r < 4294967296) ⌝ }
+{
+    if 4 <= t.len() {
+        if t.len() <= 20 {
+            return mix_five(t);
+        }
+        return mix_long(t);
+    }
+    mix_long(t)
+}
+
+// The bucket of a text, of so many.
+pub fn bucket(t: &[u8], salt: usize, buckets: usize) -> usize
+    requires { ⌜ (salt < 4294967296) × (0 < buckets) × (buckets ≤ 4096) ⌝ }
+    ensures { λ r. ⌜ (r ≡ bucketOf buckets salt (now (t .entry))) × (r < buckets) ⌝ }
+{
+    mix(mix_text(t), salt) * buckets / 4294967296
+}
