@@ -13,21 +13,25 @@ use std::time::Instant;
 const ROUNDS: usize = 201;
 /// Calls of a turn.
 const CALLS: usize = 40;
-const MEMBERS: usize = 300;
+const MEMBERS: [usize; 2] = [300, 2_000];
 
 fn main() {
     println!(
         "Time of a call in microseconds, the median of {ROUNDS} rounds in which both take turns; the ratio is the\n\
          median of the rounds' ratios, library to second: below 1, the library is faster.\n\
-         A card of {MEMBERS} members with keys that all differ, the last of them x, y and turn. Each call tests first\n\
+         Cards of {MEMBERS:?} members with keys that all differ, the last of them x, y and turn. Each call tests first\n\
          that the table is writable, and that is timed.\n"
     );
-    println!("{:34} {:>9} {:>9} {:>6}", "", "library", "second", "ratio");
-    let card = Card::new();
-    card.time_member("lookup, the first member", "holder 0");
-    card.time_member("lookup, the last member", "turn");
-    card.time_member("lookup, an absent member", "turns");
-    card.time_position("position");
+    for members in MEMBERS {
+        let title = format!("card of {members} members");
+        println!("{title:34} {:>9} {:>9} {:>6}", "library", "second", "ratio");
+        let card = Card::new(members);
+        card.time_member("lookup, the first member", "holder 0");
+        card.time_member("lookup, the last member", "turn");
+        card.time_member("lookup, an absent member", "turns");
+        card.time_position("position");
+    }
+    // Cards with keys picked to collide in the library stand here.
 }
 
 /// A card in the Struct of row 1.
@@ -38,9 +42,9 @@ struct Card {
 }
 
 impl Card {
-    fn new() -> Self {
-        let mut text = [PREFIX, &b"R"[..], &field(b'S', MEMBERS)].concat();
-        for member in 0..MEMBERS - 3 {
+    fn new(members: usize) -> Self {
+        let mut text = [PREFIX, &b"R"[..], &field(b'S', members)].concat();
+        for member in 0..members - 3 {
             let (name, value) = match member % 6 {
                 0 => ("holder", string("HOLDER")),
                 1 => ("expires", b"8\x1119991231T23:59:59".to_vec()),
