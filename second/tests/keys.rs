@@ -128,11 +128,11 @@ fn compared_as_bytes() {
     let pairs: Vec<_> = near.iter().map(|key| (in_full(key), yes())).collect();
     assert!(is_accepted(&response(&structure(&pairs))));
     // The two ways to write a letter with its accent are different bytes.
-    for again in 0..near.len() {
+    for again in near {
         let mut pairs = pairs.clone();
-        pairs.push((in_full(near[again]), yes()));
+        pairs.push((in_full(again), yes()));
         let message = response(&structure(&pairs));
-        let place = message.len() - 1 - 5 - near[again].len();
+        let place = message.len() - 1 - 5 - again.len();
         assert_eq!(answer(&message), refused(20, place));
     }
 }
