@@ -11,8 +11,9 @@ use std::time::Instant;
 
 /// Rounds of a line; in each, both take their turn.
 const ROUNDS: usize = 201;
-/// Calls of a turn.
-const CALLS: usize = 40;
+/// Members of the cards of a turn's calls: few, so that most turns are not
+/// interrupted.
+const MEMBERS_OF_A_TURN: usize = 12_000;
 const MEMBERS: [usize; 2] = [300, 2_000];
 
 fn main() {
@@ -39,6 +40,8 @@ struct Card {
     table: Vec<u32>,
     rows: usize,
     text: Vec<u8>,
+    /// Calls of a turn.
+    calls: usize,
 }
 
 impl Card {
@@ -67,7 +70,12 @@ impl Card {
         }
         let mut table = vec![0; ROW_LIMIT * ROW_WORDS];
         match second::read(&text, &mut table) {
-            Read::Accepted { rows, .. } => Card { table, rows, text },
+            Read::Accepted { rows, .. } => Card {
+                table,
+                rows,
+                text,
+                calls: MEMBERS_OF_A_TURN / members,
+            },
             answer => panic!("{answer:?}"),
         }
     }
@@ -80,7 +88,7 @@ impl Card {
         let second = || {
             let _ = black_box(lookup::lookup(black_box(table), rows, text, 1, key));
         };
-        time(name, library, second);
+        time(name, self.calls, library, second);
     }
 
     fn time_position(&self, name: &str) {
@@ -91,7 +99,7 @@ impl Card {
         let second = || {
             let _ = black_box(lookup::position(black_box(table), rows, text, 1));
         };
-        time(name, library, second);
+        time(name, self.calls, library, second);
     }
 }
 
@@ -106,11 +114,11 @@ fn string(text: &str) -> Vec<u8> {
 }
 
 /// Times both in turns, and prints the line.
-fn time(name: &str, library: impl Fn(), second: impl Fn()) {
+fn time(name: &str, calls: usize, library: impl Fn(), second: impl Fn()) {
     let turn = |call: &dyn Fn()| {
         let start = Instant::now();
-        (0..CALLS).for_each(|_| call());
-        start.elapsed().as_secs_f64() * 1e6 / CALLS as f64
+        (0..calls).for_each(|_| call());
+        start.elapsed().as_secs_f64() * 1e6 / calls as f64
     };
     let rounds: Vec<[f64; 3]> = (0..ROUNDS)
         .map(|_| {
