@@ -1,5 +1,5 @@
-//! Tables at the edges of what is writable: names, sizes, texts and places of
-//! content, most of them just right and some just wrong.
+//! Tables at the edges of what is writable: names, sizes, texts, keys and
+//! places of content, most of them just right and some just wrong.
 
 use second::generate::{BAD_TEXTS, Random, Table, doubtful, good};
 use second::rules::{STANDARD_NAMES, kind};
@@ -67,7 +67,7 @@ impl Rows {
 
     fn item(&mut self, random: &mut Random) {
         let with_content = [kind::DOUBLE, kind::DATE_TIME, kind::BINARY, kind::STRING];
-        match random.below(8) {
+        match random.below(9) {
             0 => {
                 let name = match random.below(3) {
                     0 => *random.pick(&STANDARD_NAMES),
@@ -98,10 +98,53 @@ impl Rows {
                 let offset = ((1 << 32) - length + random.below(3)) % (1 << 32);
                 self.row(*random.pick(&with_content), offset, length, 0);
             }
+            7 => self.keys(random),
             _ => match random.below(2) {
                 0 => self.row(kind::BOOLEAN, random.below(3), random.below(8) / 7, 0),
                 _ => self.row(kind::INTEGER, random.byte().into(), random.below(8) / 7, 0),
             },
+        }
+    }
+
+    /// A Struct of a few keys, with a Struct of the same keys in it now and
+    /// then. Their texts stand at several offsets, and lie in one another.
+    fn keys(&mut self, random: &mut Random) {
+        let place = self.text.len();
+        self.text.extend(b"panpanpens");
+        // Three of the texts stand twice.
+        const SPANS: [(usize, usize); 10] = [
+            (0, 3),
+            (3, 3),
+            (6, 3),
+            (6, 4),
+            (0, 2),
+            (3, 2),
+            (0, 6),
+            (1, 2),
+            (0, 0),
+            (10, 0),
+        ];
+        let count = random.between(2, 4);
+        let mut spans: Vec<usize> = (0..SPANS.len()).collect();
+        for last in (1..spans.len()).rev() {
+            spans.swap(last, random.between(0, last));
+        }
+        let holder = random.below(2 * count);
+        let inner = if holder < count { 2 * count } else { 0 };
+        self.row(kind::STRUCT, 0, count, 2 * count + inner);
+        for (pair, &span) in spans[..count].iter().enumerate() {
+            let (offset, length) = SPANS[span];
+            self.row(kind::STRING, place + offset, length, 0);
+            if pair != holder {
+                self.row(kind::STRING, place, 3, 0);
+                continue;
+            }
+            self.row(kind::STRUCT, 0, count, 2 * count);
+            for &span in &spans[..count] {
+                let (offset, length) = SPANS[span];
+                self.row(kind::STRING, place + offset, length, 0);
+                self.row(kind::BOOLEAN, 1, 0, 0);
+            }
         }
     }
 

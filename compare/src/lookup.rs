@@ -6,7 +6,8 @@ use crate::lent::{Lent, rubbish};
 use crate::library::{self, Looked, Placed};
 use crate::reading::Compared;
 use crate::tally::Run;
-use second::generate::{Random, Table, damage, decimal, key, row, structs, table};
+use crate::writing::read_table;
+use second::generate::{Random, Table, card, damage, decimal, key, row, structs, table};
 use second::hex;
 use second::lookup::{Member, Position, lookup, position};
 use second::rules::{ROW_WORDS, kind};
@@ -108,7 +109,8 @@ impl Lookups {
         let random = &mut run.random;
         let mut table = match random.below(60) {
             0 => gathered_table(random),
-            1..6 => table(random),
+            1 => read_table(card(random, false)),
+            2..6 => table(random),
             _ => structs(random),
         };
         if random.one_in(6) {

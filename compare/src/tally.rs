@@ -26,7 +26,7 @@ const MEANINGS: [&str; NUMBERS] = [
     "no such Double or date",
     "no such member",
     "too many digits",
-    "",
+    "the same key twice",
     "",
     "",
     "",

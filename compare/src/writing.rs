@@ -183,7 +183,7 @@ impl Writing {
 }
 
 /// The table that reading a message gives, with the message as text bytes.
-fn read_table(text: Vec<u8>) -> Table {
+pub fn read_table(text: Vec<u8>) -> Table {
     let mut words = vec![0; ROW_LIMIT * ROW_WORDS];
     let rows = match second::read(&text, &mut words) {
         Read::Accepted { rows, .. } => rows,

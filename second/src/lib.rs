@@ -5,6 +5,7 @@ pub mod corpus;
 pub mod generate;
 pub mod hex;
 pub mod job;
+pub mod keys;
 pub mod lookup;
 pub mod meaning;
 pub mod papers;

@@ -1,5 +1,6 @@
 //! Members of a Struct, and the laser station's positions, written from
-//! document 02 (request E5) only.
+//! document 02 (requests E5 and E7) only. The keys of a writable table's
+//! Structs are distinct, so that a member found is the only one.
 
 use crate::meaning::content;
 use crate::rules::{kind, refusal};
@@ -36,7 +37,7 @@ pub struct Position {
     pub turn: f64,
 }
 
-/// The first member with this key of the Struct in a row of a table, whose
+/// The member with this key of the Struct in a row of a table, whose
 /// contents lie in `text`; or the number of a refusal.
 pub fn lookup(
     table: &[u32],
@@ -75,7 +76,7 @@ pub fn position(table: &[u32], rows: usize, text: &[u8], row: usize) -> Result<P
     })
 }
 
-/// The row of the value that stands with the first such key in the Struct.
+/// The row of the value that stands with this key in the Struct.
 fn find(rows: &[Row], text: &[u8], row: usize, key: &[u8]) -> Option<usize> {
     let &[kind, _, pairs, _] = rows.get(row)?;
     if kind != kind::STRUCT {
@@ -186,13 +187,20 @@ mod tests {
     }
 
     #[test]
-    fn the_first_wins() {
-        let (one, many) = (double_of("1.0"), double_of("1234567890123456.0"));
+    fn a_key_twice() {
+        let (mut table, rows, text) = card(&[("x", &double_of("1.0")), ("y", b"t")]);
         assert_eq!(
-            found(&[("x", &one), ("x", &many)], "x"),
-            Ok(Member::Decimal(1.0))
+            lookup(&table, rows, &text, 1, b"y"),
+            Ok(Member::YesOrNo(true))
         );
-        assert_eq!(found(&[("x", &many), ("x", &one)], "x"), Err(19));
+        // The second key's row names the first one's text.
+        table[17] = table[9];
+        for key in [&b"x"[..], b"y"] {
+            for row in [1, 9] {
+                assert_eq!(lookup(&table, rows, &text, row, key), Err(11));
+                assert_eq!(position(&table, rows, &text, row), Err(11));
+            }
+        }
     }
 
     #[test]
@@ -253,9 +261,17 @@ mod tests {
         assert_eq!(at("1.0", many, "-0.5", other), Err(19));
         assert_eq!(at("1.0", "2.5", many, other), Err(19));
         // 18 over all of them comes before 19.
-        assert_eq!(at(many, "2.5", "-0.5", ("y", b"t")), Err(18));
-        assert_eq!(at("1.0", "2.5", many, ("x", b"I\x01\0\0\0")), Err(18));
-        let (table, rows, text) = card(&[("x", &double_of(many)), ("y", b"D\x031.5")]);
+        let (wrong, many) = (&b"t"[..], &double_of(many)[..]);
+        for members in [
+            [("x", many), ("y", wrong), ("turn", many)],
+            [("x", many), ("y", many), ("turn", wrong)],
+            [("x", wrong), ("y", many), ("turn", many)],
+            [("x", many), ("y", many), ("turns", many)],
+        ] {
+            let (table, rows, text) = card(&members);
+            assert_eq!(position(&table, rows, &text, 1), Err(18));
+        }
+        let (table, rows, text) = card(&[("x", many), ("y", b"D\x031.5")]);
         assert_eq!(position(&table, rows, &text, 1), Err(18));
     }
 

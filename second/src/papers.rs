@@ -1,5 +1,5 @@
 //! The messages of documents 01 and 002, and of document 02's faults, Doubles
-//! and dates, as byte strings with names.
+//! and dates, and keys, as byte strings with names.
 
 use crate::rules::{POSITIONS, PREFIX};
 
@@ -128,7 +128,7 @@ pub const ALL: [(&str, usize); 17] = [
 /// What a message goes on with after the prefix, a table's number of words,
 /// the refusal and its place.
 #[rustfmt::skip]
-pub const EDGES: [(&[u8], usize, u8, usize); 86] = [
+pub const EDGES: [(&[u8], usize, u8, usize); 110] = [
     // With no row left, 1 for no byte and 3 come first, then 9.
     (b"", 3, 1, 12),
     (b"x", 3, 3, 12),
@@ -190,16 +190,12 @@ pub const EDGES: [(&[u8], usize, u8, usize); 86] = [
     (b"RFF", 16_384, 3, 14),
     (b"RFS\x01\0\0\0I", 16_384, 3, 19),
     (b"RFS\x01\0\0\0U\0\0\0\0", 16_384, 1, 24),
-    // A fault's members: none, one, three, the same twice, other keys, other
-    // kinds.
+    // A fault's members: none, one, three, other keys, other kinds.
     (b"RFS\0\0\0\0", 8, 14, 14),
     (b"RFS\x01\0\0\0U\x09\0\0\0faultCodeI\x01\0\0\0", 16, 14, 14),
     (b"RFS\x01\0\0\0U\x0b\0\0\0faultStringU\0\0\0\0", 16, 14, 14),
     (b"RFS\x03\0\0\0U\x09\0\0\0faultCodeI\x01\0\0\0U\x0b\0\0\0faultStringU\0\0\0\0U\0\0\0\0t", 32, 14, 14),
     (b"RFS\x03\0\0\0U\0\0\0\0tU\x09\0\0\0faultCodeI\x01\0\0\0U\x0b\0\0\0faultStringU\0\0\0\0", 32, 14, 14),
-    (b"RFS\x03\0\0\0>\0\x09\0\0\0faultCodeI\x01\0\0\0U\x0b\0\0\0faultStringU\0\0\0\0<\0I\x01\0\0\0", 32, 14, 14),
-    (b"RFS\x02\0\0\0U\x09\0\0\0faultCodeI\x01\0\0\0U\x09\0\0\0faultCodeI\x01\0\0\0", 24, 14, 14),
-    (b"RFS\x02\0\0\0>\0\x0b\0\0\0faultString<\0<\0<\0", 24, 14, 14),
     (b"RFS\x02\0\0\0U\x09\0\0\0faultcodeI\x01\0\0\0U\x0b\0\0\0faultStringU\0\0\0\0", 24, 14, 14),
     (b"RFS\x02\0\0\0U\x09\0\0\0faultCodeI\x01\0\0\0U\x0c\0\0\0faultString U\0\0\0\0", 24, 14, 14),
     (b"RFS\x02\0\0\0U\x09\0\0\0faultCodetU\x0b\0\0\0faultStringU\0\0\0\0", 24, 14, 14),
@@ -210,6 +206,38 @@ pub const EDGES: [(&[u8], usize, u8, usize); 86] = [
     (b"RFS\x03\0\0\0U\x09\0\0\0faultCodeI\x01\0\0\0U\x0b\0\0\0faultStringU\0\0\0\0", 24, 1, 59),
     (b"RFS\x01\0\0\0U\x09\0\0\0faultCode<\0", 24, 6, 33),
     (b"RFS\x01\0\0\0U\x09\0\0\0faultCodeI\x01\0\0\0", 12, 9, 33),
+    // The same key twice, in full, recorded or recalled: 20 at the second, and
+    // before what comes behind it.
+    (b"RS\x02\0\0\0U\x03\0\0\0pantU\x03\0\0\0pant", 16_384, 20, 27),
+    (b"RS\x02\0\0\0>\0\x03\0\0\0pant<\0t", 16_384, 20, 28),
+    (b"RS\x02\0\0\0>\0\x03\0\0\0pant>\0\x03\0\0\0pant", 16_384, 20, 28),
+    (b"RS\x02\0\0\0U\x03\0\0\0pan>\0\x03\0\0\0pan<\0t", 16_384, 20, 35),
+    (b"RS\x03\0\0\0U\x03\0\0\0pantU\x03\0\0\0pentU\x03\0\0\0pant", 16_384, 20, 36),
+    (b"RS\x03\0\0\0U\x03\0\0\0pantU\x03\0\0\0pentU\x03\0\0\0pent", 16_384, 20, 36),
+    (b"RS\x02\0\0\0U\0\0\0\0tU\0\0\0\0t", 16_384, 20, 24),
+    (b"RS\x02\0\0\0>\0\0\0\0\0t<\0t", 16_384, 20, 25),
+    (b"RS\xff\xff\xff\xffU\0\0\0\0tU\0\0\0\0", 16_384, 20, 24),
+    (b"RS\x02\0\0\0U\x01\0\0\0atU\x01\0\0\0a", 16_384, 20, 25),
+    (b"RS\x02\0\0\0U\x01\0\0\0atU\x01\0\0\0aX", 16_384, 20, 25),
+    (b"RS\x02\0\0\0U\x01\0\0\0atU\x01\0\0\0a<\0", 16_384, 20, 25),
+    (b"RS\x02\0\0\0U\x01\0\0\0atU\x01\0\0\0at", 20, 20, 25),
+    (b"CU\x01\0\0\0aA\x01\0\0\0S\x02\0\0\0U\x01\0\0\0atU\x01\0\0\0at", 16_384, 20, 36),
+    // What the second key itself gives comes first.
+    (b"RS\x02\0\0\0U\x01\0\0\0at", 16_384, 1, 25),
+    (b"RS\x02\0\0\0U\x01\0\0\0atU\x01\0\0\0", 16_384, 1, 25),
+    (b"RS\x02\0\0\0U\x01\0\0\0atI\x01\0\0\0a", 16_384, 3, 25),
+    (b"RS\x02\0\0\0U\x01\0\0\0atU\x01\0\0\0at", 16, 9, 25),
+    (b"RS\x02\0\0\0U\x01\0\0\0atU\x01\0\0\0\xff", 16_384, 5, 25),
+    (b"RS\x02\0\0\0U\x01\0\0\0at<\0t", 16_384, 6, 25),
+    // A Struct in a Struct: the inner one's keys, and after it the outer one's.
+    (b"RS\x01\0\0\0U\x01\0\0\0aS\x02\0\0\0U\x01\0\0\0btU\x01\0\0\0bt", 16_384, 20, 36),
+    (b"RS\x02\0\0\0U\x01\0\0\0aS\x01\0\0\0U\x01\0\0\0btU\x01\0\0\0at", 16_384, 20, 36),
+    (b"RS\x02\0\0\0U\x01\0\0\0aS\x02\0\0\0U\x01\0\0\0atU\x01\0\0\0btU\x01\0\0\0at", 16_384, 20, 43),
+    // A fault with a key twice: before 14.
+    (b"RFS\x02\0\0\0U\x09\0\0\0faultCodeI\x01\0\0\0U\x09\0\0\0faultCodeI\x01\0\0\0", 24, 20, 38),
+    (b"RFS\x02\0\0\0>\0\x0b\0\0\0faultString<\0<\0<\0", 24, 20, 38),
+    (b"RFS\x03\0\0\0>\0\x09\0\0\0faultCodeI\x01\0\0\0U\x0b\0\0\0faultStringU\0\0\0\0<\0I\x01\0\0\0", 32, 20, 60),
+    (b"RFS\x03\0\0\0U\0\0\0\0tU\x01\0\0\0atU\0\0\0\0t", 32, 20, 32),
     // Others.
     (b"RO", 16_384, 1, 14),
     (b"ROB", 16_384, 3, 14),

@@ -1,5 +1,6 @@
 //! The reader: message bytes into a lent table of rows.
 
+use crate::keys::Keys;
 use crate::rules::*;
 
 /// The reader's answer.
@@ -172,8 +173,13 @@ impl<'m> Reader<'m, '_> {
 
     fn structure(&mut self, nesting: usize) -> Answer<()> {
         let (row, pairs) = self.begin_container(nesting)?;
+        let mut keys = Keys::new(pairs, self.rows.len());
         for _ in 0..pairs {
-            self.string()?;
+            let place = self.at;
+            let key = self.string()?;
+            if !keys.add(self.bytes_of(key)) {
+                return refuse(refusal::KEY, place);
+            }
             self.value(nesting + 1)?;
         }
         self.rows[row] = [kind::STRUCT, 0, pairs, self.filled as u32];
@@ -231,8 +237,7 @@ impl<'m> Reader<'m, '_> {
         let row = self.take_row(place)?;
         self.at = place + 1;
         let name = self.string()?;
-        let start = name.offset as usize;
-        if is_standard_name(&self.message[start..start + name.length as usize]) {
+        if is_standard_name(self.bytes_of(name)) {
             return refuse(refusal::NAME, place);
         }
         if self.tag(self.at)? != b'B' {
@@ -268,6 +273,10 @@ impl<'m> Reader<'m, '_> {
         };
         self.leaf(row, [kind::STRING, text.offset, text.length], end);
         Ok(text)
+    }
+
+    fn bytes_of(&self, text: Text) -> &'m [u8] {
+        &self.message[text.offset as usize..][..text.length as usize]
     }
 
     /// The codebook position of the string at `place`.

@@ -167,4 +167,6 @@ pub mod refusal {
     pub const FAULT: u8 = 14;
     /// A Double or DateTime that is not written as one, or no day or time.
     pub const DOUBLE_OR_DATE: u8 = 17;
+    /// A key that stands in its Struct already.
+    pub const KEY: u8 = 20;
 }

@@ -1,10 +1,10 @@
 //! The writer: a table and the bytes its texts lie in, into a lent output.
 
+use crate::keys::{Keys, TextHashing};
 use crate::meaning::content;
 use crate::rules::*;
 use std::collections::HashMap;
 use std::collections::hash_map::Entry;
-use std::hash::{BuildHasherDefault, Hasher};
 
 /// The writer's answer.
 #[derive(Clone, Copy, Debug, PartialEq, Eq)]
@@ -74,7 +74,7 @@ struct Strings<'t> {
     texts: Vec<Text>,
     /// For each string in row order, its place in `texts`.
     order: Vec<u32>,
-    seen: HashMap<&'t [u8], u32, BuildHasherDefault<TextHasher>>,
+    seen: HashMap<&'t [u8], u32, TextHashing>,
 }
 
 struct Text {
@@ -116,39 +116,6 @@ impl<'t> Strings<'t> {
             None => text.count * (5 + text.length),
         });
         sizes.sum()
-    }
-}
-
-/// Hashes texts eight bytes at a time. There are at most as many texts as rows,
-/// so texts chosen to collide cost little.
-#[derive(Default)]
-struct TextHasher(u64);
-
-impl TextHasher {
-    fn add(&mut self, word: u64) {
-        let product = u128::from(self.0 ^ word) * 0x9e37_79b9_7f4a_7c15;
-        self.0 = product as u64 ^ (product >> 64) as u64;
-    }
-}
-
-impl Hasher for TextHasher {
-    fn write(&mut self, bytes: &[u8]) {
-        let (words, rest) = bytes.as_chunks::<8>();
-        for word in words {
-            self.add(u64::from_le_bytes(*word));
-        }
-        let last = rest
-            .iter()
-            .fold(0, |last, &byte| last << 8 | u64::from(byte));
-        self.add(last);
-    }
-
-    fn write_usize(&mut self, length: usize) {
-        self.add(length as u64 + 1);
-    }
-
-    fn finish(&self) -> u64 {
-        self.0
     }
 }
 
@@ -227,8 +194,12 @@ impl<'t, N: FnMut(&'t [u8])> Checker<'t, N> {
             }
             kind::STRUCT if a == 0 && nesting < NESTING_LIMIT => {
                 let mut next = at + 1;
+                let mut keys = Keys::new(b, self.rows.len());
                 for _ in 0..b {
-                    next = self.item_of(kind::STRING, next, nesting)?;
+                    let key = next;
+                    next = self.item_of(kind::STRING, key, nesting)?;
+                    let [_, a, length, _] = self.rows[key];
+                    keys.add(content(self.text, a, length)?).then_some(())?;
                     next = self.value(next, nesting + 1)?;
                 }
                 next

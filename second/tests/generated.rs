@@ -63,7 +63,7 @@ fn valid_messages_are_accepted() {
 #[test]
 fn messages_beyond_a_limit_are_refused_for_it() {
     let mut random = Random::new(2);
-    let mut seen = [0; 18];
+    let mut seen = [0; 21];
     for _ in 0..200 {
         let (answer, _) = read_into(&beyond(&mut random), WIDE);
         let Read::Refused { number, .. } = answer else {
@@ -78,17 +78,17 @@ fn messages_beyond_a_limit_are_refused_for_it() {
 #[test]
 fn every_refusal_of_the_reader_occurs() {
     let mut random = Random::new(3);
-    let mut seen = [0; 18];
+    let mut seen = [0; 21];
     for _ in 0..6_000 {
         match read_into(&message(&mut random), WIDE).0 {
             Read::Accepted { .. } => seen[0] += 1,
             Read::Refused { number, .. } => seen[number as usize] += 1,
         }
     }
-    for number in [0, 1, 2, 3, 5, 6, 7, 8, 9, 10, 14, 17] {
+    for number in [0, 1, 2, 3, 5, 6, 7, 8, 9, 10, 14, 17, 20] {
         assert!(seen[number] > 30, "{number}: {seen:?}");
     }
-    for number in [4, 11, 12, 13, 15, 16] {
+    for number in [4, 11, 12, 13, 15, 16, 18, 19] {
         assert_eq!(seen[number], 0);
     }
 }
@@ -260,7 +260,7 @@ fn writable_by_reading(table: &Table) -> Option<bool> {
 #[test]
 fn writable_is_exact() {
     let mut random = Random::new(8);
-    let mut seen = [0; 18];
+    let mut seen = [0; 21];
     for _ in 0..20_000 {
         let table = table(&mut random);
         let answer = write_into(&table, BYTE_LIMIT).0;

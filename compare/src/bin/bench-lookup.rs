@@ -11,23 +11,28 @@ use std::time::Instant;
 
 /// Rounds of a line; in each, both take their turn.
 const ROUNDS: usize = 201;
-/// Calls of a turn.
-const CALLS: usize = 40;
-const MEMBERS: usize = 300;
+/// Members of the cards of a turn's calls: few, so that most turns are not
+/// interrupted.
+const MEMBERS_OF_A_TURN: usize = 12_000;
+const MEMBERS: [usize; 2] = [300, 2_000];
 
 fn main() {
     println!(
         "Time of a call in microseconds, the median of {ROUNDS} rounds in which both take turns; the ratio is the\n\
          median of the rounds' ratios, library to second: below 1, the library is faster.\n\
-         A card of {MEMBERS} members with keys that all differ, the last of them x, y and turn. Each call tests first\n\
+         Cards of {MEMBERS:?} members with keys that all differ, the last of them x, y and turn. Each call tests first\n\
          that the table is writable, and that is timed.\n"
     );
-    println!("{:34} {:>9} {:>9} {:>6}", "", "library", "second", "ratio");
-    let card = Card::new();
-    card.time_member("lookup, the first member", "holder 0");
-    card.time_member("lookup, the last member", "turn");
-    card.time_member("lookup, an absent member", "turns");
-    card.time_position("position");
+    for members in MEMBERS {
+        let title = format!("card of {members} members");
+        println!("{title:34} {:>9} {:>9} {:>6}", "library", "second", "ratio");
+        let card = Card::new(members);
+        card.time_member("lookup, the first member", "holder 0");
+        card.time_member("lookup, the last member", "turn");
+        card.time_member("lookup, an absent member", "turns");
+        card.time_position("position");
+    }
+    // Cards with keys picked to collide in the library stand here.
 }
 
 /// A card in the Struct of row 1.
@@ -35,12 +40,14 @@ struct Card {
     table: Vec<u32>,
     rows: usize,
     text: Vec<u8>,
+    /// Calls of a turn.
+    calls: usize,
 }
 
 impl Card {
-    fn new() -> Self {
-        let mut text = [PREFIX, &b"R"[..], &field(b'S', MEMBERS)].concat();
-        for member in 0..MEMBERS - 3 {
+    fn new(members: usize) -> Self {
+        let mut text = [PREFIX, &b"R"[..], &field(b'S', members)].concat();
+        for member in 0..members - 3 {
             let (name, value) = match member % 6 {
                 0 => ("holder", string("HOLDER")),
                 1 => ("expires", b"8\x1119991231T23:59:59".to_vec()),
@@ -63,7 +70,12 @@ impl Card {
         }
         let mut table = vec![0; ROW_LIMIT * ROW_WORDS];
         match second::read(&text, &mut table) {
-            Read::Accepted { rows, .. } => Card { table, rows, text },
+            Read::Accepted { rows, .. } => Card {
+                table,
+                rows,
+                text,
+                calls: MEMBERS_OF_A_TURN / members,
+            },
             answer => panic!("{answer:?}"),
         }
     }
@@ -76,7 +88,7 @@ impl Card {
         let second = || {
             let _ = black_box(lookup::lookup(black_box(table), rows, text, 1, key));
         };
-        time(name, library, second);
+        time(name, self.calls, library, second);
     }
 
     fn time_position(&self, name: &str) {
@@ -87,7 +99,7 @@ impl Card {
         let second = || {
             let _ = black_box(lookup::position(black_box(table), rows, text, 1));
         };
-        time(name, library, second);
+        time(name, self.calls, library, second);
     }
 }
 
@@ -102,11 +114,11 @@ fn string(text: &str) -> Vec<u8> {
 }
 
 /// Times both in turns, and prints the line.
-fn time(name: &str, library: impl Fn(), second: impl Fn()) {
+fn time(name: &str, calls: usize, library: impl Fn(), second: impl Fn()) {
     let turn = |call: &dyn Fn()| {
         let start = Instant::now();
-        (0..CALLS).for_each(|_| call());
-        start.elapsed().as_secs_f64() * 1e6 / CALLS as f64
+        (0..calls).for_each(|_| call());
+        start.elapsed().as_secs_f64() * 1e6 / calls as f64
     };
     let rounds: Vec<[f64; 3]> = (0..ROUNDS)
         .map(|_| {

@@ -46,11 +46,15 @@ fn heading() -> String {
 fn lines() -> Vec<Line> {
     vec![
         Line::new("a  card of 300 members", card(300)),
+        Line::new("a  card of 2,000 members", card(2_000)),
+        // Cards of 300 and 2,000 members with keys picked to collide in the
+        // library stand here.
         Line::new("a  card with 50 dates and 50 Doubles", dated_card(300)),
         Line::new("b  text of 65,000 ASCII bytes", text(&"a".repeat(65_000))),
         Line::new("c  text of two to four byte forms", text(&mixed_text())),
         Line::new("d  4,000 Integers", array(4_000, integer)),
         Line::new("e  31 Arrays around 800 Structs", nested_structs(31, 800)),
+        Line::new("e  800 Structs of two members", nested_structs(1, 800)),
         Line::new("f  4,000 strings, all different", array(4_000, different)),
         Line::new("f  4,000 strings, all equal", array(4_000, equal)),
     ]
@@ -60,7 +64,7 @@ fn lines() -> Vec<Line> {
 /// that 4,000 of them have no table.
 fn growth(what: &str, time: fn(&Line) -> Times) {
     println!("\n{what}, growth with the members; per member, in nanoseconds");
-    for members in [500, 1_000, 2_000] {
+    for members in [300, 500, 1_000, 2_000] {
         grown("a  card", members, card(members), time);
     }
     for members in [500, 1_000, 2_000, 4_000] {

@@ -11,9 +11,9 @@ fn main() -> ExitCode {
     let words: Vec<String> = std::env::args().skip(1).collect();
     let (path, number) = match &words[..] {
         [path] => (path, None),
-        [path, number] => match number.parse() {
-            Ok(number) => (path, Some(number)),
-            Err(_) => return usage(),
+        [path, number] => match digits(number) {
+            Some(number) => (path, Some(number)),
+            None => return usage(),
         },
         _ => return usage(),
     };
@@ -24,6 +24,12 @@ fn main() -> ExitCode {
             ExitCode::FAILURE
         }
     }
+}
+
+/// A number in digits only, without a sign.
+fn digits(word: &str) -> Option<usize> {
+    let all = word.bytes().all(|byte| byte.is_ascii_digit());
+    word.parse().ok().filter(|_| all)
 }
 
 fn usage() -> ExitCode {

@@ -60,6 +60,8 @@ pub fn valid(random: &mut Random) -> Vec<u8> {
         2..6 => deep(random, 30, NESTING_LIMIT),
         6..9 => strings(random),
         9 => positions_used_again(random),
+        10..12 => card(random, false),
+        12 => cards(random, false),
         _ => {
             let mut builder = Builder::new(random);
             builder.tree();
@@ -79,6 +81,11 @@ pub fn beyond(random: &mut Random) -> Vec<u8> {
 
 /// A message with something wrong in it; now and then it is still a good one.
 pub fn damaged(random: &mut Random) -> Vec<u8> {
+    match random.below(40) {
+        0 | 1 => return card(random, true),
+        2 => return cards(random, true),
+        _ => {}
+    }
     if random.one_in(2) {
         let flaw = *random.pick(&Flaw::ALL);
         let mut builder = Builder::new(random);
@@ -177,12 +184,13 @@ enum Flaw {
     UnsetRecall,
     WrongTag,
     Members,
+    Key,
     Prefix,
     Cut,
 }
 
 impl Flaw {
-    const ALL: [Flaw; 9] = [
+    const ALL: [Flaw; 10] = [
         Flaw::BadText,
         Flaw::NotAscii,
         Flaw::DoubleOrDate,
@@ -190,6 +198,7 @@ impl Flaw {
         Flaw::UnsetRecall,
         Flaw::WrongTag,
         Flaw::Members,
+        Flaw::Key,
         Flaw::Prefix,
         Flaw::Cut,
     ];
@@ -264,7 +273,8 @@ impl<'r> Builder<'r> {
             self.bytes.extend(b"RF");
             return self.wrong_members();
         }
-        match self.random.below(6) {
+        let sorts = if self.flaw == Some(Flaw::Key) { 9 } else { 6 };
+        match self.random.below(sorts) {
             0 | 1 => {
                 self.bytes.push(b'C');
                 self.string();
@@ -386,13 +396,37 @@ impl<'r> Builder<'r> {
         let pairs = self.random.below(5);
         self.bytes.push(b'S');
         self.field(pairs);
+        let mut keys = Vec::new();
         for _ in 0..pairs {
             if self.goes_wrong(Flaw::WrongTag) {
                 self.bytes.push(*self.random.pick(b"IABSt\0"));
             }
-            self.string();
+            self.key(&mut keys);
             self.value(nesting + 1);
         }
+    }
+
+    /// A key that is none of these, and is noted among them; or one of them
+    /// again, behind which another thing may be wrong too.
+    fn key(&mut self, keys: &mut Vec<Vec<u8>>) {
+        if self.string_goes_wrong() {
+            return;
+        }
+        if !keys.is_empty() && self.goes_wrong(Flaw::Key) {
+            if self.random.one_in(2) {
+                self.flaw = Some(*self.random.pick(&Flaw::ALL));
+            }
+            let again = self.random.pick(keys).clone();
+            return self.send(again);
+        }
+        let key = loop {
+            let text = self.text();
+            if !keys.contains(&text) {
+                break text;
+            }
+        };
+        keys.push(key.clone());
+        self.send(key);
     }
 
     /// A fault's Struct, in either order. The message is a key now and then, so
@@ -403,12 +437,12 @@ impl<'r> Builder<'r> {
         let code_first = self.random.one_in(2);
         for turn in [true, false] {
             if turn == code_first {
-                self.key(FAULT_MEMBERS[0].0);
+                self.send(FAULT_MEMBERS[0].0.into());
                 self.integer();
             } else {
-                self.key(FAULT_MEMBERS[1].0);
+                self.send(FAULT_MEMBERS[1].0.into());
                 match self.random.below(3) {
-                    0 => self.key(FAULT_MEMBERS[0].0),
+                    0 => self.send(FAULT_MEMBERS[0].0.into()),
                     _ => self.string(),
                 }
             }
@@ -432,6 +466,7 @@ impl<'r> Builder<'r> {
         for pair in 0..pairs {
             let (mut name, mut kind) = FAULT_MEMBERS[(pair + code_first as usize) % 2];
             match self.random.below(6) {
+                _ if pair >= 2 => name = *self.random.pick(&NEAR_KEYS),
                 0 => name = *self.random.pick(&NEAR_KEYS),
                 1 => {
                     kind = *self
@@ -440,7 +475,7 @@ impl<'r> Builder<'r> {
                 }
                 _ => {}
             }
-            self.key(name);
+            self.send(name.into());
             match kind {
                 kind::INTEGER => self.integer(),
                 kind::STRING => self.string(),
@@ -449,18 +484,30 @@ impl<'r> Builder<'r> {
         }
     }
 
-    fn key(&mut self, name: &[u8]) {
-        self.send(name.to_vec());
+    fn string(&mut self) {
+        if !self.string_goes_wrong() {
+            let text = self.text();
+            self.send(text);
+        }
     }
 
-    fn string(&mut self) {
+    /// A text to send as a string.
+    fn text(&mut self) -> Vec<u8> {
+        match self.random.below(3) {
+            0 => self.random.text(12),
+            _ => self.random.pick(&self.pool).clone(),
+        }
+    }
+
+    /// Whether a string went wrong here, and was sent so.
+    fn string_goes_wrong(&mut self) -> bool {
         if self.goes_wrong(Flaw::UnsetRecall) {
             let unset: Vec<u8> = (0..=u8::MAX)
                 .filter(|&position| self.codebook[position as usize].is_none())
                 .collect();
             self.bytes.push(b'<');
             self.bytes.push(*self.random.pick(&unset));
-            return;
+            return true;
         }
         if self.goes_wrong(Flaw::BadText) {
             let mut text = self.random.text(5);
@@ -469,13 +516,9 @@ impl<'r> Builder<'r> {
                 text.extend(self.random.text(5));
             }
             self.spell(text);
-            return;
+            return true;
         }
-        let text = match self.random.below(3) {
-            0 => self.random.text(12),
-            _ => self.random.pick(&self.pool).clone(),
-        };
-        self.send(text);
+        false
     }
 
     /// Sends this text; recalls it only from a position that holds it.
@@ -516,9 +559,10 @@ impl<'r> Builder<'r> {
         let count = if self.random.one_in(6) { 2 } else { 1 };
         self.field(count);
         let deep = self.random.below(count);
+        let mut keys = Vec::new();
         for item in 0..count {
             if tag == b'S' {
-                self.string();
+                self.key(&mut keys);
             }
             if item == deep && levels > 1 {
                 self.nest(None, levels - 1);
@@ -647,6 +691,85 @@ fn strings(random: &mut Random) -> Vec<u8> {
     builder.field(count);
     for _ in 0..count {
         builder.string();
+    }
+    builder.finish()
+}
+
+/// A card of up to 2,000 members, whose keys are sent in full, recorded or
+/// recalled and differ; or with one of them again: the first as the last, one
+/// beside the other, or anywhere, and now and then with a bad value behind it.
+/// Values are keys too, of the card or of a Struct inside it.
+pub fn card(random: &mut Random, again: bool) -> Vec<u8> {
+    let pairs = *random.pick(&[2, 3, 7, 8, 9, 10, 11, 40, 300, 300, 2_000]);
+    let mut inner = random.below(40);
+    let names = random.below(if pairs > 300 { 3 } else { 4 });
+    let name = |member: usize| match names {
+        0 if member == 0 => Vec::new(),
+        0 => format!("{member:x}").into_bytes(),
+        1 => format!("{member:04}").into_bytes(),
+        2 => format!("m\u{e9}mber {member}").into_bytes(),
+        _ => format!("account.of.the.holder.{member:05}.balance").into_bytes(),
+    };
+    let second = match random.below(3) {
+        0 => pairs - 1,
+        _ => random.between(1, pairs - 1),
+    };
+    let first = match random.below(3) {
+        0 => 0,
+        1 => second - 1,
+        _ => random.below(second),
+    };
+    let mut builder = Builder::new(random);
+    builder.bytes.extend(b"RS");
+    builder.field(pairs);
+    for member in 0..pairs {
+        let is_again = again && member == second;
+        builder.send(name(if is_again { first } else { member }));
+        if is_again && builder.random.one_in(4) {
+            builder.bytes.push(*builder.random.pick(b"CFX\0\xff"));
+        }
+        match builder.random.below(12) {
+            // The next key, which can then be recalled; or any.
+            0..3 => builder.send(name(member + 1)),
+            3 => builder.send(name(member)),
+            4 => builder.integer(),
+            5 if inner > 0 => {
+                inner -= 1;
+                builder.bytes.push(b'S');
+                builder.field(1);
+                builder.send(name(member));
+                builder.bytes.push(b't');
+            }
+            _ => builder.bytes.push(*builder.random.pick(b"tf")),
+        }
+    }
+    builder.finish()
+}
+
+/// An Array of up to 800 small Structs with the same keys, of which one may
+/// have a key again.
+fn cards(random: &mut Random, again: bool) -> Vec<u8> {
+    let names: [&[u8]; 3] = [b"id", b"on", b""];
+    let count = *random.pick(&[2, 10, 100, 800]);
+    let wrong = random.below(count);
+    let mut builder = Builder::new(random);
+    builder.bytes.extend(b"RA");
+    builder.field(count);
+    for card in 0..count {
+        let pairs = builder.random.between(2, if count < 800 { 3 } else { 2 });
+        builder.bytes.push(b'S');
+        builder.field(pairs);
+        let from = builder.random.below(3);
+        let second = builder.random.between(1, pairs - 1);
+        for pair in 0..pairs {
+            let is_again = again && card == wrong && pair == second;
+            let name = if is_again { from } else { from + pair };
+            builder.send(names[name % 3].into());
+            match builder.random.below(6) {
+                value @ 0..3 => builder.send(names[value].into()),
+                _ => builder.bytes.push(b't'),
+            }
+        }
     }
     builder.finish()
 }

@@ -9,7 +9,7 @@ use crate::rules::*;
 /// What the laser asks for.
 const POSITION: [&[u8]; 3] = [b"x", b"y", b"turn"];
 
-/// Keys that come again, or begin alike.
+/// Keys that come again in other Structs, or begin alike.
 const KEYS: [&[u8]; 12] = [
     b"x",
     b"y",
@@ -112,9 +112,11 @@ impl Maker<'_> {
                 keys.remove(self.random.below(3));
             }
         }
-        for _ in 0..self.random.below(5) {
-            let place = self.random.below(keys.len() + 1);
-            keys.insert(place, *self.random.pick(&KEYS));
+        for _ in 0..self.random.below(6) {
+            let key = *self.random.pick(&KEYS);
+            if !keys.contains(&key) {
+                keys.push(key);
+            }
         }
         for last in (1..keys.len()).rev() {
             keys.swap(last, self.random.between(0, last));

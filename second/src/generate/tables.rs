@@ -3,8 +3,10 @@
 use super::Random;
 use super::ascii::{doubtful, good};
 use super::messages::{near_or_huge, valid};
+use crate::meaning::content;
 use crate::reader::{Read, read};
 use crate::rules::*;
+use std::ops::Range;
 
 /// What a writer is given, but for the output.
 #[derive(Clone, Debug)]
@@ -14,8 +16,8 @@ pub struct Table {
     pub text: Vec<u8>,
 }
 
-/// Any table: writable, nested too deep, a fault with other members, or
-/// damaged.
+/// Any table: writable, nested too deep, a fault with other members, a Struct
+/// with a key again, or damaged.
 pub fn table(random: &mut Random) -> Table {
     if random.one_in(20) {
         return deep(random, NESTING_LIMIT + 1, NESTING_LIMIT + 2);
@@ -25,6 +27,10 @@ pub fn table(random: &mut Random) -> Table {
         return fault(random, pairs, false);
     }
     let mut table = writable(random);
+    if random.one_in(12) {
+        key_again(random, &mut table);
+        return table;
+    }
     if random.one_in(2) {
         for _ in 0..random.between(1, 2) {
             damage(random, &mut table);
@@ -114,10 +120,14 @@ pub fn few_strings(random: &mut Random, most: usize) -> Table {
     let longest = random.between(0, 3);
     let mut rows = Rows(Vec::new());
     let mut left = most;
-    let string = |random: &mut Random, rows: &mut Rows| {
+    let span = |random: &mut Random| {
         let first = random.below(edges.len());
         let last = (first + random.between(0, longest)).min(edges.len() - 1);
-        rows.leaf(kind::STRING, edges[first], edges[last] - edges[first]);
+        edges[first]..edges[last]
+    };
+    let string = |random: &mut Random, rows: &mut Rows| {
+        let span = span(random);
+        rows.leaf(kind::STRING, span.start, span.len());
     };
     let values = random.between(0, 6);
     let root = match random.below(3) {
@@ -130,12 +140,24 @@ pub fn few_strings(random: &mut Random, most: usize) -> Table {
         _ => rows.open(kind::RESPONSE, 1),
     };
     let keyed = rows.0[0][0] != kind::CALL && random.one_in(2);
-    let count = if keyed { values.min(left) } else { values };
+    let mut keys: Vec<Range<usize>> = Vec::new();
+    if keyed {
+        for _ in 0..values.min(left) {
+            let key = span(random);
+            if keys
+                .iter()
+                .all(|known| text[known.clone()] != text[key.clone()])
+            {
+                keys.push(key);
+            }
+        }
+    }
+    let count = if keyed { keys.len() } else { values };
     let outer = rows.open(if keyed { kind::STRUCT } else { kind::ARRAY }, count);
-    left -= if keyed { count } else { 0 };
-    for _ in 0..count {
-        if keyed {
-            string(random, &mut rows);
+    left -= keys.len();
+    for value in 0..count {
+        if let Some(key) = keys.get(value) {
+            rows.leaf(kind::STRING, key.start, key.len());
         }
         match random.below(if left > 0 { 9 } else { 5 }) {
             0 => rows.leaf(kind::INTEGER, random.word() as u32 as usize, 0),
@@ -188,6 +210,7 @@ fn fault(random: &mut Random, pairs: usize, right: bool) -> Table {
         let mut is_integer = is_code;
         if !right {
             match random.below(6) {
+                _ if pair >= 2 => (offset, length) = *random.pick(&near),
                 0 => (offset, length) = *random.pick(&near),
                 1 => is_integer = !is_integer,
                 _ => {}
@@ -313,10 +336,10 @@ fn near_the_limit(random: &mut Random) -> Table {
     rows.finish(text)
 }
 
-/// Damages one word, the number of rows, the words or the text bytes, or the
-/// text of a Double or DateTime.
+/// Damages one word, the number of rows, the words or the text bytes, the text
+/// of a Double or DateTime, or a key.
 pub fn damage(random: &mut Random, table: &mut Table) {
-    match random.below(24) {
+    match random.below(27) {
         0 => {
             const FAR: [usize; 5] = [0, ROW_LIMIT, ROW_LIMIT + 1, usize::MAX, usize::MAX / 4 + 1];
             table.rows = match random.below(3) {
@@ -345,6 +368,7 @@ pub fn damage(random: &mut Random, table: &mut Table) {
             }
         }
         6..10 => damage_double_or_date(random, table),
+        10..13 => key_again(random, table),
         _ => {
             if table.words.is_empty() {
                 return;
@@ -378,4 +402,52 @@ fn damage_double_or_date(random: &mut Random, table: &mut Table) {
     };
     (*offset, *length) = (table.text.len() as u32, text.len() as u32);
     table.text.extend(text);
+}
+
+/// Gives a key of a Struct, if one has two, the text of another key of it: the
+/// same bytes, or equal ones behind the others.
+pub fn key_again(random: &mut Random, table: &mut Table) {
+    let (rows, _) = table.words.as_chunks_mut::<ROW_WORDS>();
+    let structs: Vec<Vec<usize>> = (0..rows.len())
+        .map(|row| keys_of(rows, row))
+        .filter(|keys| keys.len() > 1)
+        .collect();
+    if structs.is_empty() {
+        return;
+    }
+    let keys = random.pick(&structs);
+    let known = match random.below(2) {
+        0 => 0,
+        _ => random.below(keys.len()),
+    };
+    let again = match random.below(2) {
+        0 if known != keys.len() - 1 => keys.len() - 1,
+        _ => (known + random.between(1, keys.len() - 1)) % keys.len(),
+    };
+    let [_, mut offset, length, _] = rows[keys[known]];
+    if let Some(text) = content(&table.text, offset, length)
+        && table.text.len() + text.len() <= BYTE_LIMIT
+        && random.one_in(2)
+    {
+        let text = text.to_vec();
+        offset = table.text.len() as u32;
+        table.text.extend(text);
+    }
+    let [_, a, b, _] = &mut rows[keys[again]];
+    (*a, *b) = (offset, length);
+}
+
+/// The rows of a Struct's keys, as far as they go.
+fn keys_of(rows: &[[u32; ROW_WORDS]], row: usize) -> Vec<usize> {
+    let mut keys = Vec::new();
+    let [kind, _, pairs, _] = rows[row];
+    let mut key = row + 1;
+    while kind == kind::STRUCT && keys.len() < pairs as usize {
+        let Some([_, _, _, end]) = rows.get(key + 1) else {
+            break;
+        };
+        keys.push(key);
+        key = (*end as usize).max(key + 2);
+    }
+    keys
 }

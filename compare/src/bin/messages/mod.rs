@@ -63,7 +63,9 @@ pub fn mixed_text() -> String {
     text
 }
 
-/// A card whose members have ten names, over and over.
+/// A card whose members' names all differ, as they have to since a Struct's
+/// keys are distinct (document 02, request E7): ten names, numbered. Some of
+/// its values are equal.
 pub fn card(members: usize) -> Vec<u8> {
     let mut value = field(b'S', members);
     for member in 0..members {
@@ -83,12 +85,13 @@ pub fn card(members: usize) -> Vec<u8> {
             8 => ("currency", string("EUR")),
             _ => ("position", integer(turn * 40)),
         };
-        value.extend([string(name), item].concat());
+        value.extend([string(&format!("{name} {turn}")), item].concat());
     }
     response(value)
 }
 
-/// A card of which each sixth member is a date, and each sixth a Double.
+/// A card of which each sixth member is a date, and each sixth a Double; its
+/// names are numbered too.
 pub fn dated_card(members: usize) -> Vec<u8> {
     let mut value = field(b'S', members);
     for member in 0..members {
@@ -104,12 +107,12 @@ pub fn dated_card(members: usize) -> Vec<u8> {
             4 => ("active", b"t".to_vec()),
             _ => ("currency", string("EUR")),
         };
-        value.extend([string(name), item].concat());
+        value.extend([string(&format!("{name} {turn}")), item].concat());
     }
     response(value)
 }
 
-/// Small Structs inside so many Arrays.
+/// Small Structs inside so many Arrays, all with the same two keys.
 pub fn nested_structs(levels: usize, structs: usize) -> Vec<u8> {
     let mut value = field(b'A', 1).repeat(levels - 1);
     value.extend(field(b'A', structs));
