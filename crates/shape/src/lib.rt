@@ -61,7 +61,15 @@ fn walk_method_and_array(
     let extent = extents::walk_string(table, room, rows, text, r);
     match extent {
         Extent::Unfit => Extent::Unfit,
-        Extent::Until(next) => containers::walk_array_only(table, room, rows, text, deep, next, notes),
+        Extent::Until(next) => containers::walk_array_only(
+            table,
+            room,
+            rows,
+            text,
+            deep,
+            next,
+            notes,
+        ),
     }
 }
 
