@@ -99,4 +99,8 @@ room-holds rows words h = omega arith
 pub ready-table : {rows room : ℕ} (words : ℕ) → rows ≤ 4096 → rows * 4 ≤ words → room ≡ roomOf 4096 words → Ready rows room words
 ready-table words h i e = record { stated = omega (arith, e); most = omega (arith, e); table = omega (arith, e) }
 
-pub ruleset whole = (table-long, table-empty, table-many, table-short, table-walked, ready-table)
+-- notes for as many rows as there may be
+pub rows-few : {rows room words : ℕ} → Ready rows room words → rows ≤ 4096
+rows-few h = omega (arith, h .stated, h .most)
+
+pub ruleset whole = (rows-few, table-long, table-empty, table-many, table-short, table-walked, ready-table)
