@@ -15,7 +15,7 @@ pub record Turn (f : Texts → Walk) (more : Texts → ℕ → Texts) (n first l
   pub same : items f more n [] first ≡ items f more left seen here
 
 module _ (f : Texts → Walk) (more : Texts → ℕ → Texts) where
-  items-more : (n : ℕ) (seen : Texts) (here next : ℕ) → 0 < n → f seen here ≡ Until next → items f more n seen here ≡ items f more (n - 1) (more seen here) next
+  pub items-more : (n : ℕ) (seen : Texts) (here next : ℕ) → 0 < n → f seen here ≡ Until next → items f more n seen here ≡ items f more (n - 1) (more seen here) next
   unfolding items
   items-more zero seen here next h e = absurd (omega arith)
   items-more (suc n) seen here next h e = rw (e, sub-one)
@@ -30,7 +30,7 @@ module _ (f : Texts → Walk) (more : Texts → ℕ → Texts) where
   items-none zero seen here h = refl
   items-none (suc n) seen here h = absurd (omega arith)
 
-  pub turn-first : (n first : ℕ) → Turn f more n first n first
+  unfoldable pub turn-first : (n first : ℕ) → Turn f more n first n first
   turn-first n first = record { seen = []; same = refl }
 
   module _ {n first left here : ℕ} (t : Turn f more n first left here) where

@@ -212,9 +212,9 @@ pub +walk-array+walk-pair+walk-pairs+walk-struct+walk-value+walk-values-spec :
     (λ c. search needs)  -- walk-value-enum-known-item
     (λ c κs. search needs)  -- walk-value-walk-content-requires
     (λ c. search needs)  -- walk-value-enum-told-3
-    (λ c κs. search needs)  -- walk-value-walk-array-requires
+    (λ c κs. (search needs, (search needs, search needs, search needs, search needs)))  -- walk-value-walk-array-requires
     (λ c. search needs)  -- walk-value-enum-told-4
-    (λ c κs. search needs)  -- walk-value-walk-struct-requires
+    (λ c κs. (search needs, (search needs, search needs, search needs, search needs)))  -- walk-value-walk-struct-requires
     (λ c. search needs)  -- walk-value-enum-told-5
     (λ c κs. search needs)  -- walk-value-walk-other-requires
     (λ c. search needs)  -- walk-value-enum-told-6
