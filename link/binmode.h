@@ -15,6 +15,13 @@
  * Anything else may be passed: every content, every length, every number of rows has its answer.
  *
  * A buffer need not be cleared before a call: what it held has no part in the answer, and all of it is settled afterwards.
+ *
+ * What a call takes of the stack, its buffers not counted, on x86-64 (measured on 32 Structs in one another, the innermost with
+ * 1,000 members; it grows with the nesting, and hardly with anything else):
+ *   binmode_read, binmode_read_card, binmode_pieces_next, binmode_pieces_end   48 KiB
+ *   binmode_lookup, binmode_position                                           37 KiB
+ *   binmode_write                                                              165 KiB
+ *   the others                                                                 under 1 KiB
  */
 #ifndef BINMODE_H
 #define BINMODE_H
@@ -223,7 +230,7 @@ struct binmode_pieces {
     uint64_t used;   /* the number of bytes used; 0 unless accepted */
     uint64_t place;  /* the place of a refusal; where more is wanted, the place that BINMODE_ENDED would have if it ended here */
     uint64_t held;   /* where more is wanted, how many bytes are held in the room; else 0 */
-    uint64_t wanted; /* where more is wanted, how many bytes have to be held before another answer is possible; else 0 */
+    uint64_t wanted; /* where more is wanted: with fewer bytes than this held no other answer comes (it may be no more than are held); else 0 */
 };
 
 /* Sets the state for a message of which nothing has come: more is wanted. */

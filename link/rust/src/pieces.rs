@@ -34,8 +34,8 @@ pub struct Pieces {
     pub place: u64,
     /// Where more is wanted, how many bytes are held in the room; else 0.
     pub held: u64,
-    /// Where more is wanted, how many bytes have to be held before another
-    /// answer is possible; else 0.
+    /// Where more is wanted: with fewer bytes than this held no other answer
+    /// comes (it may be no more than are held); else 0.
     pub wanted: u64,
 }
 
