@@ -1,3 +1,4 @@
 pub mod Cards
+pub mod Choosing
 pub mod Looking
 pub mod Reporting

@@ -1,4 +1,5 @@
 // Reading, writing and job files for programs in C and Rust. A slice passes as a pointer and then a length, a `&mut u64` as a pointer.
+mod job_defaults; // job_defaults.rt: job defaults behind a card
 mod lookups; // lookups.rt: looking up members, and positions
 
 use reader::Answer;
