@@ -8,7 +8,7 @@ use Prim.Native.String.{String}
 use lib.ListN.{length, replicate}
 use Rattle.text.specs.Utf8.{within, dueBy, dueAfter, step, octets, wellFormed}
 use Rattle.text.specs.Texts.{ascii, same, among, standardName}
-use Rattle.lexical.specs.Digits.{digit, digits, pair, two}
+use Rattle.lexical.specs.Digits.{digit, digits, pair as twoDigits, two}
 use Rattle.lexical.specs.Double.{sign, someDigits, pointed, unsigned, isDouble}
 use Rattle.lexical.specs.DateTime.{leap, monthDays, isDay, isDate, pairTo, isTime, parted, isDateTime}
 use Rattle.draft.specs.declared.Row.{Row}
@@ -175,5 +175,5 @@ given (c ∷ cs) = outcomeOf (c .sent) (c .words) (reading (c .sent) (c .words))
 
 -- THE STATEMENT: reading and the written form give what documents 01 and 02 say, for each case
 pub cases-read : given cases ≡ expected cases
-unfolding cases reading messageWithin message agree callOrResponse faultStruct heldRows heldOf isCode isMessage isFault faultRule nested value name only string contents tagOf alike items pair putRows setRow place recorded nameRule verdict contentRule isDouble unsigned pointed someDigits sign isDateTime parted isTime pairTo isDate isDay monthDays leap two pair digits digit standardName among same ascii wellFormed octets step dueAfter dueBy within rowAt from rowsOf itemOf textsOf repeats position sents lsb counted stringBytes itemBytes itemsOf messageOf written
+unfolding cases reading messageWithin message agree callOrResponse faultStruct heldRows heldOf isCode isMessage isFault faultRule nested value name only string contents tagOf alike items pair putRows setRow place recorded nameRule verdict contentRule isDouble unsigned pointed someDigits sign isDateTime parted isTime pairTo isDate isDay monthDays leap two twoDigits digits digit standardName among same ascii wellFormed octets step dueAfter dueBy within rowAt from rowsOf itemOf textsOf repeats position sents lsb counted stringBytes itemBytes itemsOf messageOf written
 cases-read = refl
