@@ -3,6 +3,7 @@
 //! where they differ.
 
 mod change;
+mod defaults;
 mod doubles_and_dates;
 mod edges;
 mod gather;
@@ -15,6 +16,7 @@ mod shortest;
 mod tally;
 mod writing;
 
+use defaults::Texts;
 use job::Jobs;
 use lookup::Lookups;
 use reading::{Compared, Reading};
@@ -57,6 +59,7 @@ fn compare(run: &mut Run) -> Compared {
     let mut writing = Writing::new();
     let mut jobs = Jobs::new();
     let mut lookups = Lookups::new();
+    let mut texts = Texts::new();
     shortest::tried(&mut run.random)?;
     doubles_and_dates::read(&mut run.random, &mut reading)?;
     doubles_and_dates::written(&mut run.random, &mut writing)?;
@@ -68,6 +71,7 @@ fn compare(run: &mut Run) -> Compared {
     while !run.tally.is_over() {
         reading.round(run)?;
         lookups.round(run)?;
+        texts.round(run)?;
         writing.round(run)?;
         if run.random.one_in(4) {
             jobs.round(run)?;

@@ -48,6 +48,7 @@ pub struct Tally {
     pub cards: [usize; NUMBERS],
     pub members: [usize; NUMBERS],
     pub positions: [usize; NUMBERS],
+    pub texts: [usize; NUMBERS],
 }
 
 impl Tally {
@@ -59,6 +60,7 @@ impl Tally {
             cards: [0; NUMBERS],
             members: [0; NUMBERS],
             positions: [0; NUMBERS],
+            texts: [0; NUMBERS],
         }
     }
 
@@ -96,6 +98,12 @@ impl Tally {
         self.positions[usize::from(number)] += 1;
     }
 
+    /// Notes a text asked for, with defaults behind it.
+    pub fn asked_text(&mut self, number: u8) {
+        self.left -= 1;
+        self.texts[usize::from(number)] += 1;
+    }
+
     pub fn print(&self) {
         let columns = [
             ("reading", &self.reading),
@@ -103,6 +111,7 @@ impl Tally {
             ("cards", &self.cards),
             ("members", &self.members),
             ("positions", &self.positions),
+            ("texts", &self.texts),
         ];
         let line = |number: &str, meaning: &str, cells: Vec<String>| {
             let cells: String = cells.iter().map(|cell| format!(" {cell:>10}")).collect();
