@@ -37,7 +37,7 @@ extern "C" {
 #define BINMODE_TOO_DEEP 8          /* read: an Array or Struct in more than 32, itself counted */
 #define BINMODE_NO_ROW 9            /* read: no row left in the table */
 #define BINMODE_TOO_LONG 10         /* both: message or text bytes over 65,536 */
-#define BINMODE_NOT_WRITABLE 11     /* write, lookup: the table is not writable */
+#define BINMODE_NOT_WRITABLE 11     /* write, lookup, default text: a table is not writable */
 #define BINMODE_FORM_TOO_LONG 12    /* write: the written form is over 65,536 bytes */
 #define BINMODE_OUTPUT_TOO_SHORT 13 /* write: the output is shorter than the written form */
 #define BINMODE_BAD_FAULT 14        /* read: a fault's Struct without exactly faultCode (Integer) and faultString (String) */
