@@ -9,6 +9,7 @@ use second::defaults::{Asked, Source, Text, default_text};
 use second::generate::{Random, Table, damage, key, row, structs, table};
 use second::hex;
 use second::rules::{ROW_WORDS, kind};
+use std::ops::Range;
 
 /// What the library reports of a text.
 #[derive(Clone, Copy, Debug, PartialEq, Eq)]
@@ -178,12 +179,14 @@ impl Texts {
         let own = self.card.asked(card.rows, row);
         let other = self.defaults.asked(defaults.rows, defaults_row);
         let by_library = by_library(rubbish, own, other, self.key.content());
-        let by_second = reported(default_text(own, other, key));
+        let text = default_text(own, other, key);
+        let by_second = reported(text);
+        let same_part = wrapped(own, other, key) == text.map(|text| part(own, other, text));
         let untouched = self.card.is_untouched(card)
             && self.defaults.is_untouched(defaults)
             && self.key.content() == key
             && self.key.is_whole();
-        if by_library == by_second && untouched {
+        if by_library == by_second && same_part && untouched {
             run.tally.asked_text(by_library.refusal);
             return Ok(());
         }
@@ -201,13 +204,40 @@ impl Texts {
     }
 }
 
+/// Where the Rust wrapper's text lies, and that it is the defaults'.
+fn wrapped(card: Asked, defaults: Asked, key: &[u8]) -> Result<(Range<*const u8>, bool), u8> {
+    let [card, defaults] = [card, defaults].map(|asked| binmode::Asked {
+        table: asked.table,
+        rows: asked.rows,
+        text: asked.text,
+        row: asked.row,
+    });
+    let (text, source) = binmode::default_text(card, defaults, key)?;
+    Ok((
+        text.as_bytes().as_ptr_range(),
+        source == binmode::Source::Defaults,
+    ))
+}
+
+/// Where the second implementation's text lies, and that it is the defaults'.
+fn part(card: Asked, defaults: Asked, text: Text) -> (Range<*const u8>, bool) {
+    let from_defaults = text.source == Source::Defaults;
+    let bytes = if from_defaults {
+        defaults.text
+    } else {
+        card.text
+    };
+    let part = &bytes[text.offset as usize..][..text.length as usize];
+    (part.as_ptr_range(), from_defaults)
+}
+
 fn any_table(random: &mut Random) -> Table {
     let mut table = match random.below(60) {
         0 => gathered_table(random),
         1..5 => table(random),
         _ => structs(random),
     };
-    if random.one_in(2) {
+    if !random.one_in(4) {
         with_texts(random, &mut table);
     }
     if random.one_in(10) {
@@ -216,17 +246,17 @@ fn any_table(random: &mut Random) -> Table {
     table
 }
 
-/// Some of the values that are no Strings made Strings; a Double and a date
+/// Most of the values that are no Strings made Strings; a Double and a date
 /// keep their content.
 fn with_texts(random: &mut Random, table: &mut Table) {
     let empty = table.text.is_empty();
     let (rows, _) = table.words.as_chunks_mut::<ROW_WORDS>();
     for row in rows {
         match row[0] {
-            kind::INTEGER | kind::BOOLEAN if random.one_in(2) && !empty => {
+            kind::INTEGER | kind::BOOLEAN if !random.one_in(4) && !empty => {
                 [row[0], row[1], row[2]] = [kind::STRING, 0, 1];
             }
-            kind::DOUBLE | kind::DATE_TIME if random.one_in(2) => row[0] = kind::STRING,
+            kind::DOUBLE | kind::DATE_TIME if !random.one_in(4) => row[0] = kind::STRING,
             _ => {}
         }
     }
