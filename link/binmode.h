@@ -45,7 +45,7 @@ extern "C" {
 #define BINMODE_TOO_DEEP 8          /* read: an Array or Struct in more than 32, itself counted */
 #define BINMODE_NO_ROW 9            /* read: no row left in the table */
 #define BINMODE_TOO_LONG 10         /* both: message or text bytes over 65,536 */
-#define BINMODE_NOT_WRITABLE 11     /* write, lookup: the table is not writable */
+#define BINMODE_NOT_WRITABLE 11     /* write, lookup, default text: a table is not writable */
 #define BINMODE_FORM_TOO_LONG 12    /* write: the written form is over 65,536 bytes */
 #define BINMODE_OUTPUT_TOO_SHORT 13 /* write: the output is shorter than the written form */
 #define BINMODE_BAD_FAULT 14        /* read: a fault's Struct without exactly faultCode (Integer) and faultString (String) */
@@ -208,6 +208,27 @@ uint8_t binmode_lookup(const uint32_t *table, size_t table_words, size_t rows, c
  */
 uint8_t binmode_position(const uint32_t *table, size_t table_words, size_t rows, const uint8_t *text, size_t text_len,
                          size_t row, double *x, double *y, double *turn);
+
+/*
+ * Job defaults behind a card: a text asked for by key is the card's if the card's Struct has the key, otherwise the defaults'. The
+ * card's member decides even if it is no String. Both tables are judged in every call, as for binmode_lookup.
+ *
+ *   table .. row          the card: its table, stated rows, text bytes and Struct's row, as for binmode_lookup
+ *   defaults_table .. defaults_row
+ *                         the defaults: the same
+ *   key, key_len          the bytes of the key
+ *   source                is set to BINMODE_FROM_CARD or BINMODE_FROM_DEFAULTS; to BINMODE_FROM_CARD on a refusal
+ *   offset, length        are set to where the text lies in that one's text bytes; to 0 on a refusal. It lies there wholly, and is UTF-8
+ *
+ * Gives BINMODE_ACCEPTED; or BINMODE_NOT_WRITABLE, for the card or else for the defaults; or BINMODE_NO_MEMBER, if either row is no
+ * Struct, if neither has the key, or if the member found is no String. Each has place 0.
+ */
+#define BINMODE_FROM_CARD 0
+#define BINMODE_FROM_DEFAULTS 1
+uint8_t binmode_default_text(const uint32_t *table, size_t table_words, size_t rows, const uint8_t *text, size_t text_len,
+                             size_t row, const uint32_t *defaults_table, size_t defaults_words, size_t defaults_rows,
+                             const uint8_t *defaults_text, size_t defaults_len, size_t defaults_row, const uint8_t *key,
+                             size_t key_len, uint8_t *source, uint64_t *offset, uint64_t *length);
 
 /*
  * Messages in pieces, as a serial port or a pipe brings them. The pieces are held in a room that the caller lends, and after

@@ -3,6 +3,7 @@
 //! CALLS`. Ends with 1 where they differ.
 
 mod change;
+mod defaults;
 mod doubles_and_dates;
 mod edges;
 mod gather;
@@ -17,6 +18,7 @@ mod state;
 mod tally;
 mod writing;
 
+use defaults::Texts;
 use job::Jobs;
 use lookup::Lookups;
 use pieces::InPieces;
@@ -61,6 +63,7 @@ fn compare(run: &mut Run) -> Compared {
     let mut jobs = Jobs::new();
     let mut lookups = Lookups::new();
     let mut pieces = InPieces::new();
+    let mut texts = Texts::new();
     shortest::tried(&mut run.random)?;
     doubles_and_dates::read(&mut run.random, &mut reading)?;
     doubles_and_dates::written(&mut run.random, &mut writing)?;
@@ -75,6 +78,7 @@ fn compare(run: &mut Run) -> Compared {
         reading.round(run)?;
         lookups.round(run)?;
         pieces.round(run)?;
+        texts.round(run)?;
         writing.round(run)?;
         if run.random.one_in(4) {
             jobs.round(run)?;

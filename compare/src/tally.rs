@@ -49,6 +49,7 @@ pub struct Tally {
     pub members: [usize; NUMBERS],
     pub positions: [usize; NUMBERS],
     pub pieces: [usize; NUMBERS],
+    pub texts: [usize; NUMBERS],
 }
 
 impl Tally {
@@ -61,6 +62,7 @@ impl Tally {
             members: [0; NUMBERS],
             positions: [0; NUMBERS],
             pieces: [0; NUMBERS],
+            texts: [0; NUMBERS],
         }
     }
 
@@ -104,6 +106,12 @@ impl Tally {
         self.pieces[usize::from(number)] += 1;
     }
 
+    /// Notes a text asked for, with defaults behind it.
+    pub fn asked_text(&mut self, number: u8) {
+        self.left -= 1;
+        self.texts[usize::from(number)] += 1;
+    }
+
     pub fn print(&self) {
         let columns = [
             ("reading", &self.reading),
@@ -112,6 +120,7 @@ impl Tally {
             ("members", &self.members),
             ("positions", &self.positions),
             ("in pieces", &self.pieces),
+            ("texts", &self.texts),
         ];
         let line = |number: &str, meaning: &str, cells: Vec<String>| {
             let cells: String = cells.iter().map(|cell| format!(" {cell:>10}")).collect();

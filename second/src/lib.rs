@@ -2,6 +2,7 @@
 //! from documents 01, 02 (as far as it has landed) and 002 only.
 
 pub mod corpus;
+pub mod defaults;
 pub mod generate;
 pub mod hex;
 pub mod job;

@@ -77,7 +77,7 @@ pub fn position(table: &[u32], rows: usize, text: &[u8], row: usize) -> Result<P
 }
 
 /// The row of the value that stands with this key in the Struct.
-fn find(rows: &[Row], text: &[u8], row: usize, key: &[u8]) -> Option<usize> {
+pub(crate) fn find(rows: &[Row], text: &[u8], row: usize, key: &[u8]) -> Option<usize> {
     let &[kind, _, pairs, _] = rows.get(row)?;
     if kind != kind::STRUCT {
         return None;

@@ -1,5 +1,6 @@
 pub mod Accepting
 pub mod Cases
+pub mod Defaults
 pub mod Jobs
 pub mod Lookups
 pub mod Pieces

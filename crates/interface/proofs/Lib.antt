@@ -1,4 +1,5 @@
 pub mod Cards
+pub mod Choosing
 pub mod InPieces
 pub mod Looking
 pub mod Reporting

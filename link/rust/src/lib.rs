@@ -8,10 +8,12 @@
 #[cfg(not(all(target_arch = "x86_64", target_os = "linux")))]
 compile_error!("the proved library is built for x86-64 Linux");
 
+mod defaults;
 mod job;
 mod lookup;
 mod pieces;
 
+pub use defaults::{Asked, Source, default_text};
 pub use job::{CardAnswer, CardFound, next_card, read_card};
 pub use lookup::{Lookup, Position, lookup, position};
 pub use pieces::{Pieces, Progress};

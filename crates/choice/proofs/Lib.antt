@@ -1,0 +1,2 @@
+-- The laws of `choice`.
+pub mod Handing

@@ -1,0 +1,2 @@
+-- The laws of `defaults`.
+pub mod Judging
