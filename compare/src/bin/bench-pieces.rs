@@ -3,7 +3,7 @@
 
 mod messages;
 
-use messages::{array, card, integer, text};
+use messages::{array, card, integer, tagged_card, text};
 use second::rules::{BYTE_LIMIT, ROW_LIMIT, ROW_WORDS};
 use second::{Read, Write};
 use std::hint::black_box;
@@ -23,8 +23,9 @@ fn main() {
         "message", "bytes", "piece", "whole", "in pieces", "ratio"
     );
     for piece in [1, 16, 64, 1_024] {
-        line("card of 300 members", &written(card(300)), piece);
+        line("card of 300 members, short names", &tagged_card(300), piece);
     }
+    line("card of 300 members, long names", &written(card(300)), 64);
     line("text of 65,000 bytes", &text(&"a".repeat(65_000)), 1);
     line("4,000 Integers", &array(4_000, integer), 1);
     println!("\ngrowth");

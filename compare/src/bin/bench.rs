@@ -3,7 +3,9 @@
 
 mod messages;
 
-use messages::{array, card, dated_card, different, equal, integer, mixed_text, nested_structs, text};
+use messages::{
+    array, card, dated_card, different, equal, integer, mixed_text, nested_structs, text,
+};
 use second::rules::{BYTE_LIMIT, ROW_LIMIT, ROW_WORDS};
 use second::{Read, Write};
 use std::hint::black_box;

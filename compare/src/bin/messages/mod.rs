@@ -90,6 +90,26 @@ pub fn card(members: usize) -> Vec<u8> {
     response(value)
 }
 
+/// A card whose members' names are tags of two letters, and whose values are
+/// Integers and Booleans: about ten bytes a member.
+pub fn tagged_card(members: usize) -> Vec<u8> {
+    let mut value = field(b'S', members);
+    for member in 0..members {
+        let letter = |place: usize| char::from(b'A' + (place % 26) as u8);
+        let item = match member % 3 {
+            0 => integer(member),
+            _ => b"t".to_vec(),
+        };
+        value.extend(string(&format!(
+            "{}{}",
+            letter(member / 26),
+            letter(member)
+        )));
+        value.extend(item);
+    }
+    response(value)
+}
+
 /// A card of which each sixth member is a date, and each sixth a Double; its
 /// names are numbered too.
 pub fn dated_card(members: usize) -> Vec<u8> {
