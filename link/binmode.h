@@ -1,6 +1,6 @@
 /*
  * Reading and writing Binmode RPC messages, whole or in pieces, reading the cards of job files, and looking up members: the
- * functions that libinterface.a exports (x86-64, C's calling convention).
+ * functions that libbinmode.a exports (x86-64, C's calling convention).
  *
  * No memory is allocated, nothing is kept from call to call but what the caller hands on, and of the C library only memset and its like are used,
  * so calls may run at the same time as long as each has its own buffers.

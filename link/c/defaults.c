@@ -8,7 +8,7 @@
  * every byte that is not printable ASCII is \xHH, so that no byte of a card commands a terminal. If the defaults' message is
  * refused, that is the only line: `defaults refused R at P`. Ends with 0 if each card has a text and the job is sound, 1 after a refusal
  * and 2 for trouble.
- * From the repository's root: cc -O2 -I link link/c/defaults.c target/staticlib/libinterface.a -o target/defaults
+ * From the repository's root: cc -O2 -I link link/c/defaults.c target/staticlib/libbinmode.a -o target/defaults
  */
 #include "binmode.h"
 #include <inttypes.h>

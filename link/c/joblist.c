@@ -1,6 +1,6 @@
 /*
  * Lists a job file, as the program joblist does: joblist FILE [NUMBER]
- * From the repository's root: cc -O2 -I link link/c/joblist.c target/staticlib/libinterface.a -o target/joblist
+ * From the repository's root: cc -O2 -I link link/c/joblist.c target/staticlib/libbinmode.a -o target/joblist
  */
 #include "binmode.h"
 #include <inttypes.h>

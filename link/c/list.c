@@ -1,6 +1,6 @@
 /*
  * Lists the message in a file, as the listing program does: list FILE
- * From the repository's root: cc -O2 -I link link/c/list.c target/staticlib/libinterface.a -o target/list
+ * From the repository's root: cc -O2 -I link link/c/list.c target/staticlib/libbinmode.a -o target/list
  */
 #include "binmode.h"
 #include <inttypes.h>

@@ -2,7 +2,7 @@
  * Lists a message as it comes in over a pipe or a serial line: pieces [DEVICE]
  * Each piece is what one `read` gives, and the message is listed as soon as it is decided, without waiting for the end.
  * Ends with 0 if it is accepted, 1 if it is refused, 2 on trouble. A serial line is set up beforehand: stty -F DEVICE raw -echo 9600
- * From the repository's root: cc -O2 -I link link/c/pieces.c target/staticlib/libinterface.a -o target/pieces
+ * From the repository's root: cc -O2 -I link link/c/pieces.c target/staticlib/libbinmode.a -o target/pieces
  */
 #include "binmode.h"
 #include <errno.h>

@@ -4,7 +4,7 @@
  *
  * It prints `x N`, `y N` and `turn N`, or `refused N at P`, the message's refusal or the position's. Ends with 0 for a position, 1 for
  * a refusal and 2 for trouble.
- * From the repository's root: cc -O2 -I link link/c/position.c target/staticlib/libinterface.a -o target/position
+ * From the repository's root: cc -O2 -I link link/c/position.c target/staticlib/libbinmode.a -o target/position
  */
 #include "binmode.h"
 #include <inttypes.h>

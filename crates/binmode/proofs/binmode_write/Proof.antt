@@ -1,0 +1,15 @@
+use Rattle.binmode.proofs.Reporting.{reporting}
+use borrow.Author.Needs.{needs}
+use Rattle.binmode.proofs.binmode_write.Statement.{statement}
+use Rattle.binmode.proofs.binmode_write.Tie as tie
+
+pub binmode-write-spec : {M : Type 1} → statement M
+binmode-write-spec = tie.close (tie.spec
+    (λ c κs. search needs)  -- write-requires
+    (λ c. search needs)  -- enum-known-answer
+    (λ c. search needs)  -- enum-known-answer-2
+    (λ c κs. search needs)  -- number-requires
+    (λ c. search needs)  -- same-length
+    (λ c. search reporting)  -- returns
+    (λ c. search needs)  -- same-length-2
+    (λ c. search reporting))  -- returns-2
