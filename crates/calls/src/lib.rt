@@ -29,7 +29,7 @@ fn read_array_only(
         return item::refuse(Refusal::Ended, at);
     }
     if s[at] == b'A' {
-        value::read_array(s, at, row, deep, room, table, book, notes)
+        value::read_value(s, at, row, deep, room, table, book, notes)
     } else {
         item::refuse(Refusal::UnexpectedByte, at)
     }

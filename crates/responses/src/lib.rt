@@ -29,7 +29,7 @@ fn read_struct_only(
         return item::refuse(Refusal::Ended, at);
     }
     if s[at] == b'S' {
-        value::read_struct(s, at, row, deep, room, table, book, notes)
+        value::read_value(s, at, row, deep, room, table, book, notes)
     } else {
         item::refuse(Refusal::UnexpectedByte, at)
     }

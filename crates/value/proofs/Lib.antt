@@ -1,4 +1,4 @@
-pub mod Values
 pub mod Turns
 pub mod Taking
 pub mod Keys
+pub mod Items

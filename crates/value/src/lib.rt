@@ -1,20 +1,115 @@
-// Reading a Value. An Array's items may be Arrays or Structs, and a Struct's values likewise: the functions here call one another
-// in a cycle, in which `deep`, the nesting left, falls at each Array and Struct, and the bytes left at each item. The keys of all Structs
-// are noted in the lent words `notes`.
-// Before a call in the cycle the slice is copied, `let t = s;`: `s` itself came in as two words stored singly, and to lend it on from
-// where it lies loads both at once, which waits for the stores; the copy is made of registers.
-use draft::Refusal;
+// Reading a Value. An Array's items may be Arrays or Structs, and a Struct's values likewise: `read_items` reads the values of an Array or
+// the pairs of a Struct, and `read_contents` what one of them holds; they call one another in a cycle, in which `deep`, the nesting left,
+// falls at each Array and Struct, and the bytes left at each item. The keys of all Structs are noted in the lent words `notes`.
+// Items that hold no others are read in the loop, by the only call of `read_scalar`: a function of a cycle is never inlined, and one that
+// is called once always is. Before a call in the cycle the slice is copied, `let t = s;`: `s` itself came in as two words stored singly,
+// and to lend it on from where it lies loads both at once, which waits for the stores; the copy is made of registers.
 use item::Step;
 ghost use mathlib.Core.Path.{_≡_};
-ghost use mathlib.Core.List.{[]};
-ghost use Prim.Native.Nat.{_+_, _≤_, _<_};
-ghost use lib.ListN.{length};
-ghost use Rattle.draft.specs.Read.{items, alike, nothing, member, keeping, arrayItem, structItem, value, nested};
+ghost use mathlib.Core.Bool.{true};
+ghost use Prim.Native.Nat.{_+_, _-_, _≤_, _<_, min};
+ghost use lib.ListN.{length, getD};
+ghost use lib.Dec.{eqb};
+ghost use Rattle.draft.specs.Read.{value};
 ghost use Rattle.codebook.specs.Words.{bookOf};
-ghost use Rattle.item.specs.Contract.{Ready, Did};
-ghost use Rattle.keys.specs.Notes.{named, keysOf, Noted};
-ghost use Rattle.member_keys.specs.Contract.{Entries, After, Joined};
+ghost use Rattle.member_keys.specs.Contract.{Prepared, Done};
+ghost use Rattle.heads.specs.Items.{entries, contentsOf, Begun};
 
+// What the Array or the Struct at `at` holds, and its row.
+fn read_contents(
+    s: &[u8],
+    at: usize,
+    row: usize,
+    deep: usize,
+    room: usize,
+    table: &mut [u32],
+    book: &mut [u32],
+    notes: &mut [u16],
+) -> Step
+    requires { ⌜ Begun (now s) room deep at row × Prepared (now s) at row room (now table) (now book) (now notes) ⌝ }
+    ensures { λ r. ⌜ Done (contentsOf (now (s .entry)) room (eqb (getD (now (s .entry)) at 0) 83) (value (now (s .entry)) room (deep - 1)) at row (bookOf (now (book .entry)))) (now (s .entry)) room (at + 1) row (now (table .entry)) (now (table .exit)) (now (book .exit)) (now (notes .entry)) (now (notes .exit)) r ⌝ }
+{
+    let t = s;
+    let keyed = s[at] == b'S';
+    let n = item::unsigned(s, at + 1);
+    let step = read_items(
+        t,
+        at + 5,
+        row + 1,
+        deep - 1,
+        n,
+        keyed,
+        room,
+        table,
+        book,
+        notes,
+    );
+    item::close(step, heads::kind_for(keyed), n as u32, row, room, table)
+}
+
+// n items, one after the other, each behind its key if they have keys. Their Struct is known to the notes by the row where they begin.
+fn read_items(
+    s: &[u8],
+    at: usize,
+    row: usize,
+    deep: usize,
+    n: usize,
+    keyed: bool,
+    room: usize,
+    table: &mut [u32],
+    book: &mut [u32],
+    notes: &mut [u16],
+) -> Step
+    requires { ⌜ (keyed ≡ true → 0 < row) × Prepared (now s) at row room (now table) (now book) (now notes) ⌝ }
+    ensures { λ r. ⌜ Done (entries (now (s .entry)) room keyed (value (now (s .entry)) room deep) n at row (bookOf (now (book .entry)))) (now (s .entry)) room (at + min n 1) row (now (table .entry)) (now (table .exit)) (now (book .exit)) (now (notes .entry)) (now (notes .exit)) r ⌝ }
+{
+    let mut left = n;
+    let mut next = at;
+    let mut free = row;
+    while 0 < left {
+        let key = heads::read_key_and_head(
+            keyed,
+            s,
+            next,
+            free,
+            deep,
+            room,
+            table,
+            book,
+            notes,
+            row,
+        );
+        if key.number != 0 {
+            return key;
+        }
+        let here = key.at;
+        if heads::holds_items(s[here]) {
+            let t = s;
+            let step = read_contents(t, here, key.row, deep, room, table, book, notes);
+            if step.number != 0 {
+                return step;
+            }
+            next = step.at;
+            free = step.row;
+            left -= 1;
+        } else {
+            let step = scalar::read_scalar(s, here, key.row, room, table, book);
+            if step.number != 0 {
+                return step;
+            }
+            next = step.at;
+            free = step.row;
+            left -= 1;
+        }
+    }
+    Step {
+        number: 0,
+        at: next,
+        row: free,
+    }
+}
+
+// The Value at `at`: one item without a key.
 pub fn read_value(
     s: &[u8],
     at: usize,
@@ -25,167 +120,8 @@ pub fn read_value(
     book: &mut [u32],
     notes: &mut [u16],
 ) -> Step
-    requires { ⌜ Ready at row room (length (now s)) (length (now table)) (length (now book)) × Entries at row room (length (now s)) (length (now notes)) × Noted (named (now s) room (now table)) (now notes) row ⌝ }
-    ensures { λ r. ⌜ Did (value (now (s .entry)) room deep at row (bookOf (now (book .entry)))) (length (now (s .entry))) room (at + 1) row (now (table .entry)) (now (table .exit)) (now (book .exit)) r × After (named (now (s .entry)) room (now (table .entry))) (named (now (s .entry)) room (now (table .exit))) (now (notes .entry)) (now (notes .exit)) row r ⌝ }
+    requires { ⌜ Prepared (now s) at row room (now table) (now book) (now notes) ⌝ }
+    ensures { λ r. ⌜ Done (value (now (s .entry)) room deep at row (bookOf (now (book .entry)))) (now (s .entry)) room (at + 1) row (now (table .entry)) (now (table .exit)) (now (book .exit)) (now (notes .entry)) (now (notes .exit)) r ⌝ }
 {
-    let t = s;
-    if s.len() <= at {
-        return item::refuse(Refusal::Ended, at);
-    }
-    match s[at] {
-        b'A' => read_array(t, at, row, deep, room, table, book, notes),
-        b'S' => read_struct(t, at, row, deep, room, table, book, notes),
-        _ => scalar::read_scalar(s, at, row, room, table, book),
-    }
-}
-
-// The Array whose byte stands at `at`.
-pub fn read_array(
-    s: &[u8],
-    at: usize,
-    row: usize,
-    deep: usize,
-    room: usize,
-    table: &mut [u32],
-    book: &mut [u32],
-    notes: &mut [u16],
-) -> Step
-    requires { ⌜ (at < length (now s)) × Ready at row room (length (now s)) (length (now table)) (length (now book)) × Entries at row room (length (now s)) (length (now notes)) × Noted (named (now s) room (now table)) (now notes) row ⌝ }
-    ensures { λ r. ⌜ Did (arrayItem (now (s .entry)) room (nested (now (s .entry)) room deep) at row (bookOf (now (book .entry)))) (length (now (s .entry))) room (at + 1) row (now (table .entry)) (now (table .exit)) (now (book .exit)) r × After (named (now (s .entry)) room (now (table .entry))) (named (now (s .entry)) room (now (table .exit))) (now (notes .entry)) (now (notes .exit)) row r ⌝ }
-{
-    let t = s;
-    if deep == 0 {
-        return item::refuse(Refusal::TooDeep, at);
-    }
-    if room <= row {
-        return item::refuse(Refusal::NoRow, at);
-    }
-    let values_at = at + 5;
-    if s.len() < values_at {
-        return item::refuse(Refusal::Ended, at);
-    }
-    let n = item::unsigned(s, at + 1);
-    let step = read_values(t, values_at, row + 1, deep - 1, n, room, table, book, notes);
-    item::close(step, 9, n as u32, row, room, table)
-}
-
-fn read_values(
-    s: &[u8],
-    at: usize,
-    row: usize,
-    deep: usize,
-    n: usize,
-    room: usize,
-    table: &mut [u32],
-    book: &mut [u32],
-    notes: &mut [u16],
-) -> Step
-    requires { ⌜ Ready at row room (length (now s)) (length (now table)) (length (now book)) × Entries at row room (length (now s)) (length (now notes)) × Noted (named (now s) room (now table)) (now notes) row ⌝ }
-    ensures { λ r. ⌜ Did (items (alike (value (now (s .entry)) room deep)) nothing n [] [] at row (bookOf (now (book .entry)))) (length (now (s .entry))) room at row (now (table .entry)) (now (table .exit)) (now (book .exit)) r × After (named (now (s .entry)) room (now (table .entry))) (named (now (s .entry)) room (now (table .exit))) (now (notes .entry)) (now (notes .exit)) row r ⌝ }
-{
-    let mut values = n;
-    let mut next = at;
-    let mut free = row;
-    while 0 < values {
-        let step = read_value(s, next, free, deep, room, table, book, notes);
-        if step.number != 0 {
-            return step;
-        }
-        next = step.at;
-        free = step.row;
-        values -= 1;
-    }
-    Step {
-        number: 0,
-        at: next,
-        row: free,
-    }
-}
-
-// The Struct whose byte stands at `at`.
-pub fn read_struct(
-    s: &[u8],
-    at: usize,
-    row: usize,
-    deep: usize,
-    room: usize,
-    table: &mut [u32],
-    book: &mut [u32],
-    notes: &mut [u16],
-) -> Step
-    requires { ⌜ (at < length (now s)) × Ready at row room (length (now s)) (length (now table)) (length (now book)) × Entries at row room (length (now s)) (length (now notes)) × Noted (named (now s) room (now table)) (now notes) row ⌝ }
-    ensures { λ r. ⌜ Did (structItem (now (s .entry)) room (nested (now (s .entry)) room deep) at row (bookOf (now (book .entry)))) (length (now (s .entry))) room (at + 1) row (now (table .entry)) (now (table .exit)) (now (book .exit)) r × After (named (now (s .entry)) room (now (table .entry))) (named (now (s .entry)) room (now (table .exit))) (now (notes .entry)) (now (notes .exit)) row r ⌝ }
-{
-    let t = s;
-    if deep == 0 {
-        return item::refuse(Refusal::TooDeep, at);
-    }
-    if room <= row {
-        return item::refuse(Refusal::NoRow, at);
-    }
-    let pairs_at = at + 5;
-    if s.len() < pairs_at {
-        return item::refuse(Refusal::Ended, at);
-    }
-    let n = item::unsigned(s, at + 1);
-    let step = read_pairs(t, pairs_at, row + 1, deep - 1, n, room, table, book, notes);
-    item::close(step, 10, n as u32, row, room, table)
-}
-
-// A Struct's pairs. The Struct is known to the notes by the row where they begin.
-fn read_pairs(
-    s: &[u8],
-    at: usize,
-    row: usize,
-    deep: usize,
-    n: usize,
-    room: usize,
-    table: &mut [u32],
-    book: &mut [u32],
-    notes: &mut [u16],
-) -> Step
-    requires { ⌜ (0 < row) × Ready at row room (length (now s)) (length (now table)) (length (now book)) × Entries at row room (length (now s)) (length (now notes)) × Noted (named (now s) room (now table)) (now notes) row ⌝ }
-    ensures { λ r. ⌜ Did (items (member (now (s .entry)) room (value (now (s .entry)) room deep)) (keeping (now (s .entry)) room) n [] [] at row (bookOf (now (book .entry)))) (length (now (s .entry))) room at row (now (table .entry)) (now (table .exit)) (now (book .exit)) r × After (named (now (s .entry)) room (now (table .entry))) (named (now (s .entry)) room (now (table .exit))) (now (notes .entry)) (now (notes .exit)) row r ⌝ }
-{
-    let mut pairs = n;
-    let mut next = at;
-    let mut free = row;
-    while 0 < pairs {
-        let t = s;
-        let step = read_pair(t, next, free, deep, room, table, book, notes, row);
-        if step.number != 0 {
-            return step;
-        }
-        next = step.at;
-        free = step.row;
-        pairs -= 1;
-    }
-    Step {
-        number: 0,
-        at: next,
-        row: free,
-    }
-}
-
-// A key and its value.
-fn read_pair(
-    s: &[u8],
-    at: usize,
-    row: usize,
-    deep: usize,
-    room: usize,
-    table: &mut [u32],
-    book: &mut [u32],
-    notes: &mut [u16],
-    owner: usize,
-) -> Step
-    requires { ⌜ (0 < owner) × (owner ≤ row) × Ready at row room (length (now s)) (length (now table)) (length (now book)) × Entries at row room (length (now s)) (length (now notes)) × Noted (named (now s) room (now table)) (now notes) row ⌝ }
-    ensures { λ r. ⌜ Did (member (now (s .entry)) room (value (now (s .entry)) room deep) (keysOf (named (now (s .entry)) room (now (table .entry))) (now (notes .entry)) owner row) at row (bookOf (now (book .entry)))) (length (now (s .entry))) room (at + 1) row (now (table .entry)) (now (table .exit)) (now (book .exit)) r × Joined (named (now (s .entry)) room (now (table .entry))) (named (now (s .entry)) room (now (table .exit))) (now (notes .entry)) (now (notes .exit)) owner row r ⌝ }
-{
-    let t = s;
-    let step = member_keys::read_key(t, at, row, room, table, book, notes, owner);
-    if step.number != 0 {
-        return step;
-    }
-    read_value(t, step.at, step.row, deep, room, table, book, notes)
+    read_items(s, at, row, deep, 1, false, room, table, book, notes)
 }

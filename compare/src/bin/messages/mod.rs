@@ -40,6 +40,37 @@ pub fn integer(index: usize) -> Vec<u8> {
     field(b'I', index.wrapping_mul(0x9e37_79b9))
 }
 
+pub fn boolean(index: usize) -> Vec<u8> {
+    vec![if index.is_multiple_of(3) { b't' } else { b'f' }]
+}
+
+pub fn decimal(index: usize) -> Vec<u8> {
+    double(&format!("-{index}.25"))
+}
+
+pub fn day(index: usize) -> Vec<u8> {
+    date(&format!("{}07{:02}T14:08:55", 1900 + index % 200, 1 + index % 31))
+}
+
+pub fn binary(index: usize) -> Vec<u8> {
+    [field(b'B', 8), index.to_le_bytes().to_vec()].concat()
+}
+
+pub fn other(index: usize) -> Vec<u8> {
+    [b"O".to_vec(), string("chip"), binary(index)].concat()
+}
+
+/// An Array of one Boolean.
+pub fn small_array(index: usize) -> Vec<u8> {
+    [field(b'A', 1), boolean(index)].concat()
+}
+
+/// The draft's call of `add` with two Integers.
+pub fn add_call() -> Vec<u8> {
+    let arguments = [field(b'A', 2), field(b'I', 2), field(b'I', 2)].concat();
+    [PREFIX, &b"C"[..], &string("add"), &arguments].concat()
+}
+
 pub fn different(index: usize) -> Vec<u8> {
     string(&format!("text{index:04}"))
 }

@@ -1,3 +1,4 @@
+use Rattle.member_keys.proofs.Keying.{prepared-blank}
 use Rattle.responses.proofs.Responding.{responding}
 use borrow.Author.Needs.{needs}
 use Rattle.responses.proofs.read_response.Statement.{statement}
@@ -16,7 +17,7 @@ read-response-spec = tie.close (tie.spec
     (λ c κs. (search needs, search needs, search needs))  -- read-fault-struct-requires
     (λ c κs. (search responding, search needs, search needs, search needs))  -- close-requires
     (λ c. search needs)  -- add-read-value
-    (λ c κs. (search needs, search needs, search responding))  -- read-value-requires
+    (λ c κs. prepared-blank (search needs) (search needs) (search needs))  -- read-value-requires
     (λ c κs. (search responding, search needs, search needs, search needs))  -- close-requires-2
     (λ c. search needs)  -- same-length
     (λ c. search needs)  -- same-length-2

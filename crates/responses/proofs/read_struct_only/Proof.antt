@@ -8,7 +8,7 @@ read-struct-only-spec = tie.close (tie.spec
     (λ c κs. search needs)  -- refuse-requires
     (λ c. search responding)  -- returns
     (λ c. search needs)  -- shared-slice-read-if2
-    (λ c κs. (search needs, search needs, search needs, search responding))  -- read-struct-requires
+    (λ c κs. search responding)  -- read-value-requires
     (λ c κs. search needs)  -- refuse-requires-2
     (λ c. search needs)  -- same-length
     (λ c. search needs)  -- same-length-2

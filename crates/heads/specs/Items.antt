@@ -1,0 +1,69 @@
+-- What the functions here read: items with keys or without, one after the other, and what an Array or a Struct begins with and holds.
+-- Assumes nothing.
+use Prim.Native.Nat.{ℕ, _+_, _≤_, _<_}
+use mathlib.Core.Path.{_≡_}
+use mathlib.Core.Bool.{Bool, true, false, _||_}
+use mathlib.Core.List.{List, []}
+use lib.ListN.{length, getD}
+use lib.Dec.{leb, ltb, eqb}
+use Rattle.draft.specs.declared.Refusal.the-variants.{Ended, TooDeep, NoRow}
+use Rattle.draft.specs.declared.Row.{Row}
+use Rattle.draft.specs.Bytes.{unsignedAt}
+use Rattle.draft.specs.Read.{Reader, Texts, items, alike, nothing, member, keeping, over, value}
+use Rattle.codebook.specs.Words.{bookOf}
+use Rattle.item.specs.declared.Step.{Step}
+use Rattle.item.specs.Contract.{refusedAt, readTo, Did}
+use Rattle.member_keys.specs.Contract.{KeyIf}
+
+abbrev pub pickStep : Bool → Step → Step → Step
+pickStep true x y = x
+pickStep false x y = y
+
+-- a byte that begins an Array or a Struct
+unfoldable pub holdsItems : ℕ → Bool
+holdsItems b = eqb b 65 || eqb b 83
+
+-- what an Array or a Struct begins with: 8, 9, or 1 for its count
+unfoldable pub headOf : ℕ → ℕ → ℕ → ℕ → ℕ → Step
+headOf bytes room deep at r =
+    pickStep (eqb deep 0) (refusedAt TooDeep at)
+    (pickStep (ltb r room)
+    (pickStep (leb (at + 5) bytes) (readTo at r) (refusedAt Ended at))
+    (refusedAt NoRow at))
+
+-- a Struct's items have keys, an Array's have none
+abbrev pub kindFor : Bool → ℕ
+kindFor true = 10
+kindFor false = 9
+
+module _ (s : List ℕ) (room : ℕ) where
+  -- an item that f reads, behind its key if there are keys
+  abbrev pub entry : Bool → Reader → Texts → Reader
+  entry true f = member s room f
+  entry false f = alike f
+
+  -- the texts seen with it
+  abbrev pub kept : Bool → Texts → List Row → Texts
+  kept true = keeping s room
+  kept false = nothing
+
+  -- n items
+  unfoldable pub entries : Bool → Reader → ℕ → Reader
+  entries keyed f n at r book = items (entry keyed f) (kept keyed) n [] [] at r book
+
+  -- what an Array or a Struct holds, with its own row in front
+  unfoldable pub contentsOf : Bool → Reader → Reader
+  contentsOf keyed f at r book = over (kindFor keyed) (unsignedAt s (at + 1)) r (entries keyed f (unsignedAt s (at + 1)) (at + 5) (r + 1) book)
+
+-- an Array or a Struct begins at a place, and its count is there, with a row for it and a level of nesting left
+pub record Begun (s : List ℕ) (room deep at r : ℕ) : Type 0 where
+  pub count : at + 5 ≤ length s
+  pub row : r < room
+  pub level : 0 < deep
+
+-- what reading an item's key, if items have keys, and looking at the item's first byte came to: the key is refused; the item is; or neither,
+-- and the item is there, and may begin if it is an Array or a Struct
+pub data Entered (keyed : Bool) (s : List ℕ) (room deep owner at r : ℕ) (T T′ W W′ N N′ : List ℕ) : Step → Type 0 where
+  no-key : {step : Step} → KeyIf keyed s room owner at r T T′ W W′ N N′ step → (step .number ≡ 0 → ⊥) → Entered keyed s room deep owner at r T T′ W W′ N N′ step
+  no-item : {key step : Step} → KeyIf keyed s room owner at r T T′ W W′ N N′ key → key .number ≡ 0 → Did (value s room deep (key .at) (key .row) (bookOf W′)) (length s) room (key .at + 1) (key .row) T′ T′ W′ step → (step .number ≡ 0 → ⊥) → Entered keyed s room deep owner at r T T′ W W′ N N′ step
+  item : {step : Step} → KeyIf keyed s room owner at r T T′ W W′ N N′ step → step .number ≡ 0 → step .at < length s → (holdsItems (getD s (step .at) 0) ≡ true → Begun s room deep (step .at) (step .row)) → Entered keyed s room deep owner at r T T′ W W′ N N′ step
