@@ -454,6 +454,24 @@ static inline int32_t binmode_integer(const struct binmode_view *view, size_t ro
     return found.a <= INT32_MAX ? (int32_t)found.a : -1 - (int32_t)(UINT32_MAX - found.a);
 }
 
+/* What binmode_lookup reports, together. */
+struct binmode_found {
+    uint8_t sort; /* BINMODE_SORT_* */
+    int64_t number;
+    double decimal;
+    size_t offset;
+    size_t length;
+};
+
+/* binmode_lookup in a table that is looked at, by the bytes of a key. */
+static inline uint8_t binmode_find(const struct binmode_view *view, size_t row, const void *key, size_t key_len,
+                                   struct binmode_found *found)
+{
+    return binmode_lookup(view->table, view->table_words, view->rows, binmode_bytes(view->text), view->text_len, row,
+                          binmode_bytes(key), key_len, &found->sort, &found->number, &found->decimal, &found->offset,
+                          &found->length);
+}
+
 /* The name of a kind: "Integer"; "?" for a number that is none. */
 static inline const char *binmode_kind_name(uint32_t kind)
 {

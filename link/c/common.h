@@ -87,6 +87,26 @@ static inline void print_rows(const struct binmode_view *view)
     }
 }
 
+/*
+ * Reads a message, or of a job file the card of a number, into a table of BINMODE_TABLE_WORDS words: FINE, and what is to be looked at; or
+ * REFUSED, which is printed.
+ */
+static inline int load(const uint8_t *file, size_t length, const size_t *card, uint32_t *table, struct binmode_view *view)
+{
+    size_t rows, used, place, body = 0;
+    uint8_t number = card == NULL
+                         ? binmode_read(file, length, table, BINMODE_TABLE_WORDS, &rows, &used, &place)
+                         : binmode_read_card(file, length, *card, table, BINMODE_TABLE_WORDS, &rows, &used, &place, &body);
+    if (number != BINMODE_ACCEPTED)
+        return print_refusal(number, place);
+    view->table = table;
+    view->table_words = BINMODE_TABLE_WORDS;
+    view->rows = rows;
+    view->text = file + body;
+    view->text_len = used;
+    return FINE;
+}
+
 /* Says what went wrong with a file, by errno. */
 static inline int trouble(const char *name)
 {

@@ -34,12 +34,10 @@ static int list_all(const uint8_t *file, size_t length)
 
 static int list_one(const uint8_t *file, size_t length, size_t number)
 {
-    size_t rows, used, place, body;
-    uint8_t answer = binmode_read_card(file, length, number, table, BINMODE_TABLE_WORDS, &rows, &used, &place, &body);
-    if (answer != BINMODE_ACCEPTED)
-        return print_refusal(answer, place);
-    struct binmode_view view = {table, BINMODE_TABLE_WORDS, rows, file + body, used};
-    printf("rows %zu used %zu body %zu\n", rows, used, body);
+    struct binmode_view view;
+    if (load(file, length, &number, table, &view) != FINE)
+        return REFUSED;
+    printf("rows %zu used %zu body %zu\n", view.rows, view.text_len, (size_t)(view.text - file));
     print_rows(&view);
     return FINE;
 }

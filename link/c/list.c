@@ -8,12 +8,10 @@ static uint32_t table[BINMODE_TABLE_WORDS];
 
 static int list(const uint8_t *message, size_t length)
 {
-    size_t rows, used, place;
-    uint8_t number = binmode_read(message, length, table, BINMODE_TABLE_WORDS, &rows, &used, &place);
-    if (number != BINMODE_ACCEPTED)
-        return print_refusal(number, place);
-    struct binmode_view view = {table, BINMODE_TABLE_WORDS, rows, message, used};
-    printf("rows %zu used %zu\n", rows, used);
+    struct binmode_view view;
+    if (load(message, length, NULL, table, &view) != FINE)
+        return REFUSED;
+    printf("rows %zu used %zu\n", view.rows, view.text_len);
     print_rows(&view);
     return FINE;
 }

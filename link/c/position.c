@@ -9,33 +9,15 @@
 
 static uint32_t table[BINMODE_TABLE_WORDS];
 
-/* The position in the Struct of a row, in the table that reading left; 17 digits tell any two values apart. */
-static int print_position(size_t rows, const uint8_t *text, size_t length, size_t row)
+/* 17 digits tell any two values apart. */
+static int print_position(const struct binmode_view *view, size_t row)
 {
     double x, y, turn;
-    uint8_t number = binmode_position(table, BINMODE_TABLE_WORDS, rows, text, length, row, &x, &y, &turn);
+    uint8_t number = binmode_position(view->table, view->table_words, view->rows, view->text, view->text_len, row, &x, &y, &turn);
     if (number != BINMODE_ACCEPTED)
         return print_refusal(number, 0);
     printf("x %.17g\ny %.17g\nturn %.17g\n", x, y, turn);
     return FINE;
-}
-
-static int of_message(const uint8_t *message, size_t length, size_t row)
-{
-    size_t rows, used, place;
-    uint8_t number = binmode_read(message, length, table, BINMODE_TABLE_WORDS, &rows, &used, &place);
-    if (number != BINMODE_ACCEPTED)
-        return print_refusal(number, place);
-    return print_position(rows, message, used, row);
-}
-
-static int of_card(const uint8_t *file, size_t length, size_t row, size_t card)
-{
-    size_t rows, used, place, body;
-    uint8_t number = binmode_read_card(file, length, card, table, BINMODE_TABLE_WORDS, &rows, &used, &place, &body);
-    if (number != BINMODE_ACCEPTED)
-        return print_refusal(number, place);
-    return print_position(rows, file + body, used, row);
 }
 
 int main(int count, char **words)
@@ -55,7 +37,10 @@ int main(int count, char **words)
     uint8_t *file = count == 3 ? read_input(words[1], MESSAGE_BYTES, &length) : read_job(words[1], &length);
     if (file == NULL)
         return TROUBLE;
-    int status = count == 3 ? of_message(file, length, row) : of_card(file, length, row, card);
+    struct binmode_view view;
+    int status = load(file, length, count == 3 ? NULL : &card, table, &view);
+    if (status == FINE)
+        status = print_position(&view, row);
     free(file);
     return finish(status);
 }
