@@ -15,7 +15,8 @@
 //! (`link/binmode.h`) holds of every slice in Rust: the pointer is not null and
 //! is aligned, its elements are there, `&mut` overlaps nothing else, and the
 //! bytes are at most `isize::MAX`. Every content and length has its answer. A
-//! thread needs 64 KiB of stack for reading and 192 KiB for writing.
+//! thread needs the stack that [`STACK_READ`], [`STACK_LOOKUP`] and
+//! [`STACK_WRITE`] name; those of `std` have more.
 //!
 //! Nothing is allocated. `docs/FORMAT.md` says what a message, a row and a job
 //! file are. The library is looked for where `rt staticlib binmode` puts it,
@@ -56,3 +57,10 @@ pub const MOST_NESTING: usize = 32;
 pub const ROW_WORDS: usize = 4;
 /// Words of a table that has room for any message.
 pub const TABLE_WORDS: usize = MOST_ROWS * ROW_WORDS;
+
+/// What reading takes of the stack, in bytes: whole messages, cards and pieces.
+pub const STACK_READ: usize = 65_536;
+/// What looking up takes: members, positions and texts with defaults.
+pub const STACK_LOOKUP: usize = 49_152;
+/// What writing takes.
+pub const STACK_WRITE: usize = 196_608;

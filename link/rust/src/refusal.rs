@@ -140,6 +140,8 @@ impl Display for Reason {
     }
 }
 
+impl Error for Reason {}
+
 /// A refusal: why, and the offset of the first byte of what is refused. A
 /// refusal by the writer and by a lookup has place 0.
 #[derive(Clone, Copy, Debug, PartialEq, Eq, Hash)]

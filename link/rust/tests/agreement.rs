@@ -205,6 +205,14 @@ fn limits() {
     assert_eq!(of("BYTES"), binmode::MOST_BYTES);
     assert_eq!(of("ROWS"), binmode::MOST_ROWS);
     assert_eq!(of("NESTING"), binmode::MOST_NESTING);
+    let stack = defined("BINMODE_STACK_");
+    let stack = ["READ", "LOOKUP", "WRITE"].map(|name| stack[name] as usize);
+    let here = [
+        binmode::STACK_READ,
+        binmode::STACK_LOOKUP,
+        binmode::STACK_WRITE,
+    ];
+    assert_eq!(stack, here);
     let words = defined("BINMODE_ROW_");
     assert_eq!(words["WORDS"] as usize, binmode::ROW_WORDS);
 }
