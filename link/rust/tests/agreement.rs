@@ -1,6 +1,7 @@
 //! The C header, this crate's declarations and the proved functions say the
 //! same: names, parameters in their order, results, numbers, words and
-//! versions. Nothing else checks that, so each is read as text.
+//! versions; and the page on the format has every refusal. Nothing else checks
+//! that, so each is read as text.
 
 use binmode::{Kind, Reason, sys};
 use std::collections::BTreeMap;
@@ -175,11 +176,13 @@ fn refusals() {
     let reasons =
         reasons.map(|reason| (of_constant(&format!("{reason:?}")), reason.number().into()));
     assert_eq!(defined("BINMODE_REFUSED_"), reasons.collect());
-    let header = header();
+    let (header, format) = (header(), text("../../docs/FORMAT.md"));
     for reason in (0..=u8::MAX).filter_map(Reason::from_number) {
         let name = of_constant(&format!("{reason:?}"));
         let line = format!("case BINMODE_REFUSED_{name}: return \"{reason}\";");
         assert!(header.contains(&line), "{line}");
+        let row = format!("\n| {} | `{reason:?}` | ", reason.number());
+        assert!(format.contains(&row), "docs/FORMAT.md lacks {row}");
     }
 }
 
