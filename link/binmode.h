@@ -1,27 +1,28 @@
 /*
- * Reading and writing Binmode RPC messages, whole or in pieces, reading the cards of job files, and looking up members: the
- * functions that libbinmode.a exports (x86-64, C's calling convention).
+ * Binmode RPC messages read and written, whole or in pieces, the cards of job files, and members looked up: the functions that
+ * libbinmode.a exports, and helpers for the tables that they fill. For x86-64 Linux, in C99 and later or C++11 and later.
  *
- * No memory is allocated, nothing is kept from call to call but what the caller hands on, and of the C library only memset and its like are used,
- * so calls may run at the same time as long as each has its own buffers.
+ *     uint32_t table[BINMODE_TABLE_WORDS];
+ *     size_t rows, used, place;
+ *     uint8_t answer = binmode_read(message, length, table, BINMODE_TABLE_WORDS, &rows, &used, &place);
+ *     if (answer != BINMODE_ACCEPTED)
+ *         printf("refused %u at %zu: %s\n", answer, place, binmode_answer_words(answer));
+ *
+ * No memory is allocated, nothing is kept from call to call but what the caller hands on, and of the C library only memset and
+ * its like are used, so calls may run at the same time as long as each has its own buffers. docs/FORMAT.md says what a message,
+ * a row and a job file are.
  *
  * What the caller owes, since no function can test it:
- *   - a pointer is not null, is aligned for its type, and its length says how many elements may be used there; for a
- *     length of 0 any such pointer will do, since nothing is read or written through it;
+ *   - a pointer is not null, not even for a length of 0 (binmode_bytes makes an address of a null), is aligned for its type,
+ *     and its length says how many elements may be used there;
  *   - what a function writes (a table or output, and each number it reports) overlaps neither another such thing nor
  *     anything that it reads;
  *   - no buffer is longer than PTRDIFF_MAX bytes;
- *   - during the call no one else writes what it reads, or touches what it writes.
+ *   - during the call no one else writes what it reads, or touches what it writes;
+ *   - the thread has the stack that is named below.
  * Anything else may be passed: every content, every length, every number of rows has its answer.
  *
  * A buffer need not be cleared before a call: what it held has no part in the answer, and all of it is settled afterwards.
- *
- * What a call takes of the stack, its buffers not counted, on x86-64 (measured on 32 Structs in one another, the innermost with
- * 1,000 members; it grows with the nesting, and hardly with anything else):
- *   binmode_read, binmode_read_card, binmode_pieces_next, binmode_pieces_end   48 KiB
- *   binmode_lookup, binmode_position                                           37 KiB
- *   binmode_write                                                              165 KiB
- *   the others                                                                 under 1 KiB
  */
 #ifndef BINMODE_H
 #define BINMODE_H
@@ -29,81 +30,128 @@
 #include <stddef.h>
 #include <stdint.h>
 
+#if !defined(__x86_64__) || !defined(__LP64__)
+#error "libbinmode.a is built for x86-64 Linux"
+#endif
+
+/* What GCC and Clang are told: no pointer of a call is null (they warn), and a variable stays though nothing refers to it. */
+#if defined(__GNUC__)
+#define BINMODE_NO_NULL __attribute__((nonnull))
+#define BINMODE_KEPT __attribute__((used))
+#if defined(__has_attribute)
+#if __has_attribute(retain)
+#undef BINMODE_KEPT
+#define BINMODE_KEPT __attribute__((used, retain))
+#endif
+#endif
+#else
+#define BINMODE_NO_NULL
+#define BINMODE_KEPT
+#endif
+
 #ifdef __cplusplus
 extern "C" {
 #endif
 
-/* The answers: 0, or the number of a refusal; for a message in pieces also BINMODE_MORE_WANTED. Those not named are not used. */
-#define BINMODE_ACCEPTED 0
-#define BINMODE_ENDED 1             /* read: the bytes end inside or before a needed item */
-#define BINMODE_WRONG_PREFIX 2      /* read: the first bytes differ from "binmode-rpc:" */
-#define BINMODE_UNEXPECTED_BYTE 3   /* read: a byte that begins nothing allowed there */
-#define BINMODE_SHORT_ROOM 4        /* pieces: the room is shorter than 65,536 bytes */
-#define BINMODE_BAD_TEXT 5          /* read: bad UTF-8, or a byte of 128 or more in a Double or DateTime */
-#define BINMODE_UNSET_POSITION 6    /* read: recall of a position never set in this message */
-#define BINMODE_STANDARD_NAME 7     /* read: an Other with a standard name */
-#define BINMODE_TOO_DEEP 8          /* read: an Array or Struct in more than 32, itself counted */
-#define BINMODE_NO_ROW 9            /* read: no row left in the table */
-#define BINMODE_TOO_LONG 10         /* both: message or text bytes over 65,536 */
-#define BINMODE_NOT_WRITABLE 11     /* write, lookup, default text: a table is not writable */
-#define BINMODE_FORM_TOO_LONG 12    /* write: the written form is over 65,536 bytes */
-#define BINMODE_OUTPUT_TOO_SHORT 13 /* write: the output is shorter than the written form */
-#define BINMODE_BAD_FAULT 14        /* read: a fault's Struct without exactly faultCode (Integer) and faultString (String) */
-#define BINMODE_FILE_ENDED 15       /* job file: it ends before or inside a record, with no kind 2 yet */
-#define BINMODE_WRONG_END 16        /* job file: a kind 2 body of wrong length or number */
-#define BINMODE_BAD_VALUE 17        /* read: a Double or DateTime in ASCII that is no such text, as "5." or 30 February */
-#define BINMODE_NO_MEMBER 18        /* lookup: the row is no Struct, or the member is absent or of the wrong sort */
-#define BINMODE_TOO_MANY_DIGITS 19  /* lookup: a Double of more than 15 digits, or of more than 22 after the point */
-#define BINMODE_REPEATED_KEY 20     /* read: a key that its Struct has already, compared as bytes */
-#define BINMODE_NO_CARD 26          /* job file: a sound job ends before the card asked for */
-#define BINMODE_MORE_WANTED 255     /* pieces: no answer yet */
+/*
+ * The version of this interface. The minor version grows where something is added and all else stays. The major version grows
+ * where a program that was compiled before would see something else: another layout of the table, another default, another
+ * answer for the same bytes. Then it has to be compiled again with the new header, and its author looks at CHANGELOG.md; one that
+ * reaches rows through the helpers below needs no change for another layout.
+ *
+ * No program links to another major version unaware: whatever includes this header refers to a function whose name has the
+ * version's number, and an archive of another version does not have it ("undefined reference to `binmode_version_1'").
+ */
+#define BINMODE_VERSION_MAJOR 1
+#define BINMODE_VERSION_MINOR 0
+
+/* Gives the minor version of the archive. */
+uint32_t binmode_version_1(void);
+
+static uint32_t (*const binmode_linked_version)(void) BINMODE_KEPT = binmode_version_1;
 
 /* The limits. */
 #define BINMODE_MOST_BYTES 65536 /* of a message, and of a writer's text bytes */
 #define BINMODE_MOST_ROWS 4096   /* of a table, however many words it has */
+#define BINMODE_MOST_NESTING 32  /* an Array or Struct stands in at most so many, itself counted */
 #define BINMODE_ROW_WORDS 4      /* words of a row: kind, a, b, end */
+#define BINMODE_TABLE_WORDS (BINMODE_MOST_ROWS * BINMODE_ROW_WORDS) /* words of a table that has room for any message */
+
+/*
+ * What a call takes of the stack, in bytes, its buffers not counted: bounds, above what compare/stack measures. It grows with the
+ * nesting, and hardly with anything else. The other functions take under 1,024.
+ */
+#define BINMODE_STACK_READ 65536   /* binmode_read, binmode_read_card, binmode_pieces_next */
+#define BINMODE_STACK_LOOKUP 49152 /* binmode_lookup, binmode_position, binmode_default_text */
+#define BINMODE_STACK_WRITE 196608 /* binmode_write */
+
+/* The answers: acceptance, or the number of a refusal; for a message in pieces also that more is wanted. */
+#define BINMODE_ACCEPTED 0
+#define BINMODE_REFUSED_ENDED 1             /* read: the bytes end inside or before a needed item */
+#define BINMODE_REFUSED_WRONG_PREFIX 2      /* read: the first bytes differ from "binmode-rpc:" */
+#define BINMODE_REFUSED_UNEXPECTED_BYTE 3   /* read: a byte that begins nothing allowed there */
+#define BINMODE_REFUSED_SHORT_ROOM 4        /* pieces: the room is shorter than 65,536 bytes */
+#define BINMODE_REFUSED_BAD_TEXT 5          /* read: bad UTF-8, or a byte of 128 or more in a Double or DateTime */
+#define BINMODE_REFUSED_UNSET_POSITION 6    /* read: recall of a position never set in this message */
+#define BINMODE_REFUSED_STANDARD_NAME 7     /* read: an Other with a standard name */
+#define BINMODE_REFUSED_TOO_DEEP 8          /* read: an Array or Struct in more than 32, itself counted */
+#define BINMODE_REFUSED_NO_ROW 9            /* read: no row left in the table */
+#define BINMODE_REFUSED_TOO_LONG 10         /* both: message or text bytes over 65,536 */
+#define BINMODE_REFUSED_NOT_WRITABLE 11     /* write, lookup, default text: a table is not writable */
+#define BINMODE_REFUSED_FORM_TOO_LONG 12    /* write: the written form is over 65,536 bytes */
+#define BINMODE_REFUSED_OUTPUT_TOO_SHORT 13 /* write: the output is shorter than the written form */
+#define BINMODE_REFUSED_BAD_FAULT 14        /* read: a fault's Struct without exactly faultCode (Integer) and faultString (String) */
+#define BINMODE_REFUSED_FILE_ENDED 15       /* job file: it ends before or inside a record, with no kind 2 yet */
+#define BINMODE_REFUSED_WRONG_END 16        /* job file: a kind 2 body of wrong length or number */
+#define BINMODE_REFUSED_BAD_VALUE 17        /* read: a Double or DateTime in ASCII that is no such text, as "5." or 30 February */
+#define BINMODE_REFUSED_NO_MEMBER 18        /* lookup: the row is no Struct, or the member is absent or of the wrong sort */
+#define BINMODE_REFUSED_TOO_MANY_DIGITS 19  /* lookup: a Double of more than 15 digits, or of more than 22 after the point */
+#define BINMODE_REFUSED_REPEATED_KEY 20     /* read: a key that its Struct has already, compared as bytes */
+#define BINMODE_REFUSED_NO_CARD 26          /* job file: a sound job ends before the card asked for */
+#define BINMODE_MORE_WANTED 255             /* pieces: no answer yet */
 
 /*
  * The kinds of rows. Rows stand in message order, parents before children; `end` is the row number just after the item's
  * last descendant. An offset counts from the message's first byte.
  *
- *                                      a                       b        children
+ *                                           a                       b        children
  */
-#define BINMODE_CALL 1       /*          0                       2        method (a String), Array */
-#define BINMODE_RESPONSE 2   /*          0                       1        the Value */
-#define BINMODE_FAULT 3      /*          0                       1        the Struct */
-#define BINMODE_INTEGER 4    /*          its 32 bits             0        none */
-#define BINMODE_BOOLEAN 5    /*          1 or 0                  0        none */
-#define BINMODE_DOUBLE 6     /*          offset of its content   length   none */
-#define BINMODE_DATE_TIME 7  /*          offset of its content   length   none */
-#define BINMODE_BINARY 8     /*          offset of its content   length   none */
-#define BINMODE_ARRAY 9      /*          0                       count    the Values */
-#define BINMODE_STRUCT 10    /*          0                       pairs    key (a String), Value, key, Value ..; the keys differ */
-#define BINMODE_STRING 11    /*          offset of its text      length   none; a recalled string has the recorded text's */
-#define BINMODE_OTHER 12     /*          0                       2        type name (a String), Binary */
+#define BINMODE_KIND_CALL 1       /*          0                       2        method (a String), Array */
+#define BINMODE_KIND_RESPONSE 2   /*          0                       1        the Value */
+#define BINMODE_KIND_FAULT 3      /*          0                       1        the Struct */
+#define BINMODE_KIND_INTEGER 4    /*          its 32 bits             0        none */
+#define BINMODE_KIND_BOOLEAN 5    /*          1 or 0                  0        none */
+#define BINMODE_KIND_DOUBLE 6     /*          offset of its content   length   none */
+#define BINMODE_KIND_DATE_TIME 7  /*          offset of its content   length   none */
+#define BINMODE_KIND_BINARY 8     /*          offset of its content   length   none */
+#define BINMODE_KIND_ARRAY 9      /*          0                       count    the Values */
+#define BINMODE_KIND_STRUCT 10    /*          0                       pairs    key (a String), Value, key, Value ..; the keys differ */
+#define BINMODE_KIND_STRING 11    /*          offset of its text      length   none; a recalled string has the recorded text's */
+#define BINMODE_KIND_OTHER 12     /*          0                       2        type name (a String), Binary */
 
 /*
  * Reads a message into a table.
  *
- *   message, message_len  the bytes of the message; bytes after its end are ignored, but count for BINMODE_TOO_LONG
- *   table, table_words    the table; it has room for table_words / 4 rows, rounded down, and 4,096 at most. Row r has the
- *                         words 4 * r (kind) to 4 * r + 3 (end)
+ *   message, message_len  the bytes of the message; bytes after its end are ignored, but count for BINMODE_REFUSED_TOO_LONG
+ *   table, table_words    the table; it has room for table_words / 4 rows, rounded down, and 4,096 at most. binmode_row_at
+ *                         gives a row of it
  *   rows                  is set to the number of rows; 0 on a refusal
  *   used                  is set to the number of message bytes used, those after its end not counted; 0 on a refusal
  *   place                 is set to 0 on acceptance; on a refusal to the offset of the first byte of the item that is
  *                         refused, or to message_len if nothing stands there:
- *                            BINMODE_TOO_LONG, BINMODE_WRONG_PREFIX, and BINMODE_ENDED for fewer than 12 bytes: 0;
- *                            BINMODE_STANDARD_NAME: the offset of the Other's `O`;
- *                            BINMODE_BAD_FAULT: the offset of the Struct's `S`, which is read whole first;
- *                            BINMODE_REPEATED_KEY: the second key's, before its value is looked at;
+ *                            BINMODE_REFUSED_TOO_LONG, BINMODE_REFUSED_WRONG_PREFIX, and BINMODE_REFUSED_ENDED for fewer
+ *                            than 12 bytes: 0;
+ *                            BINMODE_REFUSED_STANDARD_NAME: the offset of the Other's `O`;
+ *                            BINMODE_REFUSED_BAD_FAULT: the offset of the Struct's `S`, which is read whole first;
+ *                            BINMODE_REFUSED_REPEATED_KEY: the second key's, before its value is looked at;
  *                            the others: the item's, which is 12 for the Call or Response, 13 for what follows `R` and 14
  *                            for what follows `RF`.
  *
- * Gives BINMODE_ACCEPTED, and the table has the rows and then zeros; or a refusal's number (1 to 10, 14, 17 or 20), and the whole
- * table is zeros. The first failure from left to right decides.
+ * Gives BINMODE_ACCEPTED, and the table has the rows and then zeros; or a refusal's number (1 to 3, 5 to 10, 14, 17 or 20), and
+ * the whole table is zeros. The first failure from left to right decides.
  */
-uint8_t binmode_read(const uint8_t *message, size_t message_len, uint32_t *table, size_t table_words, uint64_t *rows,
-                     uint64_t *used, uint64_t *place);
+uint8_t binmode_read(const uint8_t *message, size_t message_len, uint32_t *table, size_t table_words, size_t *rows,
+                     size_t *used, size_t *place) BINMODE_NO_NULL;
 
 /*
  * Writes the rows of a table as a message, in the one written form: texts that occur at least twice as strings get the
@@ -120,7 +168,7 @@ uint8_t binmode_read(const uint8_t *message, size_t message_len, uint32_t *table
  * order), and the whole output is zeros. A refusal by the writer has no place.
  */
 uint8_t binmode_write(const uint32_t *table, size_t table_words, size_t rows, const uint8_t *text, size_t text_len,
-                      uint8_t *output, size_t output_len, uint64_t *length);
+                      uint8_t *output, size_t output_len, size_t *length) BINMODE_NO_NULL;
 
 /*
  * Job files. A job file is a row of records: a four-byte body length and a two-byte kind, both least significant byte first,
@@ -134,9 +182,10 @@ uint8_t binmode_write(const uint32_t *table, size_t table_words, size_t rows, co
  *   table, table_words    the table, as for binmode_read; offsets in its rows count from the card's first byte
  *   rows                  is set to the number of rows; 0 on a refusal
  *   used                  is set to the number of the body's bytes used; 0 on a refusal
- *   place                 is set to 0 on acceptance; on a refusal that is the card's own (1 to 10, 14, 17 or 20) to its place,
- *                         counted from the card's first byte; on BINMODE_FILE_ENDED, BINMODE_WRONG_END and BINMODE_NO_CARD to the first
- *                         byte in the file of the record that gives it (file_len, if none begins there)
+ *   place                 is set to 0 on acceptance; on a refusal that is the card's own (those of binmode_read) to its place,
+ *                         counted from the card's first byte; on BINMODE_REFUSED_FILE_ENDED, BINMODE_REFUSED_WRONG_END and
+ *                         BINMODE_REFUSED_NO_CARD to the first byte in the file of the record that gives it (file_len, if none
+ *                         begins there)
  *   body                  is set to the first byte of the card's body in the file; 0 on a refusal
  *
  * Gives BINMODE_ACCEPTED, and the table has the rows and then zeros; or a refusal's number, and the whole table is zeros. A
@@ -144,7 +193,7 @@ uint8_t binmode_write(const uint32_t *table, size_t table_words, size_t rows, co
  * read all cards of a job, use binmode_next_card.
  */
 uint8_t binmode_read_card(const uint8_t *file, size_t file_len, size_t number, uint32_t *table, size_t table_words,
-                          uint64_t *rows, uint64_t *used, uint64_t *place, uint64_t *body);
+                          size_t *rows, size_t *used, size_t *place, size_t *body) BINMODE_NO_NULL;
 
 /*
  * Finds the next card of a job file, for one who goes from card to card. Begin with number 0 and from 0; after a card, go on
@@ -155,26 +204,27 @@ uint8_t binmode_read_card(const uint8_t *file, size_t file_len, size_t number, u
  *   from                  where the next record begins
  *   start, length         are set to where the card's body lies in the file; 0 if there is none
  *   place                 is set to 0, or to the place of the refusal: the first byte in the file of the record that gives it. If
- *                         none begins at `from` (it is file_len or more), that is `from` itself, with BINMODE_FILE_ENDED
+ *                         none begins at `from` (it is file_len or more), that is `from` itself, with
+ *                         BINMODE_REFUSED_FILE_ENDED
  *
- * Gives BINMODE_ACCEPTED, or BINMODE_FILE_ENDED, BINMODE_WRONG_END or BINMODE_NO_CARD. A sound job ends with
- * BINMODE_NO_CARD.
+ * Gives BINMODE_ACCEPTED, or BINMODE_REFUSED_FILE_ENDED, BINMODE_REFUSED_WRONG_END or BINMODE_REFUSED_NO_CARD. A sound job ends
+ * with BINMODE_REFUSED_NO_CARD.
  */
-uint8_t binmode_next_card(const uint8_t *file, size_t file_len, size_t number, size_t from, uint64_t *start,
-                          uint64_t *length, uint64_t *place);
+uint8_t binmode_next_card(const uint8_t *file, size_t file_len, size_t number, size_t from, size_t *start, size_t *length,
+                          size_t *place) BINMODE_NO_NULL;
 
 /*
  * Looking up. A member of a Struct is a key and a value; it is asked for by the bytes of its key, which no other member
- * of the Struct has. Both functions take any table, as binmode_write does, and judge it first: one that is not writable is refused, so
- * nothing has to be tested before. For a table made by binmode_read, the text bytes are the message.
+ * of the Struct has. Both functions take any table, as binmode_write does, and judge it first: one that is not writable is
+ * refused, so nothing has to be tested before. For a table made by binmode_read, the text bytes are the message.
  *
  * The sorts of answers.
  */
-#define BINMODE_WHOLE_NUMBER 1 /* an Integer, signed */
-#define BINMODE_DECIMAL 2      /* a Double */
-#define BINMODE_YES_OR_NO 3    /* a Boolean */
-#define BINMODE_TEXT 4         /* a String */
-#define BINMODE_ITEM 5         /* a DateTime, Binary, Array, Struct or Other, by its row */
+#define BINMODE_SORT_WHOLE_NUMBER 1 /* an Integer, signed */
+#define BINMODE_SORT_DECIMAL 2      /* a Double */
+#define BINMODE_SORT_YES_OR_NO 3    /* a Boolean */
+#define BINMODE_SORT_TEXT 4         /* a String */
+#define BINMODE_SORT_ITEM 5         /* a DateTime, Binary, Array, Struct or Other, by its row */
 
 /*
  * Looks up a member of a Struct.
@@ -190,12 +240,12 @@ uint8_t binmode_next_card(const uint8_t *file, size_t file_len, size_t number, s
  *                         says, with its sign, so `-0.0` is minus zero
  *   offset, length        are set to where the text lies in the text bytes; else to 0
  *
- * Gives BINMODE_ACCEPTED, or a refusal's number, tested in this order: BINMODE_NOT_WRITABLE, also for more than 65,536 text
- * bytes; BINMODE_NO_MEMBER; BINMODE_TOO_MANY_DIGITS, where leading zeros are not counted. Each has place 0.
+ * Gives BINMODE_ACCEPTED, or a refusal's number, tested in this order: BINMODE_REFUSED_NOT_WRITABLE, also for more than 65,536
+ * text bytes; BINMODE_REFUSED_NO_MEMBER; BINMODE_REFUSED_TOO_MANY_DIGITS, where leading zeros are not counted. Each has place 0.
  */
 uint8_t binmode_lookup(const uint32_t *table, size_t table_words, size_t rows, const uint8_t *text, size_t text_len,
                        size_t row, const uint8_t *key, size_t key_len, uint8_t *sort, int64_t *number, double *decimal,
-                       uint64_t *offset, uint64_t *length);
+                       size_t *offset, size_t *length) BINMODE_NO_NULL;
 
 /*
  * The position in a Struct: its members `x`, `y` and `turn`, each a Double, as three calls of binmode_lookup give them; the table
@@ -203,11 +253,11 @@ uint8_t binmode_lookup(const uint32_t *table, size_t table_words, size_t rows, c
  *
  *   x, y, turn            are set to the position; to plus zero, all three, on a refusal
  *
- * Gives BINMODE_ACCEPTED, or BINMODE_NOT_WRITABLE; BINMODE_NO_MEMBER, if one of the three is absent or no Double, whatever the
- * others are; or BINMODE_TOO_MANY_DIGITS, if one of them has too many. Each has place 0.
+ * Gives BINMODE_ACCEPTED, or BINMODE_REFUSED_NOT_WRITABLE; BINMODE_REFUSED_NO_MEMBER, if one of the three is absent or no
+ * Double, whatever the others are; or BINMODE_REFUSED_TOO_MANY_DIGITS, if one of them has too many. Each has place 0.
  */
 uint8_t binmode_position(const uint32_t *table, size_t table_words, size_t rows, const uint8_t *text, size_t text_len,
-                         size_t row, double *x, double *y, double *turn);
+                         size_t row, double *x, double *y, double *turn) BINMODE_NO_NULL;
 
 /*
  * Job defaults behind a card: a text asked for by key is the card's if the card's Struct has the key, otherwise the defaults'. The
@@ -218,17 +268,18 @@ uint8_t binmode_position(const uint32_t *table, size_t table_words, size_t rows,
  *                         the defaults: the same
  *   key, key_len          the bytes of the key
  *   source                is set to BINMODE_FROM_CARD or BINMODE_FROM_DEFAULTS; to BINMODE_FROM_CARD on a refusal
- *   offset, length        are set to where the text lies in that one's text bytes; to 0 on a refusal. It lies there wholly, and is UTF-8
+ *   offset, length        are set to where the text lies in that one's text bytes; to 0 on a refusal. It lies there wholly, and
+ *                         is UTF-8
  *
- * Gives BINMODE_ACCEPTED; or BINMODE_NOT_WRITABLE, for the card or else for the defaults; or BINMODE_NO_MEMBER, if either row is no
- * Struct, if neither has the key, or if the member found is no String. Each has place 0.
+ * Gives BINMODE_ACCEPTED; or BINMODE_REFUSED_NOT_WRITABLE, for the card or else for the defaults; or BINMODE_REFUSED_NO_MEMBER,
+ * if either row is no Struct, if neither has the key, or if the member found is no String. Each has place 0.
  */
 #define BINMODE_FROM_CARD 0
 #define BINMODE_FROM_DEFAULTS 1
 uint8_t binmode_default_text(const uint32_t *table, size_t table_words, size_t rows, const uint8_t *text, size_t text_len,
                              size_t row, const uint32_t *defaults_table, size_t defaults_words, size_t defaults_rows,
                              const uint8_t *defaults_text, size_t defaults_len, size_t defaults_row, const uint8_t *key,
-                             size_t key_len, uint8_t *source, uint64_t *offset, uint64_t *length);
+                             size_t key_len, uint8_t *source, size_t *offset, size_t *length) BINMODE_NO_NULL;
 
 /*
  * Messages in pieces, as a serial port or a pipe brings them. The pieces are held in a room that the caller lends, and after
@@ -246,16 +297,16 @@ uint8_t binmode_default_text(const uint32_t *table, size_t table_words, size_t r
  * The state of a message in pieces: the answer so far, with its numbers.
  */
 struct binmode_pieces {
-    uint64_t answer; /* BINMODE_MORE_WANTED, BINMODE_ACCEPTED or the number of a refusal */
-    uint64_t rows;   /* the number of rows; 0 unless accepted */
-    uint64_t used;   /* the number of bytes used; 0 unless accepted */
-    uint64_t place;  /* the place of a refusal; where more is wanted, the place that BINMODE_ENDED would have if it ended here */
-    uint64_t held;   /* where more is wanted, how many bytes are held in the room; else 0 */
-    uint64_t wanted; /* where more is wanted: with fewer bytes than this held no other answer comes (it may be no more than are held); else 0 */
+    size_t answer; /* BINMODE_MORE_WANTED, BINMODE_ACCEPTED or the number of a refusal */
+    size_t rows;   /* the number of rows; 0 unless accepted */
+    size_t used;   /* the number of bytes used; 0 unless accepted */
+    size_t place;  /* the place of a refusal; where more is wanted, the place that BINMODE_REFUSED_ENDED would have if it ended here */
+    size_t held;   /* where more is wanted, how many bytes are held in the room; else 0 */
+    size_t wanted; /* where more is wanted: with fewer bytes than this held no other answer comes (it may be no more than are held); else 0 */
 };
 
 /* Sets the state for a message of which nothing has come: more is wanted. */
-void binmode_pieces_start(struct binmode_pieces *state);
+void binmode_pieces_start(struct binmode_pieces *state) BINMODE_NO_NULL;
 
 /*
  * Takes the next piece.
@@ -267,26 +318,210 @@ void binmode_pieces_start(struct binmode_pieces *state);
  *                         first byte
  *   table, table_words    the table, as for binmode_read. While more is wanted it is zeros
  *
- * Gives state->answer. Once it is not BINMODE_MORE_WANTED, later pieces change nothing. Refusals are those of binmode_read on the bytes
- * so far, but for:
- *   BINMODE_ENDED         is not given: it says that more is wanted
- *   BINMODE_TOO_LONG      only if the first 65,536 bytes have no answer and another byte comes. A message that is accepted
- *                         or refused within them stays so, however far its last piece goes on
- *   BINMODE_SHORT_ROOM    before all else, whatever the state: the room is shorter than 65,536. The room is unchanged, the table zeros,
- *                         the place 0
+ * Gives state->answer. Once it is not BINMODE_MORE_WANTED, later pieces change nothing. Refusals are those of binmode_read on the
+ * bytes so far, but for:
+ *   BINMODE_REFUSED_ENDED       is not given: it says that more is wanted
+ *   BINMODE_REFUSED_TOO_LONG    only if the first 65,536 bytes have no answer and another byte comes. A message that is accepted
+ *                               or refused within them stays so, however far its last piece goes on
+ *   BINMODE_REFUSED_SHORT_ROOM  before all else, whatever the state: the room is shorter than 65,536. The room is unchanged, the
+ *                               table zeros, the place 0
  * Nothing is read again until state->wanted bytes are held. A state that no call gave, or a room or table that was changed in
  * between, has an answer too, but it says nothing of any message.
  */
 uint8_t binmode_pieces_next(struct binmode_pieces *state, const uint8_t *piece, size_t piece_len, uint8_t *room,
-                            size_t room_len, uint32_t *table, size_t table_words);
+                            size_t room_len, uint32_t *table, size_t table_words) BINMODE_NO_NULL;
 
 /*
- * Says that no more pieces come. Where more is wanted the answer becomes BINMODE_ENDED, at its place, and the table is zeros; any
- * other answer stays, and so does the table. BINMODE_SHORT_ROOM comes before all else here too. The room's bytes are not looked at.
- * Gives state->answer.
+ * Says that no more pieces come. Where more is wanted the answer becomes BINMODE_REFUSED_ENDED, at its place, and the table is
+ * zeros; any other answer stays, and so does the table. BINMODE_REFUSED_SHORT_ROOM comes before all else here too. The room's bytes
+ * are not looked at. Gives state->answer.
  */
 uint8_t binmode_pieces_end(struct binmode_pieces *state, const uint8_t *room, size_t room_len, uint32_t *table,
-                           size_t table_words);
+                           size_t table_words) BINMODE_NO_NULL;
+
+/*
+ * Helpers, compiled into the program that uses them. They take any table, also one that no call filled: a row that is not there is four
+ * zeros, content that lies outside the text bytes is none, and going from child to child comes to an end.
+ *
+ * What they look at: a table, its stated number of rows, and the bytes in which its contents lie.
+ *
+ *     struct binmode_view card = {table, BINMODE_TABLE_WORDS, rows, message, used};
+ *     for (size_t key = binmode_first_child(&card, row); key != 0; key = binmode_next_member(&card, row, key))
+ *         (the value is at row key + 1)
+ */
+struct binmode_view {
+    const uint32_t *table;
+    size_t table_words;
+    size_t rows;
+    const uint8_t *text;
+    size_t text_len;
+};
+
+struct binmode_row {
+    uint32_t kind; /* BINMODE_KIND_*; no row that was read has kind 0 */
+    uint32_t a;
+    uint32_t b;
+    uint32_t end;
+};
+
+/* Bytes that a call may be lent: a null pointer is made the address of a byte, which is good for a length of 0. */
+static inline const uint8_t *binmode_bytes(const void *bytes)
+{
+    return (const uint8_t *)(bytes == NULL ? "" : bytes);
+}
+
+/* How many rows a table of so many words has room for. */
+static inline size_t binmode_room(size_t table_words)
+{
+    size_t rows = table_words / BINMODE_ROW_WORDS;
+    return rows < BINMODE_MOST_ROWS ? rows : BINMODE_MOST_ROWS;
+}
+
+/* Where the word of a row stands, 0 to 3 for kind, a, b and end. The one place that knows the layout of a table. */
+static inline size_t binmode_word_place(size_t table_words, size_t row, size_t word)
+{
+    (void)table_words;
+    return row * BINMODE_ROW_WORDS + word;
+}
+
+/* The row of that number; four zeros if it is past the stated rows or the table's room. */
+static inline struct binmode_row binmode_row_at(const struct binmode_view *view, size_t row)
+{
+    struct binmode_row found = {0, 0, 0, 0};
+    if (row >= view->rows || row >= binmode_room(view->table_words))
+        return found;
+    found.kind = view->table[binmode_word_place(view->table_words, row, 0)];
+    found.a = view->table[binmode_word_place(view->table_words, row, 1)];
+    found.b = view->table[binmode_word_place(view->table_words, row, 2)];
+    found.end = view->table[binmode_word_place(view->table_words, row, 3)];
+    return found;
+}
+
+/* Sets a row of a table that is to be written. Gives 1, or 0 if the table has no room for it, and nothing is set then. */
+static inline int binmode_set_row(uint32_t *table, size_t table_words, size_t row, struct binmode_row words)
+{
+    if (row >= binmode_room(table_words))
+        return 0;
+    table[binmode_word_place(table_words, row, 0)] = words.kind;
+    table[binmode_word_place(table_words, row, 1)] = words.a;
+    table[binmode_word_place(table_words, row, 2)] = words.b;
+    table[binmode_word_place(table_words, row, 3)] = words.end;
+    return 1;
+}
+
+/* The first child of an item, by rows; 0 if it has none (row 0 is no one's child). */
+static inline size_t binmode_first_child(const struct binmode_view *view, size_t row)
+{
+    return row + 1 < binmode_row_at(view, row).end ? row + 1 : 0;
+}
+
+/* The child of an item that comes after another child of it; 0 if there is none. */
+static inline size_t binmode_next_sibling(const struct binmode_view *view, size_t parent, size_t child)
+{
+    size_t next = binmode_row_at(view, child).end;
+    return child < next && next < binmode_row_at(view, parent).end ? next : 0;
+}
+
+/* The key of a Struct's next member, after a key; its value is one row behind it. 0 if there is none. */
+static inline size_t binmode_next_member(const struct binmode_view *view, size_t parent, size_t key)
+{
+    return binmode_next_sibling(view, parent, key + 1);
+}
+
+/*
+ * Where the content of a String, Double, DateTime or Binary lies, and how long it is; NULL and 0 for another item, and for content outside
+ * the text bytes. A String's is UTF-8, if the table was read or is writable.
+ */
+static inline const uint8_t *binmode_content(const struct binmode_view *view, size_t row, size_t *length)
+{
+    struct binmode_row found = binmode_row_at(view, row);
+    *length = 0;
+    if (found.kind != BINMODE_KIND_STRING && found.kind != BINMODE_KIND_DOUBLE && found.kind != BINMODE_KIND_DATE_TIME &&
+        found.kind != BINMODE_KIND_BINARY)
+        return NULL;
+    if (found.a > view->text_len || found.b > view->text_len - found.a)
+        return NULL;
+    *length = found.b;
+    return view->text + found.a;
+}
+
+/* The value of an Integer, with its sign; 0 for another item. */
+static inline int32_t binmode_integer(const struct binmode_view *view, size_t row)
+{
+    struct binmode_row found = binmode_row_at(view, row);
+    if (found.kind != BINMODE_KIND_INTEGER)
+        return 0;
+    return found.a <= INT32_MAX ? (int32_t)found.a : -1 - (int32_t)(UINT32_MAX - found.a);
+}
+
+/* What binmode_lookup reports, together. */
+struct binmode_found {
+    uint8_t sort; /* BINMODE_SORT_* */
+    int64_t number;
+    double decimal;
+    size_t offset;
+    size_t length;
+};
+
+/* binmode_lookup in a table that is looked at, by the bytes of a key. */
+static inline uint8_t binmode_find(const struct binmode_view *view, size_t row, const void *key, size_t key_len,
+                                   struct binmode_found *found)
+{
+    return binmode_lookup(view->table, view->table_words, view->rows, binmode_bytes(view->text), view->text_len, row,
+                          binmode_bytes(key), key_len, &found->sort, &found->number, &found->decimal, &found->offset,
+                          &found->length);
+}
+
+/* The name of a kind: "Integer"; "?" for a number that is none. */
+static inline const char *binmode_kind_name(uint32_t kind)
+{
+    switch (kind) {
+    case BINMODE_KIND_CALL: return "Call";
+    case BINMODE_KIND_RESPONSE: return "Response";
+    case BINMODE_KIND_FAULT: return "Response with fault";
+    case BINMODE_KIND_INTEGER: return "Integer";
+    case BINMODE_KIND_BOOLEAN: return "Boolean";
+    case BINMODE_KIND_DOUBLE: return "Double";
+    case BINMODE_KIND_DATE_TIME: return "DateTime";
+    case BINMODE_KIND_BINARY: return "Binary";
+    case BINMODE_KIND_ARRAY: return "Array";
+    case BINMODE_KIND_STRUCT: return "Struct";
+    case BINMODE_KIND_STRING: return "String";
+    case BINMODE_KIND_OTHER: return "Other";
+    default: return "?";
+    }
+}
+
+/* An answer in words, a refusal's above all, in ASCII and without a line's end. */
+static inline const char *binmode_answer_words(size_t answer)
+{
+    switch (answer) {
+    case BINMODE_ACCEPTED: return "accepted";
+    case BINMODE_REFUSED_ENDED: return "the bytes end inside an item, or before one that is needed";
+    case BINMODE_REFUSED_WRONG_PREFIX: return "the first bytes differ from binmode-rpc:";
+    case BINMODE_REFUSED_UNEXPECTED_BYTE: return "a byte that begins nothing allowed here";
+    case BINMODE_REFUSED_SHORT_ROOM: return "the room for a message in pieces is shorter than 65,536 bytes";
+    case BINMODE_REFUSED_BAD_TEXT: return "a text that is not UTF-8, or a Double or DateTime that is not ASCII";
+    case BINMODE_REFUSED_UNSET_POSITION: return "a position of the codebook is recalled that this message has not set";
+    case BINMODE_REFUSED_STANDARD_NAME: return "an Other has the name of a standard type";
+    case BINMODE_REFUSED_TOO_DEEP: return "Arrays and Structs nested more than 32 deep";
+    case BINMODE_REFUSED_NO_ROW: return "the table has no row left; the most is 4,096";
+    case BINMODE_REFUSED_TOO_LONG: return "over 65,536 bytes";
+    case BINMODE_REFUSED_NOT_WRITABLE: return "the table is not writable";
+    case BINMODE_REFUSED_FORM_TOO_LONG: return "the written form is over 65,536 bytes";
+    case BINMODE_REFUSED_OUTPUT_TOO_SHORT: return "the output is shorter than the written form";
+    case BINMODE_REFUSED_BAD_FAULT: return "a fault's Struct is not faultCode, an Integer, and faultString, a String";
+    case BINMODE_REFUSED_FILE_ENDED: return "the job file ends before or inside a record, with no record of kind 2 yet";
+    case BINMODE_REFUSED_WRONG_END: return "the record of kind 2 has the wrong length or the wrong number of cards";
+    case BINMODE_REFUSED_BAD_VALUE: return "the text of a Double or DateTime is no decimal or no date";
+    case BINMODE_REFUSED_NO_MEMBER: return "the row is no Struct, or the member is absent or of the wrong sort";
+    case BINMODE_REFUSED_TOO_MANY_DIGITS: return "a Double has more than 15 digits, or more than 22 after the point";
+    case BINMODE_REFUSED_REPEATED_KEY: return "a key that its Struct has already";
+    case BINMODE_REFUSED_NO_CARD: return "the job has no card of this number";
+    case BINMODE_MORE_WANTED: return "more bytes are wanted";
+    default: return "an unknown answer";
+    }
+}
 
 #ifdef __cplusplus
 }

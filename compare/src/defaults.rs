@@ -5,6 +5,7 @@ use crate::gather::gathered_table;
 use crate::lent::{Lent, rubbish};
 use crate::reading::Compared;
 use crate::tally::Run;
+use binmode::sys;
 use second::defaults::{Asked, Source, Text, default_text};
 use second::generate::{Random, Table, damage, key, row, structs, table};
 use second::hex;
@@ -16,38 +17,16 @@ use std::ops::Range;
 struct Reported {
     refusal: u8,
     source: u8,
-    offset: u64,
-    length: u64,
-}
-
-unsafe extern "C" {
-    fn binmode_default_text(
-        table: *const u32,
-        table_words: usize,
-        rows: usize,
-        text: *const u8,
-        text_len: usize,
-        row: usize,
-        defaults_table: *const u32,
-        defaults_words: usize,
-        defaults_rows: usize,
-        defaults_text: *const u8,
-        defaults_len: usize,
-        defaults_row: usize,
-        key: *const u8,
-        key_len: usize,
-        source: *mut u8,
-        offset: *mut u64,
-        length: *mut u64,
-    ) -> u8;
+    offset: usize,
+    length: usize,
 }
 
 fn by_library(rubbish: u32, card: Asked, defaults: Asked, key: &[u8]) -> Reported {
-    let (mut source, mut offset, mut length) = (rubbish as u8, rubbish.into(), rubbish.into());
+    let (mut source, mut offset, mut length) = (rubbish as u8, rubbish as usize, rubbish as usize);
     // SAFETY: the slices and the three numbers are valid for the call, and
     // those that are written overlap nothing.
     let refusal = unsafe {
-        binmode_default_text(
+        sys::binmode_default_text(
             card.table.as_ptr(),
             card.table.len(),
             card.rows,
@@ -81,8 +60,8 @@ fn reported(answer: Result<Text, u8>) -> Reported {
         Ok(text) => Reported {
             refusal: 0,
             source: u8::from(text.source == Source::Defaults),
-            offset: text.offset.into(),
-            length: text.length.into(),
+            offset: text.offset as usize,
+            length: text.length as usize,
         },
         Err(refusal) => Reported {
             refusal,
@@ -181,7 +160,9 @@ impl Texts {
         let by_library = by_library(rubbish, own, other, self.key.content());
         let text = default_text(own, other, key);
         let by_second = reported(text);
-        let same_part = wrapped(own, other, key) == text.map(|text| part(own, other, text));
+        let by_wrapper = wrapped(own, other, key);
+        let expected = text.map(|text| part(own, other, text));
+        let same_part = by_wrapper.is_none_or(|part| part == expected);
         let untouched = self.card.is_untouched(card)
             && self.defaults.is_untouched(defaults)
             && self.key.content() == key
@@ -204,19 +185,30 @@ impl Texts {
     }
 }
 
-/// Where the Rust wrapper's text lies, and that it is the defaults'.
-fn wrapped(card: Asked, defaults: Asked, key: &[u8]) -> Result<(Range<*const u8>, bool), u8> {
-    let [card, defaults] = [card, defaults].map(|asked| binmode::Asked {
-        table: asked.table,
-        rows: asked.rows,
-        text: asked.text,
-        row: asked.row,
-    });
-    let (text, source) = binmode::default_text(card, defaults, key)?;
-    Ok((
-        text.as_bytes().as_ptr_range(),
-        source == binmode::Source::Defaults,
-    ))
+/// Where the Rust wrapper's text lies, and that it is the defaults'; none if
+/// it has no item of either row to ask.
+fn wrapped(
+    card: Asked,
+    defaults: Asked,
+    key: &[u8],
+) -> Option<Result<(Range<*const u8>, bool), u8>> {
+    let (text, source) = match item(card)?.text_or_default(item(defaults)?, key) {
+        Ok(found) => found,
+        Err(refusal) => return Some(Err(refusal.reason.number())),
+    };
+    let is_default = source == binmode::Source::Defaults;
+    Some(Ok((text.as_bytes().as_ptr_range(), is_default)))
+}
+
+/// The item that is asked, as the Rust wrapper has it.
+fn item(asked: Asked) -> Option<binmode::Item> {
+    let Asked {
+        table: words,
+        rows,
+        text,
+        row,
+    } = asked;
+    binmode::Table { words, rows, text }.item(row)
 }
 
 /// Where the second implementation's text lies, and that it is the defaults'.

@@ -2,9 +2,9 @@
 //! number, and from one to the next.
 
 use crate::lent::{Lent, rubbish};
+use crate::library::{self, CardAnswer, CardFound};
 use crate::reading::Compared;
 use crate::tally::Run;
-use binmode::{CardAnswer, CardFound};
 use second::generate::{Random, message, table_words, valid};
 use second::hex;
 use second::job::{Card, Job, read_card, record};
@@ -35,7 +35,7 @@ impl Jobs {
         let rubbish = rubbish(&mut run.random);
         let given = self.file.lend(file.len(), rubbish as u8);
         given.copy_from_slice(file);
-        let by_library = binmode::read_card(given, number, self.library.lend(words, rubbish));
+        let by_library = library::read_card(given, number, self.library.lend(words, rubbish));
         let table = self.second.lend(words, !rubbish);
         let by_second = reported(read_card(file, number, table));
         if let Some(difference) = self.difference(file, by_library, by_second) {
@@ -99,7 +99,7 @@ impl Jobs {
                     place: job.end.1,
                 },
             };
-            let by_library = binmode::next_card(file, number, from);
+            let by_library = library::next_card(file, number, from);
             if by_library != by_second {
                 let file = hex::encode(file);
                 return Err(format!(
@@ -111,7 +111,9 @@ impl Jobs {
             }
             from = by_library.start + by_library.length;
         }
-        Ok(())
+        is_wrapped_alike(file, &job)
+            .then_some(())
+            .ok_or_else(|| format!("the wrapper's cards differ\nfile {}", hex::encode(file)))
     }
 
     /// A small job, cut at every byte, and with each byte of its records' heads
@@ -274,6 +276,26 @@ fn change_length(random: &mut Random, record: &mut [u8]) {
 }
 
 /// The second implementation's answer, with document 02's zeros.
+/// Whether the Rust wrapper's cards are those of the second implementation,
+/// and it ends with the same refusal, if it is one.
+fn is_wrapped_alike(file: &[u8], job: &Job) -> bool {
+    let mut cards = binmode::Job::new(file).cards();
+    let same = (0..).zip(&job.cards).all(|(number, &(start, bytes))| {
+        cards.next()
+            == Some(Ok(binmode::Card {
+                number,
+                start,
+                bytes,
+            }))
+    });
+    let end = match cards.next() {
+        None => job.is_sound(),
+        Some(Err(refusal)) => (refusal.reason.number(), refusal.place) == job.end,
+        Some(Ok(_)) => false,
+    };
+    same && end && cards.next().is_none()
+}
+
 fn reported(answer: Card) -> CardAnswer {
     match answer {
         Card::Accepted { rows, used, body } => CardAnswer {

@@ -1,8 +1,46 @@
-//! The library's functions for members and positions, as `link/binmode.h` has
-//! them. What they report on is `rubbish` before the call.
+//! The library's functions with all that each reports, also where a refusal
+//! leaves nothing to say: the numbers of `link/binmode.h` as they are. What
+//! they report on is none of these before the call.
 
-// Its build links the library.
-use binmode as _;
+use binmode::sys;
+
+/// What a reported count is before the call: none that is ever reported.
+const NOT_REPORTED: usize = usize::MAX;
+
+/// What reading a message reports.
+#[derive(Clone, Copy, Debug, PartialEq, Eq)]
+pub struct Answer {
+    pub number: u8,
+    pub rows: usize,
+    pub used: usize,
+    pub place: usize,
+}
+
+/// What writing a table reports.
+#[derive(Clone, Copy, Debug, PartialEq, Eq)]
+pub struct Written {
+    pub number: u8,
+    pub length: usize,
+}
+
+/// What reading a card of a job file reports.
+#[derive(Clone, Copy, Debug, PartialEq, Eq)]
+pub struct CardAnswer {
+    pub number: u8,
+    pub rows: usize,
+    pub used: usize,
+    pub place: usize,
+    pub body: usize,
+}
+
+/// What looking for the next card of a job file reports.
+#[derive(Clone, Copy, Debug, PartialEq, Eq)]
+pub struct CardFound {
+    pub number: u8,
+    pub start: usize,
+    pub length: usize,
+    pub place: usize,
+}
 
 /// What looking up a member reports; the decimal by its bits.
 #[derive(Clone, Copy, Debug, Default, PartialEq, Eq)]
@@ -11,8 +49,8 @@ pub struct Looked {
     pub sort: u8,
     pub number: i64,
     pub decimal: u64,
-    pub offset: u64,
-    pub length: u64,
+    pub offset: usize,
+    pub length: usize,
 }
 
 /// What a position reports, by the bits of its parts.
@@ -22,36 +60,96 @@ pub struct Placed {
     pub parts: [u64; 3],
 }
 
-unsafe extern "C" {
-    fn binmode_lookup(
-        table: *const u32,
-        table_words: usize,
-        rows: usize,
-        text: *const u8,
-        text_len: usize,
-        row: usize,
-        key: *const u8,
-        key_len: usize,
-        sort: *mut u8,
-        number: *mut i64,
-        decimal: *mut f64,
-        offset: *mut u64,
-        length: *mut u64,
-    ) -> u8;
-
-    fn binmode_position(
-        table: *const u32,
-        table_words: usize,
-        rows: usize,
-        text: *const u8,
-        text_len: usize,
-        row: usize,
-        x: *mut f64,
-        y: *mut f64,
-        turn: *mut f64,
-    ) -> u8;
+pub fn read(message: &[u8], table: &mut [u32]) -> Answer {
+    let (mut rows, mut used, mut place) = (NOT_REPORTED, NOT_REPORTED, NOT_REPORTED);
+    // SAFETY: the slices and the three numbers are valid for the call, and
+    // those that are written overlap nothing. So it is in all that follow.
+    let number = unsafe {
+        sys::binmode_read(
+            message.as_ptr(),
+            message.len(),
+            table.as_mut_ptr(),
+            table.len(),
+            &mut rows,
+            &mut used,
+            &mut place,
+        )
+    };
+    Answer {
+        number,
+        rows,
+        used,
+        place,
+    }
 }
 
+pub fn write(table: &[u32], rows: usize, text: &[u8], output: &mut [u8]) -> Written {
+    let mut length = NOT_REPORTED;
+    // SAFETY: as above.
+    let number = unsafe {
+        sys::binmode_write(
+            table.as_ptr(),
+            table.len(),
+            rows,
+            text.as_ptr(),
+            text.len(),
+            output.as_mut_ptr(),
+            output.len(),
+            &mut length,
+        )
+    };
+    Written { number, length }
+}
+
+pub fn read_card(file: &[u8], number: usize, table: &mut [u32]) -> CardAnswer {
+    let (mut rows, mut used) = (NOT_REPORTED, NOT_REPORTED);
+    let (mut place, mut body) = (NOT_REPORTED, NOT_REPORTED);
+    // SAFETY: as above.
+    let number = unsafe {
+        sys::binmode_read_card(
+            file.as_ptr(),
+            file.len(),
+            number,
+            table.as_mut_ptr(),
+            table.len(),
+            &mut rows,
+            &mut used,
+            &mut place,
+            &mut body,
+        )
+    };
+    CardAnswer {
+        number,
+        rows,
+        used,
+        place,
+        body,
+    }
+}
+
+pub fn next_card(file: &[u8], number: usize, from: usize) -> CardFound {
+    let (mut start, mut length, mut place) = (NOT_REPORTED, NOT_REPORTED, NOT_REPORTED);
+    // SAFETY: as above.
+    let number = unsafe {
+        sys::binmode_next_card(
+            file.as_ptr(),
+            file.len(),
+            number,
+            from,
+            &mut start,
+            &mut length,
+            &mut place,
+        )
+    };
+    CardFound {
+        number,
+        start,
+        length,
+        place,
+    }
+}
+
+/// What it reports on is `rubbish` before the call.
 pub fn lookup(
     rubbish: u32,
     table: &[u32],
@@ -62,11 +160,10 @@ pub fn lookup(
 ) -> Looked {
     let (mut sort, mut number) = (rubbish as u8, rubbish.into());
     let mut decimal = f64::from_bits(rubbish.into());
-    let (mut offset, mut length) = (rubbish.into(), rubbish.into());
-    // SAFETY: the slices and the five numbers are valid for the call, and
-    // those that are written overlap nothing.
+    let (mut offset, mut length) = (rubbish as usize, rubbish as usize);
+    // SAFETY: as above.
     let refusal = unsafe {
-        binmode_lookup(
+        sys::binmode_lookup(
             table.as_ptr(),
             table.len(),
             rows,
@@ -92,13 +189,13 @@ pub fn lookup(
     }
 }
 
+/// What it reports on is `rubbish` before the call.
 pub fn position(rubbish: u32, table: &[u32], rows: usize, text: &[u8], row: usize) -> Placed {
     let mut parts = [f64::from_bits(rubbish.into()); 3];
     let [x, y, turn] = &mut parts;
-    // SAFETY: the slices and the three numbers are valid for the call, and
-    // those that are written overlap nothing.
+    // SAFETY: as above.
     let refusal = unsafe {
-        binmode_position(
+        sys::binmode_position(
             table.as_ptr(),
             table.len(),
             rows,

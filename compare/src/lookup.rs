@@ -209,8 +209,8 @@ fn reported(answer: Result<Member, u8>) -> Looked {
         },
         Ok(Member::Text { offset, length }) => Looked {
             sort: 4,
-            offset: offset.into(),
-            length: length.into(),
+            offset: offset as usize,
+            length: length as usize,
             ..none
         },
         Ok(Member::Row(row)) => Looked {

@@ -3,8 +3,9 @@
 use crate::change::changed;
 use crate::gather::gathered;
 use crate::lent::{Lent, rubbish};
+use crate::library;
 use crate::reading::Compared;
-use crate::state::{MORE_WANTED, State};
+use crate::state::{self, MORE_WANTED, State};
 use crate::tally::Run;
 use second::generate::{Random, message, table_words, valid};
 use second::pieces::{Outcome, Pieces};
@@ -108,8 +109,8 @@ impl InPieces {
         self.second_room.lend(cut.room, rubbish as u8);
         self.table.lend(cut.words, rubbish);
         self.second_table.lend(cut.words, !rubbish);
-        let (mut state, mut pieces) = (State::start(rubbish), Pieces::start());
-        if !state.is(Outcome::MoreWanted { place: 0 }, 0) {
+        let (mut state, mut pieces) = (state::start(rubbish), Pieces::start());
+        if !state::is(&state, Outcome::MoreWanted { place: 0 }, 0) {
             return Err(format!("the start is {state:?}"));
         }
         for (call, piece) in cut.pieces().into_iter().enumerate() {
@@ -122,7 +123,7 @@ impl InPieces {
                 return Err(format!("the library wrote to piece {call}"));
             }
         }
-        let number = state.end(self.room.content(), self.table.again());
+        let number = state::end(&mut state, self.room.content(), self.table.again());
         let outcome = pieces.end(self.second_room.content(), self.second_table.again());
         self.same(number, state, outcome, pieces.held())
             .map_err(|why| format!("the end differs: {why}"))?;
@@ -135,11 +136,11 @@ impl InPieces {
     fn next_by_library(&mut self, state: &mut State, rubbish: u32, piece: &[u8]) -> u8 {
         let given = self.piece.lend(piece.len(), rubbish as u8);
         given.copy_from_slice(piece);
-        state.next(given, self.room.again(), self.table.again())
+        state::next(state, given, self.room.again(), self.table.again())
     }
 
     fn same(&self, number: u8, state: State, outcome: Outcome, held: usize) -> Compared {
-        let why = if u64::from(number) != state.answer || !state.is(outcome, held) {
+        let why = if usize::from(number) != state.answer || !state::is(&state, outcome, held) {
             "the answers"
         } else if self.room.content() != self.second_room.content() {
             "the rooms"
@@ -159,12 +160,12 @@ impl InPieces {
 
     /// The library reads the whole message alike.
     fn same_as_whole(&mut self, message: &[u8], state: State) -> Compared {
-        let whole = binmode::read(message, self.second_table.again());
+        let whole = library::read(message, self.second_table.again());
         let answer = State {
             answer: whole.number.into(),
-            rows: whole.rows as u64,
-            used: whole.used as u64,
-            place: whole.place as u64,
+            rows: whole.rows,
+            used: whole.used,
+            place: whole.place,
             ..State::default()
         };
         match state == answer && self.table.content() == self.second_table.content() {
@@ -264,18 +265,18 @@ impl InPieces {
     /// wanted.
     fn wants_no_less(&mut self, random: &mut Random, message: &[u8]) -> Compared {
         let held = random.below(message.len().min(BYTE_LIMIT) + 1);
-        let mut state = State::start(7);
+        let mut state = state::start(7);
         let (room, table) = (self.room.lend(BYTE_LIMIT, 7), self.table.lend(16_384, 7));
-        state.next(&message[..held], room, table);
+        state::next(&mut state, &message[..held], room, table);
         if state.answer != MORE_WANTED {
             return Ok(());
         }
-        let wanted = (state.wanted as usize).min(BYTE_LIMIT + 1);
+        let wanted = state.wanted.min(BYTE_LIMIT + 1);
         let more = random.below(wanted.saturating_sub(held).max(1));
         let bytes = [&message[..held], &random.bytes(more)].concat();
         let cut = Read::Refused {
             number: refusal::CUT,
-            place: state.place as usize,
+            place: state.place,
         };
         match second::read(&bytes, &mut self.wide) == cut {
             true => Ok(()),
@@ -296,14 +297,14 @@ impl InPieces {
         self.room.lend(room, rubbish as u8);
         self.table.lend(words, rubbish);
         let number = match random.one_in(4) {
-            true => state.end(self.room.content(), self.table.again()),
+            true => state::end(&mut state, self.room.content(), self.table.again()),
             false => self.next_by_library(&mut state, rubbish, piece),
         };
         let is_short = room < BYTE_LIMIT;
         let rest = &self.room.content()[if is_short { 0 } else { BYTE_LIMIT }..];
         let is_refused = || {
             let mut words = self.table.content().iter();
-            state.is(SHORT_ROOM, 0) && words.all(|&word| word == 0)
+            state::is(&state, SHORT_ROOM, 0) && words.all(|&word| word == 0)
         };
         if rest.iter().all(|&byte| byte == rubbish as u8)
             && self.room.is_whole()
@@ -322,11 +323,11 @@ impl InPieces {
 }
 
 fn any_state(random: &mut Random) -> State {
-    const EDGES: [u64; 9] = [0, 1, 4, 10, 65_535, 65_536, 65_537, 1 << 63, u64::MAX];
+    const EDGES: [usize; 9] = [0, 1, 4, 10, 65_535, 65_536, 65_537, 1 << 63, usize::MAX];
     let mut number = || match random.below(4) {
-        0 => random.word(),
+        0 => random.word() as usize,
         1 => *random.pick(&EDGES),
-        _ => random.below(70_000) as u64,
+        _ => random.below(70_000),
     };
     let state = State {
         answer: number(),

@@ -3,8 +3,9 @@
 use crate::change::changed;
 use crate::gather::gathered;
 use crate::lent::{Lent, rubbish};
+use crate::library::{self, Answer};
 use crate::tally::Run;
-use binmode::{Answer, MOST_BYTES};
+use binmode::MOST_BYTES;
 use second::generate::{BAD_TEXTS, Random, message, table_words};
 use second::rules::{NESTING_LIMIT, PREFIX, ROW_LIMIT, ROW_WORDS};
 use second::{Read, hex, papers};
@@ -52,7 +53,7 @@ impl Reading {
         let rubbish = rubbish(random);
         let given = self.message.lend(message.len(), rubbish as u8);
         given.copy_from_slice(message);
-        let by_library = binmode::read(given, self.library.lend(words, rubbish));
+        let by_library = library::read(given, self.library.lend(words, rubbish));
         let by_second = reported(second::read(message, self.second.lend(words, !rubbish)));
         if let Some(difference) = self.difference(message, by_library, by_second) {
             let message = hex::encode(message);
@@ -64,7 +65,33 @@ impl Reading {
                  second  {by_second:?}"
             ));
         }
+        if random.one_in(8) && !self.is_wrapped_alike(message, words, by_second) {
+            let message = hex::encode(message);
+            return Err(format!(
+                "the wrapper differs\nmessage {message}\ntable of {words} words\nsecond  {by_second:?}"
+            ));
+        }
         Ok(by_library.number)
+    }
+
+    /// Whether the Rust wrapper answers with the same numbers, and its items
+    /// are the rows that the second implementation left.
+    fn is_wrapped_alike(&mut self, message: &[u8], words: usize, second: Answer) -> bool {
+        let Answer {
+            number,
+            rows,
+            used,
+            place,
+        } = second;
+        match binmode::read(message, self.library.lend(words, 0)) {
+            Ok(message) => {
+                let (all, _) = self.second.content().as_chunks::<ROW_WORDS>();
+                let counts = (message.rows(), message.bytes().len()) == (rows, used);
+                let items = message.items().map(binmode::Item::words);
+                number == 0 && counts && items.eq(all[..rows].iter().copied())
+            }
+            Err(refusal) => (refusal.reason.number(), refusal.place) == (number, place),
+        }
     }
 
     fn difference(&self, message: &[u8], library: Answer, second: Answer) -> Option<String> {

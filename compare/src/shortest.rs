@@ -1,6 +1,7 @@
 //! The library's written form against every other way of sending the same
 //! strings, for small tables.
 
+use crate::library;
 use crate::reading::Compared;
 use second::generate::{Random, Table, few_strings};
 use second::shortest::{shortest_by_counting, shortest_by_reading};
@@ -43,8 +44,8 @@ fn by_counting(table: &Table) -> Option<usize> {
 
 fn compare(table: &Table, least: Option<usize>) -> Compared {
     let mut output = vec![0; 2_000];
-    let written = binmode::write(&table.words, table.rows, &table.text, &mut output);
-    if written.is_accepted() && Some(written.length) == least {
+    let written = library::write(&table.words, table.rows, &table.text, &mut output);
+    if written.number == 0 && Some(written.length) == least {
         return Ok(());
     }
     Err(format!(

@@ -3,9 +3,9 @@
 use crate::edges::at_the_edges;
 use crate::gather::gathered_table;
 use crate::lent::{Lent, rubbish};
+use crate::library::{self, Written};
 use crate::reading::Compared;
 use crate::tally::Run;
-use binmode::Written;
 use second::generate::{Random, Table, few_strings, output_length, table};
 use second::rules::{BYTE_LIMIT, ROW_LIMIT, ROW_WORDS, kind};
 use second::{Read, Write, hex, papers};
@@ -52,7 +52,7 @@ impl Writing {
         let text = self.text.lend(table.text.len(), rubbish as u8);
         text.copy_from_slice(&table.text);
         let output = self.library.lend(room, rubbish as u8);
-        let by_library = binmode::write(words, table.rows, text, output);
+        let by_library = library::write(words, table.rows, text, output);
         let output = self.second.lend(room, !rubbish as u8);
         let by_second = reported(second::write(&table.words, table.rows, &table.text, output));
         if let Some(difference) = self.difference(table, by_library, by_second) {

@@ -49,17 +49,13 @@ fn file(cards: usize) -> Vec<u8> {
 fn every_card(cards: usize) {
     let file = &file(cards)[..];
     let next = |table: &mut [u32]| {
-        let mut from = 0;
-        for number in 0..cards {
-            let found = binmode::next_card(black_box(file), number, from);
-            let body = &file[found.start..][..found.length];
-            black_box(binmode::read(body, table));
-            from = found.start + found.length;
+        for card in binmode::Job::new(black_box(file)).cards().flatten() {
+            let _ = black_box(card.read(table));
         }
     };
     let number = |table: &mut [u32]| {
         for number in 0..cards {
-            black_box(binmode::read_card(black_box(file), number, table));
+            let _ = black_box(binmode::Job::new(black_box(file)).read_card(number, table));
         }
     };
     let second = |table: &mut [u32]| {
@@ -78,7 +74,7 @@ fn every_card(cards: usize) {
 
 fn one_card(file: &[u8], number: usize) {
     let library = |table: &mut [u32]| {
-        black_box(binmode::read_card(black_box(file), number, table));
+        let _ = black_box(binmode::Job::new(black_box(file)).read_card(number, table));
     };
     let second = |table: &mut [u32]| {
         black_box(read_card(black_box(file), number, table));

@@ -1,6 +1,7 @@
 //! How long looking up a member and a position takes, by the library and by
 //! the second implementation: `cargo run --release --bin bench-lookup`.
 
+#[allow(dead_code)] // the other functions
 #[path = "../library.rs"]
 mod library;
 

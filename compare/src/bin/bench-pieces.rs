@@ -82,15 +82,15 @@ fn line(name: &str, message: &[u8], piece: usize) {
 }
 
 fn read_whole(message: &[u8], table: &mut [u32]) -> bool {
-    binmode::read(black_box(message), black_box(table)).is_accepted()
+    binmode::read(black_box(message), black_box(table)).is_ok()
 }
 
 fn read_pieces(message: &[u8], piece: usize, room: &mut [u8], table: &mut [u32]) -> bool {
-    let mut pieces = binmode::Pieces::start();
+    let mut pieces = binmode::Pieces::start(black_box(room), black_box(table));
     for part in message.chunks(piece) {
-        pieces.next(black_box(part), black_box(room), black_box(table));
+        pieces.take(black_box(part));
     }
-    matches!(pieces.end(room, table), binmode::Progress::Accepted { .. })
+    pieces.end().is_ok()
 }
 
 /// Microseconds of a call, over so many.

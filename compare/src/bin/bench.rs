@@ -196,7 +196,7 @@ impl Line {
             black_box(second::read(black_box(message), black_box(buffer)));
         };
         let library = |buffer: &mut [u32]| {
-            black_box(binmode::read(black_box(message), black_box(buffer)));
+            let _ = black_box(binmode::read(black_box(message), black_box(buffer)));
         };
         times(buffer, library, second)
     }
@@ -214,12 +214,9 @@ impl Line {
             ));
         };
         let library = |buffer: &mut [u8]| {
-            black_box(binmode::write(
-                black_box(table),
-                rows,
-                text,
-                black_box(buffer),
-            ));
+            let words = black_box(table);
+            let table = binmode::Table { words, rows, text };
+            let _ = black_box(table.write(black_box(buffer)));
         };
         times(buffer, library, second)
     }

@@ -14,7 +14,7 @@ pub enum Piece {
     Failed,
 }
 
-// What a whole input brought: that many bytes, or an error.
+// What an input brought: that many bytes; or none, and why was said where it was found.
 pub enum Input {
     Bytes(usize),
     Failed,
@@ -84,7 +84,7 @@ pub fn read_all(fd: i32, buffer: &mut [u8]) -> Input
     input
 }
 
-// Reads the file of a name to its end, likewise. What goes wrong is said on standard error.
+// Reads the file of a name until it ends or the buffer is full. What goes wrong is said on standard error.
 fn read_named(name: &[u8], buffer: &mut [u8]) -> Input
     ensures { λ r. ⌜ Within r (length (now (buffer .entry))) ⌝ }
 {
@@ -93,7 +93,7 @@ fn read_named(name: &[u8], buffer: &mut [u8]) -> Input
         os::fail(name);
         return Input::Failed;
     }
-    let input = read_all(fd, buffer);
+    let input = fill(fd, buffer);
     if is_failed(input) {
         os::fail(name);
     }
@@ -121,10 +121,27 @@ pub fn read_file(word: usize, buffer: &mut [u8]) -> Input
     read_named(&name[..n], buffer)
 }
 
-// Reads standard input, or the file that the command's one word names, likewise. More words are answered with how the program is used.
+// Whether the command has one word, and that asks how the program is used; then that is told.
+pub fn has_helped(usage: &[u8]) -> bool {
+    if os::arg_count() != 2 {
+        return false;
+    }
+    let mut word = io::buffer();
+    let n = os::arg(1, &mut word);
+    if !names::equal(&word[..n], b"--help") {
+        return false;
+    }
+    write(usage);
+    true
+}
+
+// Reads standard input to its end, or the file that the command's one word names. More words are answered with how the program is used.
 pub fn read_input(usage: &[u8], buffer: &mut [u8]) -> Input
     ensures { λ r. ⌜ Within r (length (now (buffer .entry))) ⌝ }
 {
+    if has_helped(usage) {
+        return Input::Failed;
+    }
     let words = os::arg_count();
     if words > 2 {
         complain(usage);

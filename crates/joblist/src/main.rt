@@ -8,63 +8,98 @@ use spelling::Number;
 // The most bytes of a job file that the program takes.
 const MOST: usize = 4194304;
 
-// A card's line; and whether standard output took it.
-fn list_card(file: &[u8], number: usize, start: usize, size: usize, table: &mut [u32]) -> bool {
+// Lines wait in a buffer of 65,536 bytes and go out together. A line has 160 bytes at most (`listings/proofs/Room.antt`), so behind one that
+// begins here there is room for the last two.
+const FULL: usize = 65056;
+
+// Hands on the lines that wait, and says whether standard output took them.
+fn write_waiting(waiting: &[u8], at: usize) -> bool {
+    console::write(content::part(waiting, 0, at))
+}
+
+// Where the lines that wait end; or that standard output did not take those before.
+enum Waiting {
+    Until(usize),
+    Lost,
+}
+
+// Puts a card's line behind those that wait, which go out first if they are many.
+fn put_card(
+    file: &[u8],
+    number: usize,
+    start: usize,
+    size: usize,
+    table: &mut [u32],
+    waiting: &mut [u8],
+    at: usize,
+) -> Waiting {
     let answer = reader::read(content::part(file, start, size), table);
-    let mut space = [0u8; 160];
-    let line: &mut [u8] = &mut space;
-    let n = lines::put_card(line, number, start, size, answer);
-    console::write(content::part(line, 0, n))
-}
-
-// `refused N at P`
-fn write_refusal(number: u8, place: usize) {
-    let mut space = [0u8; 160];
-    let line: &mut [u8] = &mut space;
-    let n = lines::put_refusal(line, number, place);
-    console::write(content::part(line, 0, n));
-}
-
-// `cards N`
-fn write_count(cards: usize) -> bool {
-    let mut space = [0u8; 160];
-    let line: &mut [u8] = &mut space;
-    let n = lines::put_count(line, cards);
-    console::write(content::part(line, 0, n))
-}
-
-// `cards N`, and `refused N at P` if the job is not sound.
-fn write_end(cards: usize, refusal: JobRefusal, place: usize) {
-    if !write_count(cards) {
-        return;
+    if at <= FULL {
+        return Waiting::Until(lines::put_card(waiting, at, number, start, size, answer));
     }
+    if write_waiting(waiting, at) {
+        return Waiting::Until(lines::put_card(waiting, 0, number, start, size, answer));
+    }
+    Waiting::Lost
+}
+
+// Puts `refused N at P` if the job is not sound.
+fn put_fault(waiting: &mut [u8], at: usize, refusal: JobRefusal, place: usize) -> usize {
     match refusal {
-        JobRefusal::NoCard => {}
-        JobRefusal::FileEnded => write_refusal(records::number(refusal), place),
-        JobRefusal::WrongEnd => write_refusal(records::number(refusal), place),
+        JobRefusal::NoCard => at,
+        JobRefusal::FileEnded => lines::put_refusal(waiting, at, records::number(refusal), place),
+        JobRefusal::WrongEnd => lines::put_refusal(waiting, at, records::number(refusal), place),
     }
+}
+
+// The lines that wait, `cards N`, and `refused N at P` if the job is not sound.
+fn write_end(waiting: &mut [u8], at: usize, cards: usize, refusal: JobRefusal, place: usize) {
+    let mut end = lines::put_count(waiting, at, cards);
+    end = put_fault(waiting, end, refusal, place);
+    write_waiting(waiting, end);
 }
 
 // From card to card, in one pass over the file, as long as standard output takes the lines.
-fn list_all(file: &[u8], table: &mut [u32]) {
+fn list_all(file: &[u8], table: &mut [u32], waiting: &mut [u8]) {
     let mut number = 0;
     let mut from = 0;
+    let mut at = 0;
     while from <= file.len() {
         let found = records::find_next(file, number, from);
         match found {
             Found::Missing { refusal, place } => {
-                write_end(number, refusal, place);
+                write_end(waiting, at, number, refusal, place);
                 return;
             }
             Found::Body { start, length } => {
-                if !list_card(file, number, start, length, table) {
-                    return;
+                let put = put_card(file, number, start, length, table, waiting, at);
+                match put {
+                    Waiting::Lost => {
+                        return;
+                    }
+                    Waiting::Until(end) => {
+                        at = end;
+                    }
                 }
                 number += 1;
                 from = start + length;
             }
         }
     }
+}
+
+// The whole job, with a buffer for its lines.
+fn list_job(file: &[u8], table: &mut [u32]) {
+    let mut waiting = io::large_buffer();
+    list_all(file, table, &mut waiting);
+}
+
+// `refused N at P`
+fn write_refusal(number: u8, place: usize) {
+    let mut space = [0u8; 160];
+    let line: &mut [u8] = &mut space;
+    let n = lines::put_refusal(line, 0, number, place);
+    console::write(content::part(line, 0, n));
 }
 
 // `rows R used U body B`, and a line for each row.
@@ -94,7 +129,7 @@ fn list_one(file: &[u8], number: usize, table: &mut [u32]) {
 // Without a second word every card is listed, with one that card.
 fn list(file: &[u8], table: &mut [u32]) {
     if os::arg_count() < 3 {
-        list_all(file, table);
+        list_job(file, table);
         return;
     }
     let mut word = io::buffer();
@@ -115,6 +150,9 @@ fn understood(words: usize) -> bool {
 
 // Reads the file that the first word names, and lists it.
 fn run(buffer: &mut [u8], table: &mut [u32]) {
+    if console::has_helped(b"usage: joblist FILE [NUMBER]\n") {
+        return;
+    }
     if !understood(os::arg_count()) {
         console::complain(b"usage: joblist FILE [NUMBER]\n");
         return;

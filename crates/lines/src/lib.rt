@@ -1,15 +1,15 @@
-// The lines that the programs print, each put into a lent line. A function answers where what it put ends; what the line has no room for
-// is dropped.
+// The lines that the programs print, each put into a lent line, from its front or from a place on. A function answers where what it put
+// ends; what the line has no room for is dropped.
 use draft::Row;
 use reader::Answer;
 ghost use Rattle.spelling.specs.Line.{Puts, pairs};
 ghost use Rattle.lines.specs.Lines.{space, refusalLine, acceptedLine, cardAcceptedLine, rowLine, cardAnswer, cardLine, countLine};
 
 // `refused N at P`
-pub fn put_refusal(line: &mut [u8], number: u8, place: usize) -> usize
-    ensures { λ r. ⌜ Puts (refusalLine number place) (now (line .entry)) 0 (now (line .exit)) r ⌝ }
+pub fn put_refusal(line: &mut [u8], at: usize, number: u8, place: usize) -> usize
+    ensures { λ r. ⌜ Puts (refusalLine number place) (now (line .entry)) at (now (line .exit)) r ⌝ }
 {
-    let end = spelling::put_pairs(line, 0, b"refused ", number as u64, b" at ", place as u64);
+    let end = spelling::put_pairs(line, at, b"refused ", number as u64, b" at ", place as u64);
     spelling::put_byte(line, end, b'\n')
 }
 
@@ -69,19 +69,26 @@ fn put_card_answer(line: &mut [u8], at: usize, answer: Answer) -> usize
 }
 
 // `card N at P bytes B`, and its answer.
-pub fn put_card(line: &mut [u8], number: usize, start: usize, size: usize, answer: Answer) -> usize
-    ensures { λ n. ⌜ Puts (cardLine number start size answer) (now (line .entry)) 0 (now (line .exit)) n ⌝ }
+pub fn put_card(
+    line: &mut [u8],
+    at: usize,
+    number: usize,
+    start: usize,
+    size: usize,
+    answer: Answer,
+) -> usize
+    ensures { λ n. ⌜ Puts (cardLine number start size answer) (now (line .entry)) at (now (line .exit)) n ⌝ }
 {
-    let mut end = spelling::put_pair(line, 0, b"card ", number as u64);
+    let mut end = spelling::put_pair(line, at, b"card ", number as u64);
     end = spelling::put_pairs(line, end, b" at ", start as u64, b" bytes ", size as u64);
     end = put_card_answer(line, end, answer);
     spelling::put_byte(line, end, b'\n')
 }
 
 // `cards N`
-pub fn put_count(line: &mut [u8], cards: usize) -> usize
-    ensures { λ n. ⌜ Puts (countLine cards) (now (line .entry)) 0 (now (line .exit)) n ⌝ }
+pub fn put_count(line: &mut [u8], at: usize, cards: usize) -> usize
+    ensures { λ n. ⌜ Puts (countLine cards) (now (line .entry)) at (now (line .exit)) n ⌝ }
 {
-    let end = spelling::put_pair(line, 0, b"cards ", cards as u64);
+    let end = spelling::put_pair(line, at, b"cards ", cards as u64);
     spelling::put_byte(line, end, b'\n')
 }

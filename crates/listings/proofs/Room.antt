@@ -34,15 +34,15 @@ put-behind a (b ∷ s) (c ∷ o) h =
     let e : length (a ++ (b ∷ [])) + length s ≡ length a + suc (length s) = rw length-append (omega arith) in
     ap (λ (l : Line). put l s) (byte-in a o b c) ∙ put-behind (a ++ (b ∷ [])) s o (omega arith) ∙ rw (e, append-assoc)
 
--- a line that has room for s holds it in front, and its bytes behind stay
-pub record Holds (s o o′ : List ℕ) (n : ℕ) : Type 0 where
-  pub is : o′ ≡ s ++ drop (length s) o
-  pub long : n ≡ length s
+-- a line that has room for s behind a holds both, and its bytes behind them stay
+pub record Holds (a s o o′ : List ℕ) (n : ℕ) : Type 0 where
+  pub is : o′ ≡ a ++ (s ++ drop (length s) o)
+  pub long : n ≡ length a + length s
 
-pub holds : {s o o′ : List ℕ} {n : ℕ} → length s ≤ length o → Puts s o 0 o′ n → Holds s o o′ n
-holds {s} {o} {o′} {n} h p =
-    let e : line o′ n ≡ line (s ++ drop (length s) o) (0 + length s) = p .is ∙ put-behind [] s o h in
-    record { is = ap (λ (l : Line). l .bytes) e; long = ap (λ (l : Line). l .at) e ∙ omega arith }
+pub holds : (a : List ℕ) {s o o′ : List ℕ} {n : ℕ} → length s ≤ length o → Puts s (a ++ o) (length a) o′ n → Holds a s o o′ n
+holds a {s} {o} {o′} {n} h p =
+    let e : line o′ n ≡ line (a ++ (s ++ drop (length s) o)) (length a + length s) = p .is ∙ put-behind a s o h in
+    record { is = ap (λ (l : Line). l .bytes) e; long = ap (λ (l : Line). l .at) e }
 
 -- a number has 20 digits at most
 one-of : (b : Bool) (x y : List ℕ) {m : ℕ} → length x ≤ m → length y ≤ m → length (cond b x y) ≤ m

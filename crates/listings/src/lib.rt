@@ -41,6 +41,7 @@ pub fn put_listing(line: &mut [u8], answer: Answer, table: &[u32]) -> usize
         }
         Answer::Refused { refusal, place } => lines::put_refusal(
             line,
+            0,
             draft::number(refusal),
             place,
         ),

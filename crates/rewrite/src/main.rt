@@ -5,7 +5,7 @@ use console::Input;
 fn complain(number: u8, place: usize) {
     let mut space = [0u8; 160];
     let line: &mut [u8] = &mut space;
-    let n = lines::put_refusal(line, number, place);
+    let n = lines::put_refusal(line, 0, number, place);
     console::complain(content::part(line, 0, n));
 }
 

@@ -1,40 +1,47 @@
-//! Lists the message in a file, as the listing program does: `list FILE`.
+//! Lists the message in a file, as the listing program does: `list FILE`. Ends
+//! with 1 if it is refused, 2 on trouble.
 
-use binmode::{MOST_BYTES, MOST_ROWS, ROW_WORDS, read};
+use binmode::{MOST_BYTES, TABLE_WORDS, read};
+use std::error::Error;
 use std::fs::File;
-use std::io::{self, BufWriter, Read as _, Write as _};
+use std::io::{BufWriter, Read as _, Write as _, stdout};
 use std::process::ExitCode;
 
 fn main() -> ExitCode {
-    let words: Vec<_> = std::env::args_os().skip(1).collect();
-    let [path] = &words[..] else {
-        eprintln!("usage: list FILE");
-        return ExitCode::from(2);
-    };
-    match File::open(path).and_then(list) {
-        Ok(()) => ExitCode::SUCCESS,
-        Err(error) => {
-            eprintln!("{}: {error}", path.display());
-            ExitCode::FAILURE
-        }
-    }
+    list().unwrap_or_else(|trouble| {
+        eprintln!("list: {trouble}");
+        ExitCode::from(2)
+    })
 }
 
-fn list(file: File) -> io::Result<()> {
+fn list() -> Result<ExitCode, Box<dyn Error>> {
+    let words: Vec<_> = std::env::args_os().skip(1).collect();
+    let [path] = &words[..] else {
+        return Err("usage: list FILE".into());
+    };
     // One byte over the limit is enough to have a longer file refused.
-    let mut message = Vec::new();
-    file.take(MOST_BYTES as u64 + 1).read_to_end(&mut message)?;
-    let mut table = vec![0; MOST_ROWS * ROW_WORDS];
-    let answer = read(&message, &mut table);
-    let mut output = BufWriter::new(io::stdout().lock());
-    if answer.is_accepted() {
-        writeln!(output, "rows {} used {}", answer.rows, answer.used)?;
-        let (rows, _) = table.as_chunks::<ROW_WORDS>();
-        for (row, [kind, a, b, end]) in (0..answer.rows).zip(rows) {
-            writeln!(output, "{row} {kind} {a} {b} {end}")?;
+    let mut bytes = Vec::new();
+    File::open(path)?
+        .take(MOST_BYTES as u64 + 1)
+        .read_to_end(&mut bytes)?;
+    let mut table = vec![0; TABLE_WORDS];
+    let mut output = BufWriter::new(stdout().lock());
+    let status = match read(&bytes, &mut table) {
+        Ok(message) => {
+            let (rows, used) = (message.rows(), message.bytes().len());
+            writeln!(output, "rows {rows} used {used}")?;
+            for item in message.items() {
+                let [kind, a, b, end] = item.words();
+                writeln!(output, "{} {kind} {a} {b} {end}", item.row())?;
+            }
+            ExitCode::SUCCESS
         }
-    } else {
-        writeln!(output, "refused {} at {}", answer.number, answer.place)?;
-    }
-    output.flush()
+        Err(refusal) => {
+            let (number, place) = (refusal.reason.number(), refusal.place);
+            writeln!(output, "refused {number} at {place}")?;
+            ExitCode::FAILURE
+        }
+    };
+    output.flush()?;
+    Ok(status)
 }

@@ -2,56 +2,56 @@
 //! gives them, as soon as it is decided: `pieces`. Ends with 1 if it is
 //! refused, 2 on trouble.
 
-use binmode::{MOST_BYTES, MOST_ROWS, Pieces, Progress, ROW_WORDS};
+use binmode::{MOST_BYTES, Message, Pieces, Refusal, TABLE_WORDS};
 use std::io::{self, BufWriter, ErrorKind, Read as _, Write as _};
 use std::process::ExitCode;
 
 fn main() -> ExitCode {
-    let mut table = vec![0; MOST_ROWS * ROW_WORDS];
-    match take_pieces(&mut table).and_then(|progress| list(progress, &table)) {
-        Ok(true) => ExitCode::SUCCESS,
-        Ok(false) => ExitCode::FAILURE,
-        Err(error) => {
-            eprintln!("{error}");
+    let (mut room, mut table) = (vec![0; MOST_BYTES], vec![0; TABLE_WORDS]);
+    let pieces = Pieces::start(&mut room, &mut table);
+    match take_all(pieces).and_then(list) {
+        Ok(status) => status,
+        Err(trouble) => {
+            eprintln!("pieces: {trouble}");
             ExitCode::from(2)
         }
     }
 }
 
-fn take_pieces(table: &mut [u32]) -> io::Result<Progress> {
-    let mut room = vec![0; MOST_BYTES];
-    let mut piece = [0; 4096];
+fn take_all(mut pieces: Pieces) -> io::Result<Result<Message, Refusal>> {
     let mut input = io::stdin().lock();
-    let mut pieces = Pieces::start();
-    loop {
+    let mut piece = [0; 4096];
+    while pieces.wants_more() {
         let length = match input.read(&mut piece) {
             Err(error) if error.kind() == ErrorKind::Interrupted => continue,
             other => other?,
         };
         if length == 0 {
-            return Ok(pieces.end(&room, table));
+            break;
         }
-        match pieces.next(&piece[..length], &mut room, table) {
-            Progress::MoreWanted => {}
-            decided => return Ok(decided),
-        }
+        pieces.take(&piece[..length]);
     }
+    Ok(pieces.end())
 }
 
-/// Whether it is accepted.
-fn list(progress: Progress, table: &[u32]) -> io::Result<bool> {
+fn list(answer: Result<Message, Refusal>) -> io::Result<ExitCode> {
     let mut output = BufWriter::new(io::stdout().lock());
-    match progress {
-        Progress::Accepted { rows, used } => {
+    let status = match answer {
+        Ok(message) => {
+            let (rows, used) = (message.rows(), message.bytes().len());
             writeln!(output, "rows {rows} used {used}")?;
-            let (words, _) = table.as_chunks::<ROW_WORDS>();
-            for (row, [kind, a, b, end]) in (0..rows).zip(words) {
-                writeln!(output, "{row} {kind} {a} {b} {end}")?;
+            for item in message.items() {
+                let [kind, a, b, end] = item.words();
+                writeln!(output, "{} {kind} {a} {b} {end}", item.row())?;
             }
+            ExitCode::SUCCESS
         }
-        Progress::Refused { number, place } => writeln!(output, "refused {number} at {place}")?,
-        Progress::MoreWanted => unreachable!("the end was called"),
-    }
+        Err(refusal) => {
+            let (number, place) = (refusal.reason.number(), refusal.place);
+            writeln!(output, "refused {number} at {place}")?;
+            ExitCode::FAILURE
+        }
+    };
     output.flush()?;
-    Ok(matches!(progress, Progress::Accepted { .. }))
+    Ok(status)
 }

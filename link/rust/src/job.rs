@@ -1,121 +1,138 @@
 //! Job files: their cards, each by its number or one after the other.
 
-use crate::{NOT_REPORTED, number};
+use crate::{Message, Reason, Refusal, read, sys};
+use core::iter::FusedIterator;
 
-/// What reading a card of a job file answers.
-#[derive(Clone, Copy, Debug, PartialEq, Eq)]
-pub struct CardAnswer {
-    /// 0 if the card is accepted, else the number of the refusal.
-    pub number: u8,
-    /// The number of rows; 0 on a refusal.
-    pub rows: usize,
-    /// The number of the body's bytes used; 0 on a refusal.
-    pub used: usize,
-    /// For a card's own refusal the offset in its body of the item that is
-    /// refused; for 15, 16 and 26 the record's first byte in the file; 0 on
-    /// acceptance.
-    pub place: usize,
-    /// The body's first byte in the file; 0 on a refusal.
-    pub body: usize,
+/// A job file.
+#[derive(Clone, Copy, Debug)]
+#[must_use]
+pub struct Job<'f> {
+    file: &'f [u8],
 }
 
-impl CardAnswer {
-    pub fn is_accepted(&self) -> bool {
-        self.number == number::ACCEPTED
-    }
-}
-
-/// Where the next card's body lies in a job file.
+/// A card of a job file, not yet read.
 #[derive(Clone, Copy, Debug, PartialEq, Eq)]
-pub struct CardFound {
-    /// 0 if there is one, else the number of the refusal: 15, 16 or 26.
-    pub number: u8,
-    /// The body's first byte in the file, and its length; 0 if there is none.
+#[must_use]
+pub struct Card<'f> {
+    /// The card's number, from 0.
+    pub number: usize,
+    /// Its first byte in the file.
     pub start: usize,
-    pub length: usize,
-    /// The place of the record that says so, which is `from` if none begins
-    /// there; 0 if there is a card.
-    pub place: usize,
+    /// Its bytes, a message.
+    pub bytes: &'f [u8],
 }
 
-unsafe extern "C" {
-    fn binmode_read_card(
-        file: *const u8,
-        file_len: usize,
-        number: usize,
-        table: *mut u32,
-        table_words: usize,
-        rows: *mut u64,
-        used: *mut u64,
-        place: *mut u64,
-        body: *mut u64,
-    ) -> u8;
-
-    fn binmode_next_card(
-        file: *const u8,
-        file_len: usize,
-        number: usize,
-        from: usize,
-        start: *mut u64,
-        length: *mut u64,
-        place: *mut u64,
-    ) -> u8;
-}
-
-/// Reads card `number` of a job file, counted from 0, into a table. Every word
-/// of the table is settled: the card's rows, and zeros behind them; on a
-/// refusal, zeros. The records before the card are stepped over in each call.
-pub fn read_card(file: &[u8], number: usize, table: &mut [u32]) -> CardAnswer {
-    let (mut rows, mut used) = (NOT_REPORTED, NOT_REPORTED);
-    let (mut place, mut body) = (NOT_REPORTED, NOT_REPORTED);
-    // SAFETY: the slices and the four numbers are valid for the call, and
-    // those that are written overlap nothing.
-    let number = unsafe {
-        binmode_read_card(
-            file.as_ptr(),
-            file.len(),
-            number,
-            table.as_mut_ptr(),
-            table.len(),
-            &mut rows,
-            &mut used,
-            &mut place,
-            &mut body,
-        )
-    };
-    // A u64 is a usize on x86-64.
-    CardAnswer {
-        number,
-        rows: rows as usize,
-        used: used as usize,
-        place: place as usize,
-        body: body as usize,
+impl<'f> Card<'f> {
+    /// Reads the card, with an empty codebook, as [`read`](crate::read()) does.
+    pub fn read(self, table: &'f mut [u32]) -> Result<Message<'f>, Refusal> {
+        read(self.bytes, table)
     }
 }
 
-/// Finds the next card of a job file, for one who goes from card to card:
-/// `number` cards stand before the record at `from`. Begin with 0 and 0; after
-/// a card, go on with the next number and the end of its body. What is found
-/// so is what `read_card` reads.
-pub fn next_card(file: &[u8], number: usize, from: usize) -> CardFound {
-    let (mut start, mut length, mut place) = (NOT_REPORTED, NOT_REPORTED, NOT_REPORTED);
-    // SAFETY: the slice and the three numbers are valid for the call, and
-    // those that are written overlap nothing.
-    let number = unsafe {
-        binmode_next_card(
-            file.as_ptr(),
-            file.len(),
-            number,
-            from,
-            &mut start,
-            &mut length,
-            &mut place,
-        )
-    };
-    CardFound {
-        number,
-        start: start as usize,
-        length: length as usize,
-        place: place as usize,
+impl<'f> Job<'f> {
+    pub fn new(file: &'f [u8]) -> Self {
+        Job { file }
+    }
+
+    /// The cards, one after the other; and a refusal at the end if the job is
+    /// not sound.
+    ///
+    /// ```
+    /// use binmode::{Job, Reason};
+    ///
+    /// let file = b"\x12\0\0\0\x01\0binmode-rpc:RI\x04\0\0\0\x04\0\0\0\x02\0\x02\0\0\0";
+    /// let mut cards = Job::new(file).cards();
+    /// let mut table = [0; 64];
+    /// let message = cards.next().expect("a card")?.read(&mut table)?;
+    /// assert_eq!(message.items().count(), 2);
+    /// // The end counts two cards.
+    /// let refusal = cards.next().expect("a refusal").unwrap_err();
+    /// assert_eq!(refusal.reason, Reason::WrongEnd);
+    /// assert!(cards.next().is_none());
+    /// # Ok::<(), binmode::Refusal>(())
+    /// ```
+    pub fn cards(self) -> Cards<'f> {
+        Cards {
+            file: self.file,
+            number: 0,
+            from: Some(0),
+        }
+    }
+
+    /// Reads the card of a number, counted from 0, and says where its first
+    /// byte is in the file. The records before it are stepped over in each
+    /// call. The place of a refusal is counted from the card's first byte,
+    /// unless the file is at fault ([`Reason::is_of_file`]).
+    pub fn read_card(
+        self,
+        number: usize,
+        table: &'f mut [u32],
+    ) -> Result<(usize, Message<'f>), Refusal> {
+        let (mut rows, mut used, mut place, mut body) = (0, 0, 0, 0);
+        // SAFETY: the slices and the four numbers are valid for the call, and
+        // those that are written overlap nothing.
+        let answer = unsafe {
+            sys::binmode_read_card(
+                self.file.as_ptr(),
+                self.file.len(),
+                number,
+                table.as_mut_ptr(),
+                table.len(),
+                &mut rows,
+                &mut used,
+                &mut place,
+                &mut body,
+            )
+        };
+        match answer {
+            sys::ACCEPTED => Ok((body, Message::read(table, rows, &self.file[body..], used))),
+            _ => Err(Refusal::given(answer, place)),
+        }
     }
 }
+
+/// The cards of a job file, one after the other.
+#[derive(Clone, Debug)]
+pub struct Cards<'f> {
+    file: &'f [u8],
+    number: usize,
+    /// Where the next record begins; none once the job has ended.
+    from: Option<usize>,
+}
+
+impl<'f> Iterator for Cards<'f> {
+    type Item = Result<Card<'f>, Refusal>;
+
+    fn next(&mut self) -> Option<Self::Item> {
+        let from = self.from.take()?;
+        let (mut start, mut length, mut place) = (0, 0, 0);
+        // SAFETY: the slice and the three numbers are valid for the call, and
+        // those that are written overlap nothing.
+        let answer = unsafe {
+            sys::binmode_next_card(
+                self.file.as_ptr(),
+                self.file.len(),
+                self.number,
+                from,
+                &mut start,
+                &mut length,
+                &mut place,
+            )
+        };
+        if answer != sys::ACCEPTED {
+            let refusal = Refusal::given(answer, place);
+            return (refusal.reason != Reason::NoCard).then_some(Err(refusal));
+        }
+        let number = self.number;
+        self.number += 1;
+        self.from = Some(start + length);
+        let bytes = &self.file[start..][..length];
+        Some(Ok(Card {
+            number,
+            start,
+            bytes,
+        }))
+    }
+}
+
+impl FusedIterator for Cards<'_> {}

@@ -1,22 +1,21 @@
-//! Members of a Struct, looked up by their keys, and positions.
+//! Members of a Struct, looked up by their keys; positions; and job defaults
+//! behind a card.
 
-use crate::{NOT_REPORTED, number};
+use crate::{Item, Refusal, sys};
 
 /// What looking up a member answers.
-#[derive(Clone, Copy, Debug, PartialEq)]
-pub enum Lookup {
+#[derive(Clone, Copy, Debug)]
+pub enum Member<'t> {
     /// An Integer.
     WholeNumber(i64),
-    /// A Double.
+    /// A Double: the f64 nearest to the number that its text says.
     Decimal(f64),
     /// A Boolean.
     YesOrNo(bool),
-    /// A String: where its text lies in the text bytes.
-    Text { offset: usize, length: usize },
-    /// The row of a DateTime, Binary, Array, Struct or Other.
-    Item(usize),
-    /// The number of the refusal: 11, 18 or 19.
-    Refused(u8),
+    /// A String.
+    Text(&'t str),
+    /// A DateTime, Binary, Array, Struct or Other.
+    Item(Item<'t>),
 }
 
 /// A position: the members x, y and turn of a Struct.
@@ -27,95 +26,139 @@ pub struct Position {
     pub turn: f64,
 }
 
-unsafe extern "C" {
-    fn binmode_lookup(
-        table: *const u32,
-        table_words: usize,
-        rows: usize,
-        text: *const u8,
-        text_len: usize,
-        row: usize,
-        key: *const u8,
-        key_len: usize,
-        sort: *mut u8,
-        number: *mut i64,
-        decimal: *mut f64,
-        offset: *mut u64,
-        length: *mut u64,
-    ) -> u8;
-
-    fn binmode_position(
-        table: *const u32,
-        table_words: usize,
-        rows: usize,
-        text: *const u8,
-        text_len: usize,
-        row: usize,
-        x: *mut f64,
-        y: *mut f64,
-        turn: *mut f64,
-    ) -> u8;
+/// Where a text comes from.
+#[derive(Clone, Copy, Debug, PartialEq, Eq)]
+pub enum Source {
+    Card,
+    Defaults,
 }
 
-/// Looks up the member with a key in the Struct of a row, in any table
-/// with a stated number of rows, whose contents lie in `text`.
-pub fn lookup(table: &[u32], rows: usize, text: &[u8], row: usize, key: &[u8]) -> Lookup {
-    let (mut sort, mut whole, mut decimal) = (u8::MAX, i64::MIN, f64::NAN);
-    let (mut offset, mut length) = (NOT_REPORTED, NOT_REPORTED);
-    // SAFETY: the slices and the five numbers are valid for the call, and
-    // those that are written overlap nothing.
-    let refusal = unsafe {
-        binmode_lookup(
-            table.as_ptr(),
-            table.len(),
-            rows,
-            text.as_ptr(),
-            text.len(),
-            row,
-            key.as_ptr(),
-            key.len(),
-            &mut sort,
-            &mut whole,
-            &mut decimal,
-            &mut offset,
-            &mut length,
-        )
-    };
-    // A u64 is a usize on x86-64.
-    match sort {
-        1 => Lookup::WholeNumber(whole),
-        2 => Lookup::Decimal(decimal),
-        3 => Lookup::YesOrNo(whole == 1),
-        4 => Lookup::Text {
-            offset: offset as usize,
-            length: length as usize,
-        },
-        5 => Lookup::Item(whole as usize),
-        _ => Lookup::Refused(refusal),
+/// A part of the bytes in which a writable table's texts lie.
+fn text_in(bytes: &[u8], offset: usize, length: usize) -> &str {
+    let text = &bytes[offset..][..length];
+    str::from_utf8(text).expect("a String of a writable table is UTF-8")
+}
+
+impl<'t> Item<'t> {
+    /// Looks up the member with a key in this Struct. The table may be any:
+    /// one that is not writable is refused first. A refusal is `NotWritable`,
+    /// `NoMember` or `TooManyDigits`.
+    ///
+    /// ```
+    /// use binmode::{Member, Reason};
+    ///
+    /// let bytes = b"binmode-rpc:RS\x01\0\0\0U\x01\0\0\0xD\x032.5";
+    /// let mut table = [0; 64];
+    /// let card = binmode::read(bytes, &mut table)?;
+    /// let values = card.root().children().next().expect("a Value");
+    /// assert!(matches!(values.lookup("x")?, Member::Decimal(2.5)));
+    /// assert_eq!(values.lookup("y").unwrap_err().reason, Reason::NoMember);
+    /// # Ok::<(), binmode::Refusal>(())
+    /// ```
+    pub fn lookup(self, key: impl AsRef<[u8]>) -> Result<Member<'t>, Refusal> {
+        let (table, key) = (self.table(), key.as_ref());
+        let (mut sort, mut whole, mut decimal) = (0, 0, 0.0);
+        let (mut offset, mut length) = (0, 0);
+        // SAFETY: the slices and the five numbers are valid for the call, and
+        // those that are written overlap nothing.
+        let number = unsafe {
+            sys::binmode_lookup(
+                table.words.as_ptr(),
+                table.words.len(),
+                table.rows,
+                table.text.as_ptr(),
+                table.text.len(),
+                self.row(),
+                key.as_ptr(),
+                key.len(),
+                &mut sort,
+                &mut whole,
+                &mut decimal,
+                &mut offset,
+                &mut length,
+            )
+        };
+        if number != sys::ACCEPTED {
+            return Err(Refusal::given(number, 0));
+        }
+        Ok(match sort {
+            1 => Member::WholeNumber(whole),
+            2 => Member::Decimal(decimal),
+            3 => Member::YesOrNo(whole != 0),
+            4 => Member::Text(text_in(table.text, offset, length)),
+            _ => {
+                let item = table.item(whole as usize);
+                Member::Item(item.expect("a row of a writable table has a kind"))
+            }
+        })
     }
-}
 
-/// The position in the Struct of a row, or the number of the refusal: 11, 18
-/// or 19.
-pub fn position(table: &[u32], rows: usize, text: &[u8], row: usize) -> Result<Position, u8> {
-    let (mut x, mut y, mut turn) = (f64::NAN, f64::NAN, f64::NAN);
-    // SAFETY: the slices and the three numbers are valid for the call, and
-    // those that are written overlap nothing.
-    let refusal = unsafe {
-        binmode_position(
-            table.as_ptr(),
-            table.len(),
-            rows,
-            text.as_ptr(),
-            text.len(),
-            row,
-            &mut x,
-            &mut y,
-            &mut turn,
-        )
-    };
-    match refusal {
-        number::ACCEPTED => Ok(Position { x, y, turn }),
-        _ => Err(refusal),
+    /// The position in this Struct: its members x, y and turn, each a Double.
+    /// A refusal is `NotWritable`, `NoMember` or `TooManyDigits`.
+    pub fn position(self) -> Result<Position, Refusal> {
+        let table = self.table();
+        let (mut x, mut y, mut turn) = (0.0, 0.0, 0.0);
+        // SAFETY: the slices and the three numbers are valid for the call, and
+        // those that are written overlap nothing.
+        let number = unsafe {
+            sys::binmode_position(
+                table.words.as_ptr(),
+                table.words.len(),
+                table.rows,
+                table.text.as_ptr(),
+                table.text.len(),
+                self.row(),
+                &mut x,
+                &mut y,
+                &mut turn,
+            )
+        };
+        match number {
+            sys::ACCEPTED => Ok(Position { x, y, turn }),
+            _ => Err(Refusal::given(number, 0)),
+        }
+    }
+
+    /// The text under a key in this Struct, a card's, or in the defaults' if
+    /// the card's lacks the key; with where it comes from. A refusal is
+    /// `NotWritable` or `NoMember`.
+    pub fn text_or_default(
+        self,
+        defaults: Item<'t>,
+        key: impl AsRef<[u8]>,
+    ) -> Result<(&'t str, Source), Refusal> {
+        let (card, behind, key) = (self.table(), defaults.table(), key.as_ref());
+        let (mut source, mut offset, mut length) = (0, 0, 0);
+        // SAFETY: the slices and the three numbers are valid for the call, and
+        // those that are written overlap nothing.
+        let number = unsafe {
+            sys::binmode_default_text(
+                card.words.as_ptr(),
+                card.words.len(),
+                card.rows,
+                card.text.as_ptr(),
+                card.text.len(),
+                self.row(),
+                behind.words.as_ptr(),
+                behind.words.len(),
+                behind.rows,
+                behind.text.as_ptr(),
+                behind.text.len(),
+                defaults.row(),
+                key.as_ptr(),
+                key.len(),
+                &mut source,
+                &mut offset,
+                &mut length,
+            )
+        };
+        if number != sys::ACCEPTED {
+            return Err(Refusal::given(number, 0));
+        }
+        let (source, bytes) = match source {
+            0 => (Source::Card, card.text),
+            _ => (Source::Defaults, behind.text),
+        };
+        Ok((text_in(bytes, offset, length), source))
     }
 }

@@ -1,0 +1,147 @@
+//! The library's functions as `link/binmode.h` declares them, with what they
+//! ask of their caller. The rest of this crate is safe.
+
+/// The state of a message in pieces: six numbers, of which any have an answer.
+#[repr(C)]
+#[derive(Clone, Copy, Debug, Default, PartialEq, Eq)]
+pub struct Pieces {
+    /// 255 if more is wanted, 0 if the message is accepted, else the number of
+    /// the refusal.
+    pub answer: usize,
+    /// The number of rows; 0 unless accepted.
+    pub rows: usize,
+    /// The number of bytes used; 0 unless accepted.
+    pub used: usize,
+    /// The place of a refusal; where more is wanted, the place that refusal 1
+    /// would have if no more came.
+    pub place: usize,
+    /// Where more is wanted, how many bytes are held in the room; else 0.
+    pub held: usize,
+    /// Where more is wanted: with fewer bytes than this held no other answer
+    /// comes (it may be no more than are held); else 0.
+    pub wanted: usize,
+}
+
+/// The answer of an accepted message.
+pub const ACCEPTED: u8 = 0;
+/// The answer of a message in pieces that is not decided.
+pub const MORE_WANTED: u8 = 255;
+
+unsafe extern "C" {
+    pub fn binmode_version_1() -> u32;
+
+    pub fn binmode_read(
+        message: *const u8,
+        message_len: usize,
+        table: *mut u32,
+        table_words: usize,
+        rows: *mut usize,
+        used: *mut usize,
+        place: *mut usize,
+    ) -> u8;
+
+    pub fn binmode_write(
+        table: *const u32,
+        table_words: usize,
+        rows: usize,
+        text: *const u8,
+        text_len: usize,
+        output: *mut u8,
+        output_len: usize,
+        length: *mut usize,
+    ) -> u8;
+
+    pub fn binmode_read_card(
+        file: *const u8,
+        file_len: usize,
+        number: usize,
+        table: *mut u32,
+        table_words: usize,
+        rows: *mut usize,
+        used: *mut usize,
+        place: *mut usize,
+        body: *mut usize,
+    ) -> u8;
+
+    pub fn binmode_next_card(
+        file: *const u8,
+        file_len: usize,
+        number: usize,
+        from: usize,
+        start: *mut usize,
+        length: *mut usize,
+        place: *mut usize,
+    ) -> u8;
+
+    pub fn binmode_lookup(
+        table: *const u32,
+        table_words: usize,
+        rows: usize,
+        text: *const u8,
+        text_len: usize,
+        row: usize,
+        key: *const u8,
+        key_len: usize,
+        sort: *mut u8,
+        number: *mut i64,
+        decimal: *mut f64,
+        offset: *mut usize,
+        length: *mut usize,
+    ) -> u8;
+
+    pub fn binmode_position(
+        table: *const u32,
+        table_words: usize,
+        rows: usize,
+        text: *const u8,
+        text_len: usize,
+        row: usize,
+        x: *mut f64,
+        y: *mut f64,
+        turn: *mut f64,
+    ) -> u8;
+
+    pub fn binmode_default_text(
+        table: *const u32,
+        table_words: usize,
+        rows: usize,
+        text: *const u8,
+        text_len: usize,
+        row: usize,
+        defaults_table: *const u32,
+        defaults_words: usize,
+        defaults_rows: usize,
+        defaults_text: *const u8,
+        defaults_len: usize,
+        defaults_row: usize,
+        key: *const u8,
+        key_len: usize,
+        source: *mut u8,
+        offset: *mut usize,
+        length: *mut usize,
+    ) -> u8;
+
+    pub fn binmode_pieces_start(state: *mut Pieces);
+
+    pub fn binmode_pieces_next(
+        state: *mut Pieces,
+        piece: *const u8,
+        piece_len: usize,
+        room: *mut u8,
+        room_len: usize,
+        table: *mut u32,
+        table_words: usize,
+    ) -> u8;
+
+    pub fn binmode_pieces_end(
+        state: *mut Pieces,
+        room: *const u8,
+        room_len: usize,
+        table: *mut u32,
+        table_words: usize,
+    ) -> u8;
+}
+
+/// Whatever links this crate refers to the library's major version.
+#[used]
+static LINKED: unsafe extern "C" fn() -> u32 = binmode_version_1;
