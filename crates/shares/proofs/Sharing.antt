@@ -25,6 +25,11 @@ unfolding sizeOf
 size-fits Four split words h = omega arith
 size-fits Five split words h = omega arith
 
+pub in-rows : (s : Station) (split words : ℕ) → split < words / 4 → firstWord s split + sizeOf s split words ≤ words / 4 * 4
+unfolding sizeOf
+in-rows Four split words h = omega arith
+in-rows Five split words h = omega arith
+
 pub four-size : (split words : ℕ) → sizeOf Four split words ≡ split * 4
 unfolding sizeOf
 four-size split words = omega arith
