@@ -21,8 +21,8 @@ module _ (station : Station) (split : ℕ) (T : List ℕ) {found : Share} (i : f
     unfolding nextAnswer nextRoom nextWords
     piece-there p R d =
         record {
-          says = lent-answer split station T i e (nextAnswer state p R) NotSplit (ap Stands (d .says));
-          room = lent-answer split station T i e (nextRoom state p R) R (d .room);
+          says = lent-answer split station T i e (nextAnswer state p R) _ (ap Stands (d .says));
+          room = lent-answer split station T i e (nextRoom state p R) _ (d .room);
           table = lent-table split station T i e (nextWords state p R) (d .table);
         }
 
@@ -32,7 +32,7 @@ module _ (station : Station) (split : ℕ) (T : List ℕ) {found : Share} (i : f
     unfolding endAnswer endWords
     end-there bytes d =
         record {
-          says = lent-answer split station T i e (endAnswer state bytes) NotSplit (ap Stands (d .says));
+          says = lent-answer split station T i e (endAnswer state bytes) _ (ap Stands (d .says));
           table = lent-table split station T i e (endWords state bytes) (d .table);
         }
 

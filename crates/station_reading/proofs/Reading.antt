@@ -26,7 +26,7 @@ module _ (station : Station) (split : ℕ) (T : List ℕ) {share : Share} (i : s
     unfolding readAnswer readWords
     read-there s d =
         record {
-          says = lent-answer split station T i e (readAnswer s) answer.NotSplit (ap answer.Answered (d .says));
+          says = lent-answer split station T i e (readAnswer s) _ (ap answer.Answered (d .says));
           leaves = lent-table split station T i e (readWords s) (d .leaves);
         }
 
@@ -36,7 +36,7 @@ module _ (station : Station) (split : ℕ) (T : List ℕ) {share : Share} (i : s
     unfolding cardAnswer cardWords
     card-there s n d =
         record {
-          says = lent-answer split station T i e (cardAnswer s n) card.NotSplit (ap card.Answered (d .says));
+          says = lent-answer split station T i e (cardAnswer s n) _ (ap card.Answered (d .says));
           leaves = lent-table split station T i e (cardWords s n) (d .leaves);
         }
 

@@ -27,9 +27,9 @@ module _ (station : Station) (split : ℕ) (T : List ℕ) {share : Share} (i : s
     unfolding writeAnswer writtenBytes
     write-there out d =
         record {
-          says = lent-answer split station T i e (writeAnswer rows s (length out)) write.NotSplit (ap write.Answered (d .says));
+          says = lent-answer split station T i e (writeAnswer rows s (length out)) _ (ap write.Answered (d .says));
           leaves =
-              lent-answer split station T i e (writtenBytes rows s (length out)) out
+              lent-answer split station T i e (writtenBytes rows s (length out)) _
               (d .leaves ∙ ap (λ (x : WriterAnswer). outputOf x (formOf (take (end - first) (drop first T)) rows s) (length out)) (d .says));
         }
 
@@ -37,20 +37,20 @@ module _ (station : Station) (split : ℕ) (T : List ℕ) {share : Share} (i : s
         (r : ℕ) (key : List ℕ) {a : FoundAnswer} → a ≡ lookups.lookup (take (end - first) (drop first T)) rows s r key
         → lookup.Answered a ≡ onShare station split T (lookupAnswer rows s r key) lookup.NotSplit
     unfolding lookupAnswer
-    lookup-there r key d = lent-answer split station T i e (lookupAnswer rows s r key) lookup.NotSplit (ap lookup.Answered d)
+    lookup-there r key d = lent-answer split station T i e (lookupAnswer rows s r key) _ (ap lookup.Answered d)
 
     pub position-there :
         (r : ℕ) {p : Placed} → p ≡ position (take (end - first) (drop first T)) rows s r
         → place.Answered p ≡ onShare station split T (positionAnswer rows s r) place.NotSplit
     unfolding positionAnswer
-    position-there r d = lent-answer split station T i e (positionAnswer rows s r) place.NotSplit (ap place.Answered d)
+    position-there r d = lent-answer split station T i e (positionAnswer rows s r) _ (ap place.Answered d)
 
   module _ (e : share ≡ NotSplit) (rows : ℕ) (s : List ℕ) where
     pub write-nowhere : (out : List ℕ) → WroteFor T station split rows s out out write.NotSplit
     write-nowhere out =
         record {
           says = unlent-answer split station T i e (writeAnswer rows s (length out)) write.NotSplit;
-          leaves = unlent-answer split station T i e (writtenBytes rows s (length out)) out;
+          leaves = unlent-answer split station T i e (writtenBytes rows s (length out)) _;
         }
 
     pub lookup-nowhere : (r : ℕ) (key : List ℕ) → lookup.NotSplit ≡ onShare station split T (lookupAnswer rows s r key) lookup.NotSplit
