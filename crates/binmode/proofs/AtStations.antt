@@ -1,15 +1,14 @@
 -- What answers each return of the exported functions that take a station. Assumes nothing.
-use mathlib.Core.Path.{_≡_, refl, ap, sym, _∙_}
+use mathlib.Core.Path.{_≡_, ap, _∙_}
 use mathlib.Core.List.{List}
-use Prim.Native.Nat.{ℕ, _-_, _≤_}
-use native.Mathlib.Omega.{arith}
+use Prim.Native.Nat.{ℕ, _-_}
 use lib.IntN.{ℤ, pos}
 use lib.ListN.{length, getD}
-use lib.Ieee.{Float, binary64, ofBits, ofFields, odd}
+use lib.Ieee.{binary64, ofBits, ofFields, odd}
 use mir.Syntax.{w64}
 use mir.Val.{SFits, toZ, ofZ}
 use mir.Facts.{toZ-ofZ}
-use borrow.Author.Tests.{eq-eqb, ne-eqb}
+use borrow.Author.Tests.{ne-eqb}
 use Rattle.draft.specs.declared.Refusal.{Refusal}
 use Rattle.draft.specs.Refusals.{numberOf}
 use Rattle.shares.specs.declared.Station.{Station}
@@ -31,7 +30,7 @@ use Rattle.writer.specs.declared.Answer.the-variants as writer
 use Rattle.writer.specs.Answers as writers
 use Rattle.lookup.specs.declared.Answer as L
 use Rattle.lookup.specs.declared.Report.{Report}
-use Rattle.lookup.specs.Reports.{plusZero, reported}
+use Rattle.lookup.specs.Reports.{reported}
 use Rattle.lookup.specs.Reports as lookups
 use Rattle.position.specs.declared.Placed.{Placed}
 use Rattle.position.specs.Placing.{at, outcomeNumber}
@@ -125,7 +124,13 @@ module _ {a : SL.LookupAnswer} where
   unfolding ofBits ofFields odd
   tells-no-share e = rw e
 
-pub ruleset telling = (tells-read, tells-refusal, tells-card, tells-card-refusal, tells-missing, tells-written, tells-unwritten, tells-member, tells-no-share)
+pub ruleset telling-read = (tells-read, tells-refusal)
+
+pub ruleset telling-card = (tells-card, tells-card-refusal, tells-missing)
+
+pub ruleset telling-written = (tells-written, tells-unwritten)
+
+pub ruleset telling-member = (tells-member, tells-no-share)
 
 -- ---- the calls; the station and the row are those of a number
 
@@ -198,4 +203,16 @@ module _ (number split : ℕ) {row : ℕ} {station : Station} (i : row ≡ split
       unfolding ofBits ofFields odd
       station-no-position e = let g = rw (i, k) at d in record { says = rw (← g, e); gives = rw (← g, e) }
 
-pub ruleset at-stations = (station-read, station-no-read, station-card, station-no-card, station-piece, station-no-piece, station-end, station-no-end, station-written, station-no-writing, station-member, station-position, station-no-position)
+pub ruleset reading-there = (station-read, station-no-read)
+
+pub ruleset card-there = (station-card, station-no-card)
+
+pub ruleset piece-there = (station-piece, station-no-piece)
+
+pub ruleset end-there = (station-end, station-no-end)
+
+pub ruleset written-there = (station-written, station-no-writing)
+
+pub ruleset member-there = (station-member)
+
+pub ruleset position-there = (station-position, station-no-position)

@@ -3,7 +3,7 @@
 -- `station_pieces::next` and `end`; `WroteFor` that of `station_tables::write`. `Called station split T T′ q a` is any of the first four, asked q and
 -- told a. `shareOf station split T` are the share's words. Assumes nothing.
 use mathlib.Core.Path.{_≡_, refl, sym, ap, _∙_}
-use mathlib.Core.Bool.{Bool, true, false}
+use mathlib.Core.Bool.{true, false}
 use mathlib.Core.Logic.{_↔_}
 use mathlib.Core.List.{List}
 use Prim.Native.Nat.{ℕ, _+_, _*_, _/_, _≤_, _<_}
@@ -15,7 +15,7 @@ use Rattle.shares.specs.declared.Station.the-variants.{Four, Five}
 use Rattle.shares.specs.Share.{other, splits, firstWord, sizeOf, shareOf, onShare}
 use Rattle.shares.proofs.Sharing as sharing
 use Rattle.reader.specs.declared.Answer.the-variants as reader
-use Rattle.reader.specs.Answers.{reading, Answers}
+use Rattle.reader.specs.Answers.{reading}
 use Rattle.lookup.specs.Answers as lookups
 use Rattle.position.specs.Placing.{position}
 use Rattle.pieces.specs.declared.State.{State}
@@ -32,9 +32,7 @@ use Rattle.station_pieces.specs.declared.Answer.the-variants.{Stands}
 use Rattle.station_pieces.specs.Steps.{NextFor, EndFor}
 use Rattle.station_tables.specs.declared.WriteAnswer.{WriteAnswer}
 use Rattle.station_tables.specs.declared.WriteAnswer.the-variants as write
-use Rattle.station_tables.specs.declared.LookupAnswer.{LookupAnswer}
 use Rattle.station_tables.specs.declared.LookupAnswer.the-variants as lookup
-use Rattle.station_tables.specs.declared.PositionAnswer.{PositionAnswer}
 use Rattle.station_tables.specs.declared.PositionAnswer.the-variants as place
 use Rattle.station_tables.specs.Answers.{writeAnswer, writtenBytes, WroteFor, lookupAnswer, positionAnswer}
 use Rattle.stations.specs.Calls.{Asked, Told, Called, notSplit}

@@ -1,17 +1,17 @@
 -- What request E10 says of two stations, of any call that keeps the length of what it is lent: the share's words, all others, and the order of
 -- two calls. Assumes nothing.
 use mathlib.Core.Path.{_≡_, refl, sym, _∙_, ap}
-use mathlib.Core.Bool.{Bool, true, false}
+use mathlib.Core.Bool.{true, false}
 use mathlib.Core.Logic.{_↔_}
 use mathlib.Core.List.{List}
 use Prim.Native.Nat.{ℕ, _+_, _-_, _*_, _/_, _≤_, _<_}
 use native.Mathlib.Omega.{arith}
 use lib.ListN.{length, take, drop, length-drop}
 use lib.Seq.{length-take-le}
-use borrow.Author.Tests.{lt-ltb, le-ltb}
+use borrow.Author.Tests.{lt-ltb}
 use Rattle.shares.specs.declared.Station.{Station}
 use Rattle.shares.specs.declared.Station.the-variants.{Four, Five}
-use Rattle.shares.specs.Share.{wholeRows, splits, firstWord, other, sizeOf, shareOf, lying, onShare, tableOn}
+use Rattle.shares.specs.Share.{splits, firstWord, other, sizeOf, shareOf, lying, onShare, tableOn}
 use Rattle.shares.proofs.Lent.{above, below}
 use Rattle.shares.proofs.Lying.{length-lying, take-lying, drop-lying, part-lying, exchanged}
 

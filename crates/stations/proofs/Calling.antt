@@ -14,7 +14,6 @@ use Rattle.shares.proofs.Sharing.{in-rows, given-there, same-length as kept-len
 use Rattle.station_reading.specs.declared.Answer.the-variants as answer
 use Rattle.station_reading.specs.declared.CardAnswer.the-variants as card
 use Rattle.station_reading.specs.Answers.{readAnswer, readWords, cardAnswer, cardWords}
-use Rattle.station_pieces.specs.declared.Answer.{Answer as PieceAnswer}
 use Rattle.station_pieces.specs.declared.Answer.the-variants as piece
 use Rattle.station_pieces.specs.Steps.{nextAnswer, nextRoom, nextWords, endAnswer, endWords}
 use Rattle.stations.specs.Calls.{Asked, a-message, a-card, a-piece, an-end, Told, of-message, of-card, of-piece, of-end, Called, reads, reads-card, takes, ends, notSplit}

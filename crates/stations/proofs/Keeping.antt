@@ -1,7 +1,7 @@
 -- Every call keeps the length of the share that it is lent. Assumes nothing.
-use mathlib.Core.Path.{_≡_, refl, sym, _∙_, ap}
+use mathlib.Core.Path.{_≡_, refl, _∙_, ap}
 use mathlib.Core.Bool.{Bool, true, false, _&&_}
-use mathlib.Core.List.{List, _++_}
+use mathlib.Core.List.{List}
 use Prim.Native.Nat.{ℕ, _*_, _/_, _<_}
 use native.Mathlib.Omega.{arith}
 use lib.ListN.{length, drop, replicate, length-append, length-drop, length-replicate}
@@ -16,7 +16,6 @@ use Rattle.records.specs.declared.Found.{Found}
 use Rattle.records.specs.declared.Found.the-variants.{Body, Missing}
 use Rattle.records.specs.Job.{bodyOf}
 use Rattle.job.specs.Cards.{tableFor}
-use Rattle.room.specs.Room.{taken}
 use Rattle.pieces.specs.declared.State.{State}
 use Rattle.pieces.specs.declared.State.the-variants.{More, Accepted, Refused}
 use Rattle.pieces.specs.Steps.{bytesHeld, tableWent, tableClosed}

@@ -1,31 +1,12 @@
-use Rattle.binmode.proofs.AtStations.{telling}
+use Rattle.binmode.proofs.AtStations.{telling-written}
 use borrow.Author.Needs.{needs}
 use Rattle.binmode.proofs.stations.report_written.Statement.{statement}
 use Rattle.binmode.proofs.stations.report_written.Tie as tie
-use Rattle.binmode.proofs.stations.report_written.Reads as reads
-use Rattle.binmode.proofs.stations.report_written.Lts as lts
-use Rattle.draft.proofs.number.Reads as number-reads
-
--- src/stations.rt:259:43
-enum-known-answer : tie.Need-enum-known-answer
-enum-known-answer c = search needs
-
--- src/stations.rt:263:33
-enum-known-answer-2 : tie.Need-enum-known-answer-2
-enum-known-answer-2 c = search needs
-
--- src/stations.rt:265:13
-number-requires : tie.Need-number-requires
-number-requires c κs = search needs
-
--- src/stations.rt:255:1
-returns : tie.Need-returns
-returns c = search needs
-
--- src/stations.rt:255:1
-returns-2 : tie.Need-returns-2
-returns-2 c = search telling
 
 pub report-written-spec : {M : Type 1} → statement M
-report-written-spec =
-    tie.close (tie.spec enum-known-answer enum-known-answer-2 number-requires returns returns-2)
+report-written-spec = tie.close (tie.spec
+    (λ c. search needs)  -- enum-known-answer
+    (λ c. search needs)  -- enum-known-answer-2
+    (λ c κs. search needs)  -- number-requires
+    (λ c. search needs)  -- returns
+    (λ c. search telling-written))  -- returns-2
