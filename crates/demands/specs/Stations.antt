@@ -15,6 +15,9 @@ use Rattle.shares.specs.declared.Station.the-variants.{Four, Five}
 use Rattle.shares.specs.Share.{other, splits, firstWord, sizeOf, shareOf, onShare}
 use Rattle.shares.proofs.Sharing as sharing
 use Rattle.reader.specs.declared.Answer.the-variants as reader
+use Rattle.records.specs.declared.JobRefusal.{JobRefusal}
+use Rattle.records.specs.Job.{bodyOf}
+use Rattle.job.specs.declared.Answer.the-variants as job
 use Rattle.reader.specs.Answers.{reading}
 use Rattle.lookup.specs.Answers as lookups
 use Rattle.position.specs.Placing.{position}
@@ -26,6 +29,7 @@ use Rattle.cuts.proofs.Running.{Ends}
 use Rattle.station_reading.specs.declared.Answer.{Answer}
 use Rattle.station_reading.specs.declared.Answer.the-variants as answer
 use Rattle.station_reading.specs.declared.CardAnswer.{CardAnswer}
+use Rattle.station_reading.specs.declared.CardAnswer.the-variants as card
 use Rattle.station_reading.specs.Answers.{ReadFor, CardFor}
 use Rattle.station_pieces.specs.declared.Answer.{Answer as PieceAnswer}
 use Rattle.station_pieces.specs.declared.Answer.the-variants.{Stands}
@@ -41,6 +45,7 @@ use Rattle.stations.specs.Turns.{Turns}
 use Rattle.stations.proofs.Calling as calls
 use Rattle.stations.proofs.Calling.{Same}
 use Rattle.stations.proofs.Owning as owning
+use Rattle.demands.specs.Jobs as jobs
 use Rattle.demands.specs.Settled as whole-table
 use Rattle.demands.specs.Pieces as pieces
 
@@ -108,7 +113,7 @@ module _ (station : Station) (split : ℕ) (T : List ℕ) (ok : splits split (le
         → OwnEnd state bytes (shareOf station split T) (shareOf station split T′) a
     own-end = owning.own-end station split T ok
 
-    -- ZEROS. On a refusal of the message the whole share is zeros.
+    -- ZEROS. On a refusal of the message, of the card or of the job the whole share is zeros.
     pub refused-zeros :
         (s : List ℕ) {m : Refusal} {p : ℕ} → ReadFor s station split T T′ (answer.Answered (reader.Refused m p))
         → shareOf station split T′ ≡ replicate (sizeOf station split (length T)) 0
@@ -116,6 +121,22 @@ module _ (station : Station) (split : ℕ) (T : List ℕ) (ok : splits split (le
         let o = own-read s d in
         let e : o .own ≡ reader.Refused m p = sym (cc) in
         whole-table.refused-zeros s (sizeOf station split (length T)) (rw e at (o .did))
+
+    pub card-refused-zeros :
+        (s : List ℕ) (number : ℕ) {m : Refusal} {p : ℕ} → CardFor s number station split T T′ (card.Answered (job.Refused m p))
+        → shareOf station split T′ ≡ replicate (sizeOf station split (length T)) 0
+    card-refused-zeros s number {m} {p} d =
+        let o = own-card s number d in
+        let e : o .own ≡ job.Refused m p = sym (cc) in
+        jobs.card-refused-zeros s (sizeOf station split (length T)) (bodyOf s number) (rw e at (o .did))
+
+    pub no-card-zeros :
+        (s : List ℕ) (number : ℕ) {m : JobRefusal} {p : ℕ} → CardFor s number station split T T′ (card.Answered (job.Missing m p))
+        → shareOf station split T′ ≡ replicate (sizeOf station split (length T)) 0
+    no-card-zeros s number {m} {p} d =
+        let o = own-card s number d in
+        let e : o .own ≡ job.Missing m p = sym (cc) in
+        jobs.job-refused-zeros s (sizeOf station split (length T)) (bodyOf s number) (rw e at (o .did))
 
   pub own-write :
       (rows : ℕ) (s out : List ℕ) {out′ : List ℕ} {a : WriteAnswer} → WroteFor T station split rows s out out′ a
@@ -195,3 +216,18 @@ pieces-whole station split T ok R₀ W₀ long ps {state} {last} {R} ts few d =
     let o = own-end station split T ok state (length R) d in
     let e : o .own ≡ last = sym (cc) in
     pieces.as-whole R₀ W₀ long ps (owning.turns-run ts) few (rw e at (o .did))
+
+-- ALIKE. Two stations' messages in pieces, with one message however it is cut and shares of one size before the first piece: the same is told, and the
+-- shares' words are the same, whatever the tables, the rows and the other station's calls in between.
+pub pieces-alike :
+    (station other-station : Station) (split other-split : ℕ) (T U : List ℕ) → splits split (length T) ≡ true
+    → splits other-split (length U) ≡ true → (R₀ Q₀ W₀ V₀ : List ℕ) → 65536 ≤ length R₀ → 65536 ≤ length Q₀ → length W₀ ≡ length V₀
+    → (ps qs : List (List ℕ)) → joined ps ≡ joined qs → length (joined ps) ≤ 65536 → {a b a′ b′ : State} {R Q T′ U′ : List ℕ}
+    → Turns station ps begun R₀ W₀ a R (shareOf station split T) → EndFor a (length R) station split T T′ (Stands a′)
+    → Turns other-station qs begun Q₀ V₀ b Q (shareOf other-station other-split U)
+    → EndFor b (length Q) other-station other-split U U′ (Stands b′)
+    → (told a′ ≡ told b′) × (shareOf station split T′ ≡ shareOf other-station other-split U′)
+pieces-alike station other-station split other-split T U ok ok′ R₀ Q₀ W₀ V₀ h k l ps qs e few x c y d =
+    let i = pieces-whole station split T ok R₀ W₀ h ps x few c in
+    let j = pieces-whole other-station other-split U ok′ Q₀ V₀ k qs y (rw e at few) d in
+    (i .says ∙ rw (e, l) (sym (j .says)), i .table ∙ rw (e, l) (sym (j .table)))
