@@ -120,12 +120,12 @@ fn walk_few(table: &[u32], room: usize, rows: usize, text: &[u8], good: usize) -
     walk_call_or_response(table, room, rows, text, good, MOST_NESTING, 0, notes)
 }
 
-// For up to 512 rows.
+// For up to 1,024 rows.
 fn walk_some(table: &[u32], room: usize, rows: usize, text: &[u8], good: usize) -> usize
-    requires { ⌜ Walkable (now text) room rows (now table) good × (rows ≤ 512) ⌝ }
+    requires { ⌜ Walkable (now text) room rows (now table) good × (rows ≤ 1024) ⌝ }
     ensures { λ e. ⌜ extentOf e ≡ callOrResponse (rowAt room (now (table .entry))) rows (now (text .entry)) 32 0 ⌝ }
 {
-    let mut words = [0u16; 1536];
+    let mut words = [0u16; 3072];
     let notes: &mut [u16] = &mut words;
     walk_call_or_response(table, room, rows, text, good, MOST_NESTING, 0, notes)
 }
@@ -148,7 +148,7 @@ fn walk_first(table: &[u32], room: usize, rows: usize, text: &[u8], good: usize)
     if rows <= 64 {
         return walk_few(table, room, rows, text, good);
     }
-    if rows <= 512 {
+    if rows <= 1024 {
         return walk_some(table, room, rows, text, good);
     }
     walk_many(table, room, rows, text, good)
