@@ -1,2 +1,3 @@
 -- The laws of `member`.
 pub mod Finding
+pub mod Counting
