@@ -1,0 +1,4 @@
+-- The laws of `index`.
+pub mod Arranging
+pub mod Storing
+pub mod Stepping
