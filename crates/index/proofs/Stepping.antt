@@ -2,11 +2,12 @@
 use mathlib.Core.Path.{_≡_, refl, sym, ap, _∙_}
 use mathlib.Core.Bool.{Bool, true, false}
 use mathlib.Core.List.{List}
-use Prim.Native.Nat.{ℕ, _+_, _*_, _≤_, _<_}
+use Prim.Native.Nat.{ℕ, _+_, _-_, _*_, _≤_, _<_}
 use native.Mathlib.Omega.{arith}
-use lib.ListN.{length}
-use borrow.Author.Tests.{eq-eqb, ne-eqb, lt-ltb, le-ltb}
+use lib.ListN.{length, getD}
+use borrow.Author.Tests.{ne-eqb, lt-ltb, le-ltb}
 use Rattle.draft.specs.declared.Row.{Row}
+use Rattle.draft.specs.Bytes.{part}
 use Rattle.draft.specs.Table.{roomOf, rowAt}
 use Rattle.draft.specs.Writable.{writable}
 use Rattle.member.specs.declared.Member.{Member}
@@ -24,10 +25,9 @@ use Rattle.lookup.proofs.Looking.{rows-stated, room-most, room-inside}
 use Rattle.seeking.specs.declared.Search.{Search}
 use Rattle.seeking.specs.Seeking.{between, ended, begun, turned, stepped}
 use Rattle.sorting.specs.Sorting.{keyText}
-use Rattle.index.specs.Through.{relationTo, isMember, verified, Judged, stepFor, toldFor}
-
-pub begun-by : {b c : Bool} (n : ℕ) {st : Search} → b ≡ c → st ≡ begun b n → st ≡ begun c n
-begun-by n e i = i ∙ rw e
+use Rattle.index.specs.declared.Question.{Question}
+use Rattle.index.specs.Through.{relationTo, isMember, verified, startOf, judgement, questionOf, judgedOf, questionAt, Rightly, rowAnswer, stepFor, answerFor}
+use Rattle.index.proofs.Storing.{getD-past}
 
 -- ---- how an entry stands
 
@@ -41,15 +41,15 @@ module _ (room : ℕ) (row : ℕ → Row) (s key : List ℕ) (e : Member) where
   relation-used h i j = j ∙ rw (ne-eqb (e .key) 0 h, i)
 
 module _ (row : ℕ → Row) (rows r : ℕ) (e : Member) {b : Bool} (i : b ≡ isAmong e (members row rows r)) {st : Search} where
-  pub verify-yes : b ≡ true → st ≡ ended true (e .value) → st ≡ verified (isMember row rows r e) e
+  pub verify-yes : b ≡ true → st ≡ ended (e .value) → st ≡ verified (isMember row rows r e) e
   unfolding isMember
   verify-yes f j = j ∙ rw (← i, f)
 
-  pub verify-no : b ≡ false → st ≡ ended true 0 → st ≡ verified (isMember row rows r e) e
+  pub verify-no : b ≡ false → st ≡ ended 0 → st ≡ verified (isMember row rows r e) e
   unfolding isMember
   verify-no f j = j ∙ rw (← i, f)
 
-pub ruleset relating = (begun-by, relation-unused, relation-used, verify-yes, verify-no)
+pub ruleset relating = (relation-unused, relation-used, verify-yes, verify-no)
 
 -- ---- one step
 
@@ -76,45 +76,74 @@ module _ (T : List ℕ) (rows : ℕ) (s : List ℕ) (w : writable T rows s ≡ t
   its-inside = room-inside T rows s {b = true} (sym w) refl g
 
 pub step-so :
-    (T : List ℕ) (rows : ℕ) (s : List ℕ) (r : ℕ) (key : List ℕ) (st : Search) (e : Member) {room : ℕ} {next : Search} → room ≡ roomOf 4096 (length T)
-    → next ≡ turned (relationTo room (rowAt room T) s key e) (isMember (rowAt room T) rows r e) st e
-    → next ≡ stepFor T rows s r key st e
+    (T s keys : List ℕ) (q : Question) (st : Search) (e : Member) {room : ℕ} {key : List ℕ} {next : Search} → room ≡ roomOf 4096 (length T)
+    → key ≡ part keys (q .start) (q .length)
+    → next ≡ turned (relationTo room (rowAt room T) s key e) (isMember (rowAt room T) (q .rows) (q .row) e) st e
+    → next ≡ stepFor T s keys q st e
 unfolding stepFor stepped
-step-so T rows s r key st e g j = j ∙ rw g
+step-so T s keys q st e g k j = j ∙ rw (g, k)
 
 pub ruleset judged = (its-rows, its-most, its-inside, step-so)
 
+-- ---- a question
+
+module _ (T : List ℕ) (rows : ℕ) (s : List ℕ) (r : ℕ) {b : Bool} (e : b ≡ writable T rows s) where
+  pub judged-so : b ≡ true → questionOf rows r 0 0 0 ≡ judgedOf T rows s r
+  unfolding judgedOf judgement
+  judged-so f = rw (← e, f)
+
+  pub judged-not : b ≡ false → questionOf rows r 11 0 0 ≡ judgedOf T rows s r
+  unfolding judgedOf judgement
+  judged-not f = rw (← e, f)
+
+pub number-past : (xs : List ℕ) (i : ℕ) → length xs ≤ i → 0 ≡ getD xs i 0
+number-past xs i h = sym (getD-past xs i h)
+
+pub start-first : (ends : List ℕ) (i : ℕ) → i ≡ 0 → 0 ≡ startOf ends i
+unfolding startOf
+start-first ends i e = rw e
+
+pub start-later : (ends : List ℕ) (i : ℕ) {n : ℕ} → (i ≡ 0 → ⊥) → n ≡ getD ends (i - 1) 0 → n ≡ startOf ends i
+unfolding startOf
+start-later ends i f e = e ∙ rw (ne-eqb i 0 f)
+
+pub question-so : (q : Question) (ends : List ℕ) (i : ℕ) {a b c : ℕ} → a ≡ startOf ends i → b ≡ getD ends i 0 → c ≡ b - a → questionOf (q .rows) (q .row) (q .number) a c ≡ questionAt q ends i
+unfolding questionAt
+question-so q ends i e f g = rw (g, f, e)
+
+pub ruleset asking = (judged-so, judged-not, number-past, start-first, start-later, question-so)
+
 -- ---- what was found
 
-module _ (T : List ℕ) (rows : ℕ) (s : List ℕ) (st : Search) where
-  pub told-not : st .writable ≡ false → Refused NotWritable ≡ toldFor T rows s st
-  unfolding toldFor
-  told-not e = rw e
+module _ (T s : List ℕ) (q : Question) (st : Search) where
+  pub answer-not : (q .number ≡ 0 → ⊥) → Refused NotWritable ≡ answerFor T s q st
+  unfolding answerFor
+  answer-not e = rw (ne-eqb (q .number) 0 e)
 
-  module _ (e : st .writable ≡ true) where
-    pub told-none : st .value ≡ 0 → Refused NoMember ≡ toldFor T rows s st
-    unfolding toldFor
-    told-none h = rw (e, h)
+  module _ (e : q .number ≡ 0) where
+    pub answer-none : st .value ≡ 0 → Refused NoMember ≡ answerFor T s q st
+    unfolding answerFor rowAnswer
+    answer-none h = rw (e, h)
 
-    pub told-past : (st .value ≡ 0 → ⊥) → rows ≤ st .value → Refused NoMember ≡ toldFor T rows s st
-    unfolding toldFor
-    told-past f h = rw (e, lt-ltb 0 (st .value) (omega (arith, f)), le-ltb (st .value) rows h)
+    pub answer-past : (st .value ≡ 0 → ⊥) → q .rows ≤ st .value → Refused NoMember ≡ answerFor T s q st
+    unfolding answerFor rowAnswer
+    answer-past f h = rw (e, lt-ltb 0 (st .value) (omega (arith, f)), le-ltb (st .value) (q .rows) h)
 
-    pub told-found : {room : ℕ} {a : Answer} → (st .value ≡ 0 → ⊥) → st .value < rows → room ≡ roomOf 4096 (length T) → a ≡ answerAt (rowAt room T) s (st .value) → a ≡ toldFor T rows s st
-    unfolding toldFor
-    told-found f h g j = j ∙ rw (e, lt-ltb 0 (st .value) (omega (arith, f)), lt-ltb (st .value) rows h, g)
+    pub answer-found : {room : ℕ} {a : Answer} → (st .value ≡ 0 → ⊥) → st .value < q .rows → room ≡ roomOf 4096 (length T) → a ≡ answerAt (rowAt room T) s (st .value) → a ≡ answerFor T s q st
+    unfolding answerFor rowAnswer
+    answer-found f h g j = j ∙ rw (e, lt-ltb 0 (st .value) (omega (arith, f)), lt-ltb (st .value) (q .rows) h, g)
 
-    module _ (j : Judged T rows s st) {room : ℕ} (g : room ≡ roomOf 4096 (length T)) where
-      pub told-inside : st .value < rows → st .value < room
-      told-inside h = omega (arith, its-rows T rows s (j .rightly e) g)
+    module _ (j : Rightly T s q) {room : ℕ} (g : room ≡ roomOf 4096 (length T)) where
+      pub answer-inside : st .value < q .rows → st .value < room
+      answer-inside h = omega (arith, its-rows T (q .rows) s (j .rightly e) g)
 
-      pub told-most : room ≤ 4096
-      told-most = its-most T rows s (j .rightly e) g
+      pub answer-most : room ≤ 4096
+      answer-most = its-most T (q .rows) s (j .rightly e) g
 
-      pub told-room : room * 4 ≤ length T
-      told-room = its-inside T rows s (j .rightly e) g
+      pub answer-room : room * 4 ≤ length T
+      answer-room = its-inside T (q .rows) s (j .rightly e) g
 
-pub told-report : {a b : Answer} {r : Report} → a ≡ b → r ≡ reportOf a → r ≡ reportOf b
-told-report e i = i ∙ rw e
+pub answer-report : {a b : Answer} {r : Report} → a ≡ b → r ≡ reportOf a → r ≡ reportOf b
+answer-report e i = i ∙ rw e
 
-pub ruleset telling = (told-report, told-not, told-none, told-past, told-found, told-inside, told-most, told-room)
+pub ruleset answering = (answer-report, answer-not, answer-none, answer-past, answer-found, answer-inside, answer-most, answer-room)

@@ -1,15 +1,15 @@
--- What answers the entries' returns, and that entries stored one by one leave the whole list. Assumes nothing.
-use mathlib.Core.Path.{_≡_, refl, ap, _∙_}
+-- What answers the entries' returns, and that a list stored one by one is the whole list. Assumes nothing.
+use mathlib.Core.Path.{_≡_, refl, sym, ap, _∙_}
 use mathlib.Core.List.{List, [], _∷_, _++_}
 use Prim.Native.Nat.{ℕ, zero, suc, _+_, _-_, _≤_, _<_}
 use native.Mathlib.Omega.{arith}
-use native.Mathlib.Nat.{suc-add}
-use lib.ListN.{length, getD, set, replicate}
-use borrow.Author.Tests.{eq-eqb, ne-eqb, lt-ltb, le-ltb}
-use Rattle.member.specs.declared.Member.{Member}
+use native.Mathlib.Numerals.{add-one}
+use lib.ListN.{length, getD, set, replicate, length-set}
+use borrow.Author.Tests.{ne-eqb, lt-ltb, le-ltb}
+use Rattle.draft.specs.Table.{from}
 use Rattle.member.specs.Members.{memberOf}
 use Rattle.seeking.specs.Seeking.{unused}
-use Rattle.index.specs.Filling.{padded, entryOf, entries, stored}
+use Rattle.index.specs.Filling.{padded, entryOf, entries}
 
 -- ---- one entry
 
@@ -36,51 +36,74 @@ entry-here k e h = rw (ne-eqb k 0 e, le-ltb 4096 k h)
 
 pub ruleset entering = (entry-past, entry-none, entry-far, entry-here)
 
--- ---- the whole list
+-- ---- the whole list: what f gives for each number, stored one by one
 
-abbrev tail : List ℕ → List ℕ
-tail [] = []
-tail (k ∷ ks) = ks
+module _ {A : Type 0} where
+  -- n more stored, from number i on: the loop's own form
+  unfoldable pub stored : (ℕ → A) → ℕ → ℕ → List A → List A
+  stored f i zero xs = xs
+  stored f i (suc n) xs = stored f (suc i) n (set xs i (f i))
 
-getD-tail : (ks : List ℕ) (i : ℕ) → getD ks (suc i) 0 ≡ getD (tail ks) i 0
-getD-tail [] i = refl
-getD-tail (k ∷ ks) i = refl
+  -- the first stays where storing begins behind it
+  shifted : (f : ℕ → A) (i n : ℕ) (x : A) (xs : List A) → stored f (suc i) n (x ∷ xs) ≡ x ∷ stored (λ j. f (suc j)) i n xs
+  unfolding stored
+  shifted f i zero x xs = refl
+  shifted f i (suc n) x xs = shifted f (suc i) n x (set xs i (f (suc i)))
 
--- the first entry stays where storing begins behind it
-shifted : (ks : List ℕ) (i n : ℕ) (e : Member) (es : List Member) → stored ks (suc i) n (e ∷ es) ≡ e ∷ stored (tail ks) i n es
-unfolding stored
-shifted ks i zero e es = refl
-shifted ks i (suc n) e es = rw (suc-add, getD-tail) (shifted ks (i + 1) n e (set es i (entryOf (getD (tail ks) i 0))))
+  later : (f : ℕ → A) (r n : ℕ) → from f (suc r) n ≡ from (λ j. f (suc j)) r n
+  unfolding from
+  later f r zero = refl
+  later f r (suc n) = ap (λ (l : List A). f (suc r) ∷ l) (later f (suc r) n)
 
-pub stored-all : (ks : List ℕ) (es : List Member) → stored ks 0 (length es) es ≡ entries ks (length es)
-unfolding stored entries entryOf
-stored-all ks [] = refl
-stored-all [] (e ∷ es) = shifted [] 0 (length es) unused es ∙ ap (λ (l : List Member). unused ∷ l) (stored-all [] es)
-stored-all (k ∷ ks) (e ∷ es) = shifted (k ∷ ks) 0 (length es) (entryOf k) es ∙ ap (λ (l : List Member). entryOf k ∷ l) (stored-all ks es)
+  pub stored-all : (f : ℕ → A) (xs : List A) → stored f 0 (length xs) xs ≡ from f 0 (length xs)
+  unfolding stored from
+  stored-all f [] = refl
+  stored-all f (x ∷ xs) = shifted f 0 (length xs) (f 0) xs ∙ ap (λ (l : List A). f 0 ∷ l) (stored-all (λ j. f (suc j)) xs ∙ sym (later f 0 (length xs)))
 
--- one more entry stored
-pub stored-next : (ks : List ℕ) (n i : ℕ) (es : List Member) → i < n → stored ks i (n - i) es ≡ stored ks (i + 1) (n - (i + 1)) (set es i (entryOf (getD ks i 0)))
-unfolding stored
-stored-next ks n i es h = let e : n - i ≡ suc (n - (i + 1)) = omega arith in rw e refl
+  -- where the loop over a list xs stands: i are stored
+  pub record Stored (f : ℕ → A) (xs : List A) : Type 0 where
+    pub i : ℕ
+    pub now : List A
+    pub within : i ≤ length xs
+    pub same : length now ≡ length xs
+    pub comes : stored f i (length xs - i) now ≡ from f 0 (length xs)
 
--- none is left
-pub stored-done : (ks : List ℕ) (n i : ℕ) (es : List Member) → n ≤ i → stored ks i (n - i) es ≡ es
-unfolding stored
-stored-done ks n i es h = let e : n - i ≡ 0 = omega arith in rw e refl
+  pub stored-first : (f : ℕ → A) (xs : List A) → Stored f xs
+  stored-first f xs = let z : length xs - 0 ≡ length xs = omega arith in record { i = 0; now = xs; within = omega arith; same = refl; comes = rw z (stored-all f xs) }
 
--- the zeros behind the key rows make unused entries, as none would
-zeros : (m n : ℕ) → entries (replicate m 0) n ≡ entries [] n
-unfolding entries entryOf
-zeros zero n = refl
+  pub stored-next : (f : ℕ → A) (xs : List A) (u : Stored f xs) (x : A) → u .i < length xs → x ≡ f (u .i) → Stored f xs
+  unfolding stored
+  stored-next f xs u x h e = record {
+    i = u .i + 1;
+    now = set (u .now) (u .i) x;
+    within = omega arith;
+    same = length-set (u .now) (u .i) x ∙ u .same;
+    comes =
+        let k : length xs - u .i ≡ suc (length xs - suc (u .i)) = omega arith in
+        rw (e, add-one) (rw k at (u .comes));
+  }
+
+  pub stored-done : (f : ℕ → A) (xs : List A) (u : Stored f xs) → length xs ≤ u .i → u .now ≡ from f 0 (length xs)
+  unfolding stored
+  stored-done f xs u h = let e : length xs - u .i ≡ 0 = omega (arith, u .within) in rw e at (u .comes)
+
+-- ---- the zeros behind the key rows make unused entries, as none would
+
+zeros : (m i : ℕ) → getD {A = ℕ} (replicate m 0) i 0 ≡ 0
+zeros zero i = refl
 zeros (suc m) zero = refl
-zeros (suc m) (suc n) = ap (λ (l : List Member). unused ∷ l) (zeros m n)
+zeros (suc m) (suc i) = zeros m i
 
-before-zeros : (m : ℕ) (ks : List ℕ) (n : ℕ) → entries (ks ++ replicate m 0) n ≡ entries ks n
-unfolding entries
-before-zeros m [] n = zeros m n
+before-zeros : (m : ℕ) (ks : List ℕ) (i : ℕ) → getD (ks ++ replicate m 0) i 0 ≡ getD ks i 0
+before-zeros m [] i = zeros m i
 before-zeros m (k ∷ ks) zero = refl
-before-zeros m (k ∷ ks) (suc n) = ap (λ (l : List Member). entryOf k ∷ l) (before-zeros m ks n)
+before-zeros m (k ∷ ks) (suc i) = before-zeros m ks i
 
-pub entries-padded : (ks : List ℕ) (n : ℕ) → entries (padded ks) n ≡ entries ks n
-unfolding padded
-entries-padded ks n = before-zeros (2047 - length ks) ks n
+same-from : {A : Type 0} (f g : ℕ → A) → ((i : ℕ) → f i ≡ g i) → (r n : ℕ) → from f r n ≡ from g r n
+unfolding from
+same-from f g e r zero = refl
+same-from {A} f g e r (suc n) = rw (e r, same-from f g e (suc r) n)
+
+pub entries-padded : (ks : List ℕ) (n : ℕ) → from (λ i. entryOf (getD (padded ks) i 0)) 0 n ≡ entries ks n
+unfolding padded entries
+entries-padded ks n = same-from (λ i. entryOf (getD (padded ks) i 0)) (λ i. entryOf (getD ks i 0)) (λ i. ap entryOf (before-zeros (2047 - length ks) ks i)) 0 n

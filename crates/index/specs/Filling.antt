@@ -3,11 +3,11 @@
 use mathlib.Core.Path.{_≡_}
 use mathlib.Core.Bool.{Bool, true, false, cond, _||_}
 use mathlib.Core.List.{List, [], _∷_, _++_}
-use Prim.Native.Nat.{ℕ, zero, suc, _+_, _-_}
+use Prim.Native.Nat.{ℕ, _+_, _-_}
 use lib.Dec.{ltb, eqb}
-use lib.ListN.{length, getD, set, replicate}
+use lib.ListN.{length, getD, replicate}
 use Rattle.draft.specs.declared.Row.{Row}
-use Rattle.draft.specs.Table.{roomOf, rowAt}
+use Rattle.draft.specs.Table.{roomOf, rowAt, from}
 use Rattle.draft.specs.Writable.{writable}
 use Rattle.member.specs.declared.Member.{Member}
 use Rattle.member.specs.Members.{memberOf, isStruct, members}
@@ -54,18 +54,11 @@ module _ (T : List ℕ) (rows : ℕ) (s : List ℕ) (r n : ℕ) where
 unfoldable pub entryOf : ℕ → Member
 entryOf k = cond (eqb k 0 || ltb 4096 k) unused (memberOf k (k + 1))
 
--- n entries: those of the key rows ks, then unused ones
+-- n entries: entry i is that of key row i, and behind them stand unused ones
 unfoldable pub entries : List ℕ → ℕ → List Member
-entries ks zero = []
-entries [] (suc n) = unused ∷ entries [] n
-entries (k ∷ ks) (suc n) = entryOf k ∷ entries ks n
+entries ks n = from (λ i. entryOf (getD ks i 0)) 0 n
 
--- what filling a list of n entries answers, and what is in the list then: it is settled by the table, its text bytes, the row and n
+-- WHAT FILLING a list of n entries answers, and what is in the list then: settled by the table, its text bytes, the row and n
 pub record Filled (T : List ℕ) (rows : ℕ) (s : List ℕ) (r n answer : ℕ) (es : List Member) : Type 0 where
   pub answers : answer ≡ refusalOf T rows s r n
   pub list : es ≡ entries (orderOf T rows s r n) n
-
--- n more entries stored, from entry i on: the loop's own form
-unfoldable pub stored : List ℕ → ℕ → ℕ → List Member → List Member
-stored ks i zero es = es
-stored ks i (suc n) es = stored ks (i + 1) n (set es i (entryOf (getD ks i 0)))

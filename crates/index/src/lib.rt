@@ -9,7 +9,7 @@ use seeking::Search;
 ghost use mathlib.Core.Path.{_≡_};
 ghost use mathlib.Core.Bool.{true};
 ghost use mathlib.Core.List.{[]};
-ghost use Prim.Native.Nat.{_*_, _≤_, _<_};
+ghost use Prim.Native.Nat.{_-_, _*_, _≤_, _<_};
 ghost use lib.ListN.{length, getD};
 ghost use Rattle.draft.specs.Table.{roomOf, rowAt};
 ghost use Rattle.draft.specs.Writable.{writable as writableIn};
@@ -18,7 +18,7 @@ ghost use Rattle.lookup.specs.Reports.{reportOf};
 ghost use Rattle.seeking.specs.Seeking.{over, begun, turned};
 ghost use Rattle.sorting.specs.Sorting.{keyText, ordered};
 ghost use Rattle.index.specs.Filling.{keyRows, padded, Arranged, Listed, entryOf};
-ghost use Rattle.index.specs.Through.{relationTo, isMember, verified, stepFor, Judged, toldFor};
+ghost use Rattle.index.specs.Through.{relationTo, isMember, verified, judgedOf, startOf, questionAt, asks, Rightly, stepFor, answerFor};
 
 // The most members that a Struct of a writable table has.
 const MOST: usize = 2047;
@@ -27,6 +27,15 @@ const MOST: usize = 2047;
 pub struct Order {
     pub rows: [u32; 2047],
     pub answer: u8,
+}
+
+// A key asked for: among how many rows, of the Struct of which row, and where it lies among the keys; and 0, or 11 if the table is not writable.
+pub struct Question {
+    pub rows: usize,
+    pub row: usize,
+    pub number: u8,
+    pub start: usize,
+    pub length: usize,
 }
 
 // The key rows of n members put in order, of which the first is row `first`.
@@ -140,11 +149,77 @@ pub fn entry_in(order: Order, i: usize) -> Member
     entry_at(&rows, i)
 }
 
-// A search through n entries begins. The table is judged here, and not again.
-pub fn begin<'a>(table: &'a [u32], rows: usize, text: &'a [u8], n: usize) -> Search
-    ensures { λ s. ⌜ s ≡ begun (writableIn (now (table .entry)) rows (now (text .entry))) n ⌝ }
+// The table judged, for questions about the Struct of row r: 0 or 11, and no key yet.
+pub fn judge<'a>(table: &'a [u32], rows: usize, text: &'a [u8], r: usize) -> Question
+    ensures { λ q. ⌜ q ≡ judgedOf (now (table .entry)) rows (now (text .entry)) r ⌝ }
 {
-    seeking::begin(shape::writable(table, rows, text), n)
+    if shape::writable(table, rows, text) {
+        return Question {
+            rows,
+            row: r,
+            number: 0,
+            start: 0,
+            length: 0,
+        };
+    }
+    Question {
+        rows,
+        row: r,
+        number: 11,
+        start: 0,
+        length: 0,
+    }
+}
+
+// Number i, and 0 past the end.
+fn number_at(numbers: &[u32], i: usize) -> usize
+    ensures { λ n. ⌜ n ≡ getD (now (numbers .entry)) i 0 ⌝ }
+{
+    if numbers.len() <= i {
+        return 0;
+    }
+    numbers[i] as usize
+}
+
+// Where key i begins: at the end of the one before it.
+fn start_of(ends: &[u32], i: usize) -> usize
+    ensures { λ n. ⌜ n ≡ startOf (now (ends .entry)) i ⌝ }
+{
+    if i == 0 {
+        return 0;
+    }
+    number_at(ends, i - 1)
+}
+
+fn difference(a: usize, b: usize) -> usize
+    ensures { λ n. ⌜ n ≡ a - b ⌝ }
+{
+    if a < b {
+        return 0;
+    }
+    a - b
+}
+
+// The question for key i, of keys that lie one behind the other and end there.
+pub fn question_at<'a>(judged: Question, ends: &'a [u32], i: usize) -> Question
+    ensures { λ q. ⌜ q ≡ questionAt judged (now (ends .entry)) i ⌝ }
+{
+    let start = start_of(ends, i);
+    let end = number_at(ends, i);
+    Question {
+        rows: judged.rows,
+        row: judged.row,
+        number: judged.number,
+        start,
+        length: difference(end, start),
+    }
+}
+
+// A search through n entries begins; of a table that is not writable it is over.
+pub fn begin(question: Question, n: usize) -> Search
+    ensures { λ s. ⌜ s ≡ begun (asks question) n ⌝ }
+{
+    seeking::begin(question.number == 0, n)
 }
 
 // How the text of an entry's key stands to a key; an unused entry counts as after every key.
@@ -164,9 +239,9 @@ fn verify(table: &[u32], room: usize, rows: usize, r: usize, e: Member) -> Searc
     ensures { λ s. ⌜ s ≡ verified (isMember (rowAt room (now (table .entry))) rows r e) e ⌝ }
 {
     if member::is_member(table, room, rows, r, e) {
-        return seeking::ended(true, e.value);
+        return seeking::ended(e.value);
     }
-    seeking::ended(true, 0)
+    seeking::ended(0)
 }
 
 // One entry is looked at.
@@ -192,34 +267,35 @@ fn step_in(
     }
 }
 
-// The same, in a table that was judged before.
+// The same for a question, in a table that was judged before.
 pub fn step<'a>(
     table: &'a [u32],
-    rows: usize,
     text: &'a [u8],
-    r: usize,
-    key: &'a [u8],
+    keys: &'a [u8],
+    question: Question,
     st: Search,
     e: Member,
 ) -> Search
-    requires { ⌜ (writableIn (now table) rows (now text) ≡ true) × (st .at < over) ⌝ }
-    ensures { λ s. ⌜ s ≡ stepFor (now (table .entry)) rows (now (text .entry)) r (now (key .entry)) st e ⌝ }
+    requires { ⌜ (writableIn (now table) (question .rows) (now text) ≡ true) × (st .at < over) ⌝ }
+    ensures { λ s. ⌜ s ≡ stepFor (now (table .entry)) (now (text .entry)) (now (keys .entry)) question st e ⌝ }
 {
     let room = table::room_of(table.len());
-    step_in(table, room, rows, text, r, key, st, e)
+    let start = question.start;
+    let key = content::part(keys, start, question.length);
+    step_in(table, room, question.rows, text, question.row, key, st, e)
 }
 
-// What a search answers that is over.
-fn told_answer(table: &[u32], rows: usize, text: &[u8], st: Search) -> Answer
-    requires { ⌜ Judged (now table) rows (now text) st ⌝ }
-    ensures { λ a. ⌜ a ≡ toldFor (now (table .entry)) rows (now (text .entry)) st ⌝ }
+// What a question is answered by a search that is over.
+fn answer(table: &[u32], text: &[u8], question: Question, st: Search) -> Answer
+    requires { ⌜ Rightly (now table) (now text) question ⌝ }
+    ensures { λ a. ⌜ a ≡ answerFor (now (table .entry)) (now (text .entry)) question st ⌝ }
 {
-    if st.writable {
+    if question.number == 0 {
         let value = st.value;
         if value == 0 {
             return Answer::Refused(Refusal::NoMember);
         }
-        if rows <= value as usize {
+        if question.rows <= value as usize {
             return Answer::Refused(Refusal::NoMember);
         }
         let room = table::room_of(table.len());
@@ -229,9 +305,9 @@ fn told_answer(table: &[u32], rows: usize, text: &[u8], st: Search) -> Answer
 }
 
 // The same in numbers.
-pub fn told<'a>(table: &'a [u32], rows: usize, text: &'a [u8], st: Search) -> Report
-    requires { ⌜ Judged (now table) rows (now text) st ⌝ }
-    ensures { λ r. ⌜ r ≡ reportOf (toldFor (now (table .entry)) rows (now (text .entry)) st) ⌝ }
+pub fn report<'a>(table: &'a [u32], text: &'a [u8], question: Question, st: Search) -> Report
+    requires { ⌜ Rightly (now table) (now text) question ⌝ }
+    ensures { λ r. ⌜ r ≡ reportOf (answerFor (now (table .entry)) (now (text .entry)) question st) ⌝ }
 {
-    lookup::report_of(told_answer(table, rows, text, st))
+    lookup::report_of(answer(table, text, question, st))
 }

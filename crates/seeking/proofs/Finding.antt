@@ -48,36 +48,10 @@ module _ (relation : Member → Relation) (named : Member → Bool) (es : List M
       go ih true e = ih (stepped relation named st (entry (st .at))) (turn (ltb-true (st .at) (length es) e) (relation (entry (st .at))) refl (named (entry (st .at))) refl)
       go ih false e = o
 
-  pub any-list : (writable : Bool) → Outcome (searched relation named es (length es) (begun writable (length es)))
+  pub any-list : (wanted : Bool) → Outcome (searched relation named es (length es) (begun wanted (length es)))
   unfolding begun
   any-list true = any-step (length es) (between 0 (length es)) (nothing refl)
-  any-list false = any-step (length es) (ended false 0) (nothing refl)
-
-  -- whether there was anything to look for stays as it was
-  writable-step : (left : ℕ) (st : Search) → st .writable ≡ true → searched relation named es left st .writable ≡ true
-  unfolding searched stepped
-  writable-step zero st o = o
-  writable-step (suc left) st o = go (λ s p. writable-step left s p) (ltb (st .at) (length es))
-    where
-      turn : (r : Relation) (b : Bool) → turned r b st (entry (st .at)) .writable ≡ true
-      turn Before b = refl
-      turn Equal true = refl
-      turn Equal false = refl
-      turn After b = refl
-
-      go : ((s : Search) → s .writable ≡ true → searched relation named es left s .writable ≡ true) → (b : Bool)
-          → pick b (searched relation named es left (stepped relation named st (entry (st .at)))) st .writable ≡ true
-      go ih true = ih (stepped relation named st (entry (st .at))) (turn (relation (entry (st .at))) (named (entry (st .at))))
-      go ih false = o
-
-  pub writable-stays : searched relation named es (length es) (begun true (length es)) .writable ≡ true
-  unfolding begun
-  writable-stays = writable-step (length es) (between 0 (length es)) refl
-
-  -- nothing to look for
-  pub nothing-sought : length es ≤ over → searched relation named es (length es) (begun false (length es)) ≡ ended false 0
-  unfolding begun
-  nothing-sought h = stays (length es) (ended false 0) h
+  any-list false = any-step (length es) (ended 0) (nothing refl)
 
   -- ---- a list in order: what is before stands before the rest, and what is after behind it
   pub record InOrder : Type 0 where
@@ -108,7 +82,7 @@ module _ (relation : Member → Relation) (named : Member → Bool) (es : List M
     abbrev half : ℕ → ℕ → ℕ
     half low high = low + (high - low) / 2
 
-    halves : (low high : ℕ) → low < high → between low high ≡ searchAt (half low high) low high true 0
+    halves : (low high : ℕ) → low < high → between low high ≡ searchAt (half low high) low high 0
     unfolding middle
     halves low high h = rw (lt-ltb low high h)
 
@@ -122,11 +96,11 @@ module _ (relation : Member → Relation) (named : Member → Bool) (es : List M
       over-found l = rw (stays (suc left) (between low high) (rw (le-ltb low high l) fits)) (none (missing w l) refl)
 
       module _ (l : low < high) where
-        looks : searched relation named es (suc left) (between low high) ≡ searched relation named es left (stepped relation named (searchAt m low high true 0) (entry m))
+        looks : searched relation named es (suc left) (between low high) ≡ searched relation named es left (stepped relation named (searchAt m low high 0) (entry m))
         unfolding searched
         looks = ap (searched relation named es (suc left)) (halves low high l) ∙ rw (lt-ltb m (length es) (omega (arith, w .most)))
 
-        turns : (r : Relation) → relation (entry m) ≡ r → (b : Bool) → named (entry m) ≡ b → Sought (searched relation named es left (turned r b (searchAt m low high true 0) (entry m)))
+        turns : (r : Relation) → relation (entry m) ≡ r → (b : Bool) → named (entry m) ≡ b → Sought (searched relation named es left (turned r b (searchAt m low high 0) (entry m)))
         turns Before f b g =
             ih (m + 1) high (omega arith) (record {
               inside = omega arith;
@@ -134,7 +108,7 @@ module _ (relation : Member → Relation) (named : Member → Bool) (es : List M
               below = λ i a. ord .down i m (omega arith) (omega (arith, w .most)) f;
               above = w .above;
             })
-        turns Equal f true g = rw (stays left (ended true (entry m .value)) fits) (hit m (omega (arith, w .most)) f refl)
+        turns Equal f true g = rw (stays left (ended (entry m .value)) fits) (hit m (omega (arith, w .most)) f refl)
         turns Equal f false g = absurd (let k = ord .mine m (omega (arith, w .most)) f in let z : _≡_ {A = ℕ} 0 1 = cc in omega arith)
         turns After f b g =
             ih low m (omega arith) (record {

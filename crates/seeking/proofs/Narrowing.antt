@@ -16,11 +16,11 @@ use Rattle.seeking.specs.Seeking.{over, search as searchAt, middle, betw
 -- ---- the functions' returns
 
 module _ (low high : ℕ) where
-  pub between-on : low < high → searchAt (low + (high - low) / 2) low high true 0 ≡ between low high
+  pub between-on : low < high → searchAt (low + (high - low) / 2) low high 0 ≡ between low high
   unfolding middle
   between-on h = rw (lt-ltb low high h)
 
-  pub between-over : high ≤ low → searchAt over low high true 0 ≡ between low high
+  pub between-over : high ≤ low → searchAt over low high 0 ≡ between low high
   unfolding middle
   between-over h = rw (le-ltb low high h)
 
@@ -29,7 +29,7 @@ module _ {b : Bool} (n : ℕ) {st : Search} where
   unfolding begun
   begun-on e i = i ∙ rw e
 
-  pub begun-not : b ≡ false → st ≡ ended false 0 → st ≡ begun b n
+  pub begun-not : b ≡ false → st ≡ ended 0 → st ≡ begun b n
   unfolding begun
   begun-not e i = i ∙ rw e
 
@@ -47,12 +47,12 @@ pub fine-between : (low high : ℕ) → Fine (between low high)
 unfolding middle
 fine-between low high = go (ltb low high) refl
   where
-    go : (b : Bool) → ltb low high ≡ b → Fine (searchAt (cond b (low + (high - low) / 2) over) low high true 0)
+    go : (b : Bool) → ltb low high ≡ b → Fine (searchAt (cond b (low + (high - low) / 2) over) low high 0)
     go true e = let l : low < high = ltb-true low high e in record { inside = λ h. (omega arith, omega arith) }
     go false e = record { inside = λ h. absurd (omega arith) }
 
-pub fine-ended : (writable : Bool) (value : ℕ) → Fine (ended writable value)
-fine-ended writable value = record { inside = λ h. absurd (omega arith) }
+pub fine-ended : (value : ℕ) → Fine (ended value)
+fine-ended value = record { inside = λ h. absurd (omega arith) }
 
 -- what holds of both holds of whichever is picked
 pub either : (P : Search → Type 0) (b : Bool) {x y : Search} → P x → P y → P (pick b x y)
@@ -70,39 +70,38 @@ module _ (relation : Member → Relation) (named : Member → Bool) where
       where
         go : (r : Relation) → Next st (turned r (named e) st e)
         go Before = (fine-between (st .at + 1) (st .high), omega arith)
-        go Equal = either (Next st) (named e) (fine-ended true (e .value), omega arith) (fine-ended true 0, omega arith)
+        go Equal = either (Next st) (named e) (fine-ended (e .value), omega arith) (fine-ended 0, omega arith)
         go After = (fine-between (st .low) (st .at), omega arith)
 
-  -- what a search comes to that began with st₀: no more than `left` steps are left
-  pub record Seeking (es : List Member) (st₀ : Search) (left : ℕ) (st : Search) : Type 0 where
+  -- where a search stands that is wanted or not: no more than `left` steps are left
+  pub record Seeking (es : List Member) (wanted : Bool) (left : ℕ) (st : Search) : Type 0 where
     pub fine : Fine st
+    pub asked : st .at < over → wanted ≡ true
     pub enough : span st ≤ left
-    pub comes : searched relation named es left st ≡ searched relation named es (length es) st₀
+    pub comes : searched relation named es left st ≡ searched relation named es (length es) (begun wanted (length es))
 
   module _ {es : List Member} where
-    pub seeking-first : (writable : Bool) → Seeking es (begun writable (length es)) (length es) (begun writable (length es))
+    pub seeking-first : (wanted : Bool) → Seeking es wanted (length es) (begun wanted (length es))
     unfolding begun
-    seeking-first writable = record { fine = both .0; enough = both .1; comes = refl }
-      where
-        both : Fine (pick writable (between 0 (length es)) (ended false 0)) × (span (pick writable (between 0 (length es)) (ended false 0)) ≤ length es)
-        both = either (λ r. Fine r × (span r ≤ length es)) writable (fine-between 0 (length es), omega arith) (fine-ended false 0, omega arith)
+    seeking-first true = record { fine = fine-between 0 (length es); asked = λ h. refl; enough = omega arith; comes = refl }
+    seeking-first false = record { fine = fine-ended 0; asked = λ h. absurd (omega arith); enough = omega arith; comes = refl }
 
-    module _ {st₀ : Search} where
+    module _ {wanted : Bool} where
       -- one step more, where there is an entry to look at
       pub seeking-next :
-          (left : ℕ) (st : Search) → Seeking es st₀ left st → st .at < length es → st .at < over
-          → Seeking es st₀ (left - 1) (stepped relation named st (getD es (st .at) unused))
+          (left : ℕ) (st : Search) → Seeking es wanted left st → st .at < length es → st .at < over
+          → Seeking es wanted (left - 1) (stepped relation named st (getD es (st .at) unused))
       unfolding searched
       seeking-next zero st k h i = absurd (omega (arith, k .enough, k .fine .inside i .0, k .fine .inside i .1))
       seeking-next (suc left) st k h i =
           let n : Next st (stepped relation named st (getD es (st .at) unused)) = narrows st (getD es (st .at) unused) (k .fine .inside i .0) (k .fine .inside i .1) in
           let e : suc left - 1 ≡ left = omega arith in
-          rw e (record { fine = n .0; enough = omega (arith, n .1, k .enough); comes = simp (lt-ltb _ _ h) at (k .comes) })
+          rw e (record { fine = n .0; asked = λ j. k .asked i; enough = omega (arith, n .1, k .enough); comes = simp (lt-ltb _ _ h) at (k .comes) })
 
-      pub seeking-less : {left : ℕ} {st : Search} → Seeking es st₀ left st → st .at < over → left - 1 < left
+      pub seeking-less : {left : ℕ} {st : Search} → Seeking es wanted left st → st .at < over → left - 1 < left
       seeking-less k i = omega (arith, k .enough, k .fine .inside i .0, k .fine .inside i .1)
 
-      pub seeking-done : (left : ℕ) (st : Search) → Seeking es st₀ left st → length es ≤ st .at → st ≡ searched relation named es (length es) st₀
+      pub seeking-done : (left : ℕ) (st : Search) → Seeking es wanted left st → length es ≤ st .at → st ≡ searched relation named es (length es) (begun wanted (length es))
       unfolding searched
       seeking-done zero st k h = k .comes
       seeking-done (suc left) st k h = simp (le-ltb _ _ h) at (k .comes)

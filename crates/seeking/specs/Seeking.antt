@@ -15,8 +15,8 @@ use Rattle.seeking.specs.declared.Search.{Search}
 abbrev pub over : ℕ
 over = 18446744073709551615
 
-abbrev pub search : ℕ → ℕ → ℕ → Bool → ℕ → Search
-search at low high writable value = record { at = at; low = low; high = high; writable = writable; value = value }
+abbrev pub search : ℕ → ℕ → ℕ → ℕ → Search
+search at low high value = record { at = at; low = low; high = high; value = value }
 
 -- the entry to look at between low and high
 unfoldable pub middle : ℕ → ℕ → ℕ
@@ -24,10 +24,10 @@ middle low high = cond (ltb low high) (low + (high - low) / 2) over
 
 -- still searching, between low and high
 abbrev pub between : ℕ → ℕ → Search
-between low high = search (middle low high) low high true 0
+between low high = search (middle low high) low high 0
 
-abbrev pub ended : Bool → ℕ → Search
-ended writable value = search over 0 0 writable value
+abbrev pub ended : ℕ → Search
+ended value = search over 0 0 value
 
 abbrev pub pick : Bool → Search → Search → Search
 pick true x y = x
@@ -35,12 +35,12 @@ pick false x y = y
 
 -- through n entries, if there is anything to look for
 unfoldable pub begun : Bool → ℕ → Search
-begun writable n = pick writable (between 0 n) (ended false 0)
+begun wanted n = pick wanted (between 0 n) (ended 0)
 
 -- an entry that stands so, with its rows a member's or not, leads on behind it, to the end, or on before it
 abbrev pub turned : Relation → Bool → Search → Member → Search
 turned Before named st e = between (st .at + 1) (st .high)
-turned Equal named st e = pick named (ended true (e .value)) (ended true 0)
+turned Equal named st e = pick named (ended (e .value)) (ended 0)
 turned After named st e = between (st .low) (st .at)
 
 -- an entry that is not used

@@ -4,12 +4,11 @@ ghost use mathlib.Core.Path.{_≡_};
 ghost use Rattle.seeking.specs.Seeking.{between as betweenOf, ended as endedWith, begun};
 
 // Where a search stands: `at` is the entry to look at, between `low` and `high`, or no entry's number if the search is over; `value` is the row that
-// was found, 0 if none; `writable` says whether there was anything to look for.
+// was found, 0 if none.
 pub struct Search {
     pub at: usize,
     pub low: usize,
     pub high: usize,
-    pub writable: bool,
     pub value: u32,
 }
 
@@ -25,7 +24,6 @@ pub fn between(low: usize, high: usize) -> Search
             at: low + (high - low) / 2,
             low,
             high,
-            writable: true,
             value: 0,
         };
     }
@@ -33,30 +31,28 @@ pub fn between(low: usize, high: usize) -> Search
         at: OVER,
         low,
         high,
-        writable: true,
         value: 0,
     }
 }
 
 // A search that is over.
-pub fn ended(writable: bool, value: u32) -> Search
-    ensures { λ s. ⌜ s ≡ endedWith writable value ⌝ }
+pub fn ended(value: u32) -> Search
+    ensures { λ s. ⌜ s ≡ endedWith value ⌝ }
 {
     Search {
         at: OVER,
         low: 0,
         high: 0,
-        writable,
         value,
     }
 }
 
-// A search through n entries, in a table that is writable or not.
-pub fn begin(writable: bool, n: usize) -> Search
-    ensures { λ s. ⌜ s ≡ begun writable n ⌝ }
+// A search through n entries begins; or it is over, if there is nothing to look for.
+pub fn begin(wanted: bool, n: usize) -> Search
+    ensures { λ s. ⌜ s ≡ begun wanted n ⌝ }
 {
-    if writable {
+    if wanted {
         return between(0, n);
     }
-    ended(false, 0)
+    ended(0)
 }
