@@ -2,3 +2,4 @@
 pub mod Arranging
 pub mod Storing
 pub mod Stepping
+pub mod Looking

@@ -4,12 +4,12 @@ use mathlib.Core.List.{List, [], _∷_, _++_}
 use Prim.Native.Nat.{ℕ, zero, suc, _+_, _-_, _≤_, _<_}
 use native.Mathlib.Omega.{arith}
 use native.Mathlib.Numerals.{add-one}
-use lib.ListN.{length, getD, set, replicate, length-set}
+use lib.ListN.{length, getD, set, replicate}
 use borrow.Author.Tests.{ne-eqb, lt-ltb, le-ltb}
 use Rattle.draft.specs.Table.{from}
 use Rattle.member.specs.Members.{memberOf}
 use Rattle.seeking.specs.Seeking.{unused}
-use Rattle.index.specs.Filling.{padded, entryOf, entries}
+use Rattle.index.specs.Filling.{padded, orderOf, Listed, entryOf, entries}
 
 -- ---- one entry
 
@@ -63,27 +63,24 @@ module _ {A : Type 0} where
   -- where the loop over a list xs stands: i are stored
   pub record Stored (f : ℕ → A) (xs : List A) : Type 0 where
     pub i : ℕ
-    pub now : List A
+    pub list : List A
     pub within : i ≤ length xs
-    pub same : length now ≡ length xs
-    pub comes : stored f i (length xs - i) now ≡ from f 0 (length xs)
+    pub same : length list ≡ length xs
+    pub comes : stored f i (length xs - i) list ≡ from f 0 (length xs)
 
-  pub stored-first : (f : ℕ → A) (xs : List A) → Stored f xs
-  stored-first f xs = let z : length xs - 0 ≡ length xs = omega arith in record { i = 0; now = xs; within = omega arith; same = refl; comes = rw z (stored-all f xs) }
+  pub stored-first : (f : ℕ → A) (xs : List A) → stored f 0 (length xs - 0) xs ≡ from f 0 (length xs)
+  stored-first f xs = let z : length xs - 0 ≡ length xs = omega arith in rw z (stored-all f xs)
 
-  pub stored-next : (f : ℕ → A) (xs : List A) (u : Stored f xs) (x : A) → u .i < length xs → x ≡ f (u .i) → Stored f xs
+  -- one more is stored
+  pub stored-next :
+      (f : ℕ → A) (xs : List A) (u : Stored f xs) (x : A) → u .i < length xs → x ≡ f (u .i)
+      → stored f (u .i + 1) (length xs - (u .i + 1)) (set (u .list) (u .i) x) ≡ from f 0 (length xs)
   unfolding stored
-  stored-next f xs u x h e = record {
-    i = u .i + 1;
-    now = set (u .now) (u .i) x;
-    within = omega arith;
-    same = length-set (u .now) (u .i) x ∙ u .same;
-    comes =
-        let k : length xs - u .i ≡ suc (length xs - suc (u .i)) = omega arith in
-        rw (e, add-one) (rw k at (u .comes));
-  }
+  stored-next f xs u x h e =
+      let k : length xs - u .i ≡ suc (length xs - suc (u .i)) = omega arith in
+      rw (e, add-one) (rw k at (u .comes))
 
-  pub stored-done : (f : ℕ → A) (xs : List A) (u : Stored f xs) → length xs ≤ u .i → u .now ≡ from f 0 (length xs)
+  pub stored-done : (f : ℕ → A) (xs : List A) (u : Stored f xs) → length xs ≤ u .i → u .list ≡ from f 0 (length xs)
   unfolding stored
   stored-done f xs u h = let e : length xs - u .i ≡ 0 = omega (arith, u .within) in rw e at (u .comes)
 
@@ -107,3 +104,8 @@ same-from {A} f g e r (suc n) = rw (e r, same-from f g e (suc r) n)
 pub entries-padded : (ks : List ℕ) (n : ℕ) → from (λ i. entryOf (getD (padded ks) i 0)) 0 n ≡ entries ks n
 unfolding padded entries
 entries-padded ks n = same-from (λ i. entryOf (getD (padded ks) i 0)) (λ i. entryOf (getD ks i 0)) (λ i. ap entryOf (before-zeros (2047 - length ks) ks i)) 0 n
+
+-- the entries of what sorting left are the index
+pub listed-entries :
+    {T s order : List ℕ} {rows r n answer : ℕ} → Listed T rows s r n answer order → from (λ i. entryOf (getD order i 0)) 0 n ≡ entries (orderOf T rows s r n) n
+listed-entries {T} {s} {order} {rows} {r} {n} l = rw (l .holds) (entries-padded (orderOf T rows s r n) n)
