@@ -3,3 +3,5 @@ pub mod Arranging
 pub mod Storing
 pub mod Stepping
 pub mod Looking
+pub mod Members
+pub mod Theorems
