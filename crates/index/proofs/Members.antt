@@ -6,8 +6,8 @@ use Prim.Native.Nat.{ℕ, zero, suc, _+_, _≤_, _<_}
 use native.Mathlib.Omega.{arith}
 use lib.Dec.{ltb, eqb}
 use lib.ListN.{length, getD}
-use borrow.Author.Tests.{eq-eqb, eqb-true, ltb-true, ltb-false}
-use Rattle.text.proofs.Comparing.{clash, both, same-is, same-self, same-ne}
+use borrow.Author.Tests.{eq-eqb, ne-eqb, eqb-true}
+use Rattle.text.proofs.Comparing.{clash, both, same-is, same-self}
 use Rattle.draft.specs.declared.Row.{Row}
 use Rattle.draft.specs.Read.{textOf}
 use Rattle.member.specs.declared.Member.{Member}
@@ -15,7 +15,7 @@ use Rattle.member.specs.declared.Found.{Found}
 use Rattle.member.specs.declared.Found.the-variants.{At, Absent}
 use Rattle.member.specs.Members.{memberOf, hasKey, keysOf, pickFound, find, sameMember, isAmong}
 use Rattle.member.proofs.Apart.{Apart, none-apart, and-apart}
-use Rattle.sorting.proofs.Inserting.{times, Stands, stands}
+use Rattle.sorting.proofs.Inserting.{times, times-at, Stands, stands}
 use Rattle.index.specs.Filling.{keyRows}
 
 -- a key row, and what is known of it
@@ -70,6 +70,33 @@ of-key-row (and-apart x ms i j a) e h = go (sameMember (memberOf x (x + 1)) e) r
         let g : memberOf x (x + 1) ≡ e = same-both (memberOf x (x + 1)) e f in
         rw (← g) (record { is = refl; there = rw (eq-eqb x x refl) (omega arith) })
     go false f h ih = let w = ih h in record { is = w .is; there = omega (arith, w .there) }
+
+-- EACH ONCE
+below-none : {rows r : ℕ} {ms : List Member} → Apart rows r ms → (k : ℕ) → k < r → times k (keyRows ms) ≡ 0
+unfolding keyRows times
+below-none none-apart k h = refl
+below-none (and-apart x ms i j a) k h = let n : x ≡ k → ⊥ = λ e. omega arith in rw (ne-eqb x k n) (omega (arith, below-none a k (omega arith)))
+
+pub apart-once : {rows r : ℕ} {ms : List Member} → Apart rows r ms → (k : ℕ) → times k (keyRows ms) ≤ 1
+unfolding keyRows times
+apart-once none-apart k = omega arith
+apart-once (and-apart x ms i j a) k = go (eqb x k) refl (apart-once a k)
+  where
+    go : (b : Bool) → eqb x k ≡ b → times k (keyRows ms) ≤ 1 → cond b 1 0 + times k (keyRows ms) ≤ 1
+    go true e ih = let f : x ≡ k = eqb-true x k e in omega (arith, below-none a k (omega arith))
+    go false e ih = omega arith
+
+at-two : (xs : List ℕ) (i j : ℕ) → i < j → j < length xs → getD xs i 0 ≡ getD xs j 0 → 2 ≤ times (getD xs i 0) xs
+unfolding times
+at-two [] i j h l e = absurd (omega arith)
+at-two (x ∷ xs) zero zero h l e = absurd (omega arith)
+at-two (x ∷ xs) zero (suc j) h l e = let u : 0 < times x xs = rw e (times-at xs j (omega arith)) in rw (eq-eqb x x refl) (omega (arith, u))
+at-two (x ∷ xs) (suc i) zero h l e = absurd (omega arith)
+at-two (x ∷ xs) (suc i) (suc j) h l e = omega (arith, at-two xs i j (omega arith) (omega arith) e)
+
+-- of rows that are there once, two places have two
+pub once-apart : (xs : List ℕ) → ((k : ℕ) → times k xs ≤ 1) → (i j : ℕ) → i < j → j < length xs → getD xs i 0 ≡ getD xs j 0 → ⊥
+once-apart xs f i j h l e = omega (arith, f (getD xs i 0), at-two xs i j h l e)
 
 -- ---- distinct keys, and what is found
 

@@ -1,7 +1,7 @@
 -- What an index is, and what is found through a list. The members stand one behind the other and have distinct keys, as those of every writable
 -- table do (crate `meant`). Assumes nothing.
 use mathlib.Core.Path.{_≡_, refl, sym, ap, _∙_}
-use mathlib.Core.Bool.{Bool, true, false, _&&_, _||_}
+use mathlib.Core.Bool.{Bool, true, false, cond, _&&_, _||_}
 use mathlib.Core.List.{List, []}
 use Prim.Native.Nat.{ℕ, zero, suc, _+_, _≤_, _<_}
 use native.Mathlib.Omega.{arith}
@@ -14,7 +14,7 @@ use Rattle.draft.specs.Read.{textOf}
 use Rattle.draft.specs.Writable.{writable}
 use Rattle.member.specs.declared.Member.{Member}
 use Rattle.member.specs.declared.Found.the-variants.{At, Absent}
-use Rattle.member.specs.Members.{memberOf, members, find, isAmong}
+use Rattle.member.specs.Members.{memberOf, isStruct, members, find, isAmong}
 use Rattle.member.proofs.Apart.{Apart}
 use Rattle.order.specs.declared.Relation.{Relation}
 use Rattle.order.specs.declared.Relation.the-variants.{Before, Equal, After}
@@ -28,20 +28,20 @@ use Rattle.seeking.specs.Seeking.{over, begun, unused, searched}
 use Rattle.seeking.proofs.Finding.{Outcome, nothing, found, any-list, InOrder, Sought, none, hit, in-order-finds}
 use Rattle.sorting.specs.Sorting.{keyText, ordered, Rising}
 use Rattle.sorting.proofs.Inserting.{before-not, rising-none, ordered-rising, ordered-length, times, times-ordered, Stands, stands, times-at}
-use Rattle.index.specs.Filling.{keyRows, entryOf, entries}
+use Rattle.index.specs.Filling.{keyRows, refusalIn, orderIn, refusalOf, orderOf, entryOf, entries}
 use Rattle.index.specs.Through.{relationTo, isMember, itsRelation, itsMember, foundRow, rowAnswer, throughIf, through}
 use Rattle.index.proofs.Storing.{getD-past, entry-here}
-use Rattle.index.proofs.Members.{KeyRow, rows-length, key-row, OfKeyRow, of-key-row, Distinct, found-at, found-none}
+use Rattle.index.proofs.Members.{KeyRow, rows-length, key-row, OfKeyRow, of-key-row, apart-once, once-apart, Distinct, same-row, found-at, found-none}
 
 -- ---- entries
 
-getD-from : {A : Type 0} (f : ℕ → A) (r n i : ℕ) (d : A) → i < n → getD (from f r n) i d ≡ f (r + i)
+pub getD-from : {A : Type 0} (f : ℕ → A) (r n i : ℕ) (d : A) → i < n → getD (from f r n) i d ≡ f (r + i)
 unfolding from
 getD-from f r zero i d h = absurd (omega arith)
 getD-from f r (suc n) zero d h = let e : r + 0 ≡ r = omega arith in rw e
 getD-from f r (suc n) (suc i) d h = let e : suc r + i ≡ r + suc i = omega arith in getD-from f (suc r) n i d (omega arith) ∙ rw e
 
-from-length : {A : Type 0} (f : ℕ → A) (r n : ℕ) → length (from f r n) ≡ n
+pub from-length : {A : Type 0} (f : ℕ → A) (r n : ℕ) → length (from f r n) ≡ n
 unfolding from
 from-length f r zero = refl
 from-length f r (suc n) = ap suc (from-length f (suc r) n)
@@ -101,6 +101,31 @@ module _ (room : ℕ) (row : ℕ → Row) (rows : ℕ) (s : List ℕ) (ms : List
         let u = known i (omega arith) in
         let v = known j l in
         before-not text (getD ks j 0) (getD ks i 0) (rises .up i j h l) (rw (is-text (getD ks j 0) (omega (arith, v .inside)), is-text (getD ks i 0) (omega (arith, u .inside))) e)
+
+    -- and none is the same: each key is before those of the later entries
+    pub entries-ascend : Distinct row s ms → (i j : ℕ) → i < j → j < length ks → Less (textOf s (row (getD ks i 0))) (textOf s (row (getD ks j 0)))
+    entries-ascend d i j h l = go (compared (textOf s (row (getD ks i 0))) (textOf s (row (getD ks j 0)))) refl
+      where
+        there : (x : ℕ) → x < length ks → 0 < times (getD ks x 0) (keyRows ms)
+        there x z = rw (kept (getD ks x 0)) at (times-at ks x z)
+
+        go : (c : Relation) → compared (textOf s (row (getD ks i 0))) (textOf s (row (getD ks j 0))) ≡ c → c ≡ Before
+        go Before e = refl
+        go Equal e =
+            absurd (once-apart ks (λ k. rw (kept k) (apart-once apart k)) i j h l
+            (same-row row s ms d (getD ks i 0) (getD ks j 0) (there i (omega arith)) (there j l) (compared-equal _ _ e)))
+        go After e = absurd (entries-rise i j (omega arith) l (after-less _ _ e))
+
+    -- EACH MEMBER has its entry
+    pub member-placed : length ms ≤ n → (m : Member) → isAmong m ms ≡ true → (i : ℕ) × (i < length ms) × (getD es i unused ≡ m)
+    member-placed all m h =
+        let u = of-key-row apart m h in
+        let w = stands (m .key) ks (rw (kept (m .key)) (u .there)) in
+        let l : w .place < length ms = omega (arith, w .inside, ordered-count) in
+        (w .place, l, entry-used (w .place) (omega arith) (w .inside) ∙ ap (λ (k : ℕ). memberOf k (k + 1)) (w .is) ∙ sym (u .is))
+
+    pub entry-member : (i : ℕ) → i < n → i < length ms → isAmong (getD es i unused) ms ≡ true
+    entry-member i h l = let z : i < length ks = omega (arith, ordered-count) in rw (entry-used i h z) (known i z .among)
 
     module _ (r : ℕ) (its : ms ≡ members row rows r) (key : List ℕ) where
       abbrev relation : Member → Relation
@@ -265,3 +290,37 @@ module _ (T : List ℕ) (rows : ℕ) (s : List ℕ) (r : ℕ) where
             → Answered es (pick (ltb 0 v && ltb v rows) (answerAt itsRow s v) (Refused NoMember))
         go v (nothing-there e) = no-member (rw e)
         go v (named-there i h f e l p) = as-front i h f (rw (lt-ltb 0 v p, lt-ltb v rows l, f, e, g .writes))
+
+-- ---- refused, or not
+
+module _ (T : List ℕ) (rows : ℕ) (s : List ℕ) (r n : ℕ) where
+  pub refused-none : (refusalOf T rows s r n ≡ 0 → ⊥) → orderOf T rows s r n ≡ []
+  unfolding refusalOf orderOf orderIn
+  refused-none f = go (writable T rows s) refl
+    where
+      go : (b : Bool) → writable T rows s ≡ b → cond b (orderIn (itsRoom T rows s r) (itsRow T rows s r) rows s r n) [] ≡ []
+      go true e = let g : refusalIn (itsRoom T rows s r) (itsRow T rows s r) rows s r n ≡ 0 → ⊥ = rw e at f in rw (ne-eqb _ 0 g)
+      go false e = refl
+
+  -- the table is writable, the row is a Struct's, and the list has room
+  pub record Accepted : Type 0 where
+    pub writes : writable T rows s ≡ true
+    pub structs : isStruct (itsRow T rows s r) rows r ≡ true
+    pub room : length (itsMembers T rows s r) ≤ n
+    pub order : orderOf T rows s r n ≡ itsOrder T rows s r
+
+  pub accepted-so : refusalOf T rows s r n ≡ 0 → Accepted
+  unfolding refusalOf refusalIn orderOf orderIn
+  accepted-so f = go (writable T rows s) refl (isStruct (itsRow T rows s r) rows r) refl (ltb n (length (itsMembers T rows s r))) refl f
+    where
+      go : (b : Bool) → writable T rows s ≡ b → (c : Bool) → isStruct (itsRow T rows s r) rows r ≡ c → (d : Bool) → ltb n (length (itsMembers T rows s r)) ≡ d
+          → _≡_ {A = ℕ} (cond b (cond c (cond (d || ltb 2047 (length (itsMembers T rows s r))) 21 0) 18) 11) 0 → Accepted
+      go false e c g d h f = absurd (omega arith)
+      go true e false g d h f = absurd (omega arith)
+      go true e true g true h f = absurd (omega arith)
+      go true e true g false h f = record {
+        writes = e;
+        structs = g;
+        room = ltb-false n (length (itsMembers T rows s r)) h;
+        order = rw (e, g, h, f);
+      }

@@ -20,3 +20,8 @@ apart-from {q = q} h (and-apart k ms i j a) = and-apart {r = q} k ms (omega arit
 pub apart-few : {rows r : ℕ} {ms : List Member} → Apart rows r ms → r ≤ rows → r + 2 * length ms ≤ rows
 apart-few none-apart h = omega arith
 apart-few (and-apart k ms i j a) h = omega (arith, apart-few a (omega arith))
+
+-- so few are there in a table
+pub apart-half : {rows r : ℕ} {ms : List Member} → Apart rows r ms → 1 ≤ r → rows ≤ 4096 → length ms ≤ 2047
+apart-half none-apart h l = omega arith
+apart-half {rows} {r} (and-apart k ms i j a) h l = omega (arith, apart-few (and-apart {r = r} k ms i j a) (omega arith))
