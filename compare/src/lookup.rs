@@ -188,7 +188,7 @@ fn shown(table: &Table) -> String {
 }
 
 /// The second implementation's answer as the numbers of `link/binmode.h`.
-fn reported(answer: Result<Member, u8>) -> Looked {
+pub fn reported(answer: Result<Member, u8>) -> Looked {
     let none = Looked::default();
     match answer {
         Err(refusal) => Looked { refusal, ..none },

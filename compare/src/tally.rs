@@ -27,7 +27,7 @@ const MEANINGS: [&str; NUMBERS] = [
     "no such member",
     "too many digits",
     "the same key twice",
-    "",
+    "list too short",
     "",
     "",
     "",
@@ -50,6 +50,8 @@ pub struct Tally {
     pub positions: [usize; NUMBERS],
     pub pieces: [usize; NUMBERS],
     pub texts: [usize; NUMBERS],
+    pub indexes: [usize; NUMBERS],
+    pub through: [usize; NUMBERS],
 }
 
 impl Tally {
@@ -63,6 +65,8 @@ impl Tally {
             positions: [0; NUMBERS],
             pieces: [0; NUMBERS],
             texts: [0; NUMBERS],
+            indexes: [0; NUMBERS],
+            through: [0; NUMBERS],
         }
     }
 
@@ -112,6 +116,18 @@ impl Tally {
         self.texts[usize::from(number)] += 1;
     }
 
+    /// Notes an index filled.
+    pub fn filled(&mut self, number: u8) {
+        self.left = self.left.saturating_sub(1);
+        self.indexes[usize::from(number)] += 1;
+    }
+
+    /// Notes a key looked up through a list.
+    pub fn found(&mut self, number: u8) {
+        self.left -= 1;
+        self.through[usize::from(number)] += 1;
+    }
+
     pub fn print(&self) {
         let columns = [
             ("reading", &self.reading),
@@ -121,6 +137,8 @@ impl Tally {
             ("positions", &self.positions),
             ("in pieces", &self.pieces),
             ("texts", &self.texts),
+            ("indexes", &self.indexes),
+            ("through", &self.through),
         ];
         let line = |number: &str, meaning: &str, cells: Vec<String>| {
             let cells: String = cells.iter().map(|cell| format!(" {cell:>10}")).collect();

@@ -91,6 +91,35 @@ pub fn allowed(
     }
 }
 
+/// Keys looked up through a list by halves, the table judged once. This is how
+/// it is done here; of a foreign list others may find more, or less.
+pub fn find(
+    table: &[u32],
+    rows: usize,
+    text: &[u8],
+    row: usize,
+    list: &[Entry],
+    keys: &[&[u8]],
+) -> Vec<Result<Member, u8>> {
+    let Some(rows) = writable(table, rows, text, |_| {}) else {
+        return vec![Err(refusal::TABLE); keys.len()];
+    };
+    let used = list.partition_point(|entry| entry.key != 0);
+    let members = members(rows, row).unwrap_or_default();
+    let of = |entry: &Entry| {
+        let &[_, offset, size, _] = rows.get(entry.key as usize).unwrap_or(&[0; 4]);
+        content(text, offset, size).unwrap_or_default()
+    };
+    let one = |key: &&[u8]| {
+        let at = list[..used].binary_search_by_key(key, of);
+        let entry = at.ok().map(|at| list[at]);
+        let entry = entry.filter(|entry| members.contains(entry));
+        let value = entry.ok_or(sought::NO_MEMBER)?.value;
+        answer(rows, text, value as usize)
+    };
+    keys.iter().map(one).collect()
+}
+
 #[cfg(test)]
 mod tests {
     use super::*;
@@ -155,5 +184,17 @@ mod tests {
         assert_eq!(of(&entries(&[8]), "b"), (false, true));
         assert_eq!(of(&[Entry { key: 2, value: 5 }], "b"), (false, true));
         assert_eq!(of(&[], "b"), (false, true));
+    }
+
+    #[test]
+    fn through_an_index() {
+        let (table, rows, text) = card(&["b", "ab", "", "a", "B"]);
+        let index = fill(&table, rows, &text, 1, 8).unwrap();
+        let keys: [&[u8]; 7] = [b"b", b"ab", b"", b"a", b"B", b"~", b"x"];
+        let found = find(&table, rows, &text, 1, &index, &keys);
+        for (key, found) in keys.iter().zip(found) {
+            assert_eq!(found, crate::lookup::lookup(&table, rows, &text, 1, key));
+        }
+        assert_eq!(find(&table, rows + 1, &text, 1, &index, &keys), [Err(11); 7]);
     }
 }

@@ -88,7 +88,7 @@ module _ (T : List ℕ) (rows : ℕ) (s : List ℕ) (e : writable T rows s ≡ t
   unfolding refusalOf refusalIn
   fill-answers n = rw (e, le-ltb 2047 (length its) few-members) (go (ltb n (length its)))
     where
-      go : (b : Bool) → cond (isStruct row rows r) (cond (b || false) 21 0) 18 ≡ cond (isStruct row rows r) (cond b 21 0) 18
+      go : (b : Bool) → _≡_ {A = ℕ} (cond (isStruct row rows r) (cond (b || false) 21 0) 18) (cond (isStruct row rows r) (cond b 21 0) 18)
       go true = refl
       go false = refl
 
