@@ -1,7 +1,7 @@
 //! An index of a Struct's members, and keys looked up through a list of
 //! entries, written from document 02 (request E8) only.
 
-use crate::lookup::{Member, answer, find, sought};
+use crate::lookup::{self, Member, answer, sought};
 use crate::meaning::content;
 use crate::rules::{kind, refusal};
 use crate::writer::{Row, writable};
@@ -78,7 +78,7 @@ pub fn allowed(
             absent: false,
         };
     };
-    let value = find(rows, text, row, key);
+    let value = lookup::find(rows, text, row, key);
     let named = value.is_some_and(|value| {
         let (key, value) = (value as u32 - 1, value as u32);
         list.contains(&Entry { key, value })
@@ -111,7 +111,7 @@ pub fn find(
         content(text, offset, size).unwrap_or_default()
     };
     let one = |key: &&[u8]| {
-        let at = list[..used].binary_search_by_key(key, of);
+        let at = list[..used].binary_search_by(|entry| of(entry).cmp(key));
         let entry = at.ok().map(|at| list[at]);
         let entry = entry.filter(|entry| members.contains(entry));
         let value = entry.ok_or(sought::NO_MEMBER)?.value;

@@ -119,8 +119,11 @@ module _ (T : List ℕ) (rows : ℕ) (s : List ℕ) (e : writable T rows s ≡ t
     pub filled-sorted : (i j : ℕ) → i < j → j < length its → compared (textOf s (row (getD es i unused .key))) (textOf s (row (getD es j unused .key))) ≡ Before
     filled-sorted i j h l =
         let c = index.ordered-count (roomOf 4096 (length T)) row rows s its stand (omega arith) most within in
-        rw (is, index.entry-used (roomOf 4096 (length T)) row rows s its stand (omega arith) most within n i (omega (arith, filled-room)) (omega (arith, c)),
-        index.entry-used (roomOf 4096 (length T)) row rows s its stand (omega arith) most within n j (omega (arith, filled-room)) (omega (arith, c)))
+        rw (
+          is,
+          index.entry-used (roomOf 4096 (length T)) row rows s its stand (omega arith) most within n i (omega (arith, filled-room)) (omega (arith, c)),
+          index.entry-used (roomOf 4096 (length T)) row rows s its stand (omega arith) most within n j (omega (arith, filled-room)) (omega (arith, c)),
+        )
         (index.entries-ascend (roomOf 4096 (length T)) row rows s its stand (omega arith) most within n (distinct-members T rows s e w r) i j h (omega (arith, c)))
 
     pub filled-once : (i j : ℕ) → i < j → j < length its → getD es i unused ≡ getD es j unused → ⊥

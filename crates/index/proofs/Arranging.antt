@@ -90,7 +90,7 @@ module _ (room : ℕ) (row : ℕ → Row) (rows : ℕ) (s : List ℕ) where
       sort-again {order′ = order′} o e =
           let d : List ℕ = w .done in
           let k : ordered text (inserted text here d) (keyRows (membersFrom row rows (left - 1) (row (here + 1) .end))) ≡ ordered text [] (keyRows (membersFrom row rows n first)) =
-              rw (from-more row rows left here p h) at (w .comes) in
+          rw (from-more row rows left here p h) at (w .comes) in
           let m : length (inserted text here d) ≡ suc (length d) = length-inserted text here d in
           let z : 2047 - length d - 1 ≡ 2047 - length (inserted text here d) = omega (arith, m) in
           record {

@@ -98,7 +98,14 @@ fn arrange(
 }
 
 // The same, with the table judged.
-fn judged_order(table: &[u32], rows: usize, text: &[u8], r: usize, n: usize, order: &mut [u32]) -> u8
+fn judged_order(
+    table: &[u32],
+    rows: usize,
+    text: &[u8],
+    r: usize,
+    n: usize,
+    order: &mut [u32],
+) -> u8
     requires { ⌜ now order ≡ padded [] ⌝ }
     ensures { λ a. ⌜ Listed (now (table .entry)) rows (now (text .entry)) r n a (now (order .exit)) ⌝ }
 {

@@ -120,11 +120,11 @@ fn count_from(table: &[u32], room: usize, rows: usize, n: usize, first: usize) -
         if rows <= here {
             return c;
         }
-        let value = here + 1;
-        if rows <= value {
+        let behind = here + 1;
+        if rows <= behind {
             return c;
         }
-        here = end_of(table, room, value);
+        here = end_of(table, room, behind);
         left -= 1;
         c += 1;
     }
@@ -164,14 +164,14 @@ fn is_among(table: &[u32], room: usize, rows: usize, m: Member, n: usize, first:
         if rows <= here {
             return false;
         }
-        let value = here + 1;
-        if rows <= value {
+        let its_value = here + 1;
+        if rows <= its_value {
             return false;
         }
         if same(member_at(here), m) {
             return true;
         }
-        here = end_of(table, room, value);
+        here = end_of(table, room, its_value);
         left -= 1;
     }
     false

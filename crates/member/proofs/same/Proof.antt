@@ -1,5 +1,4 @@
 use Rattle.member.proofs.Counting.{seeking}
-use borrow.Author.Needs.{needs}
 use Rattle.member.proofs.same.Statement.{statement}
 use Rattle.member.proofs.same.Tie as tie
 

@@ -105,9 +105,22 @@ abbrev blank : Report
 blank = reported 0 0 (pos 0) plusZero 0 0
 
 abbrev stayed : Stays (find′.ended .signature .params) (find′.ended .kept)
-stayed =
-    (stay-none-slice (0 ∷ []) tt (plain (λ _. u32)) yes, (stay-none (λ _. usize) yes, (stay-none-slice (0 ∷ []) tt (plain (λ _. u8)) yes, (stay-none (λ _. usize) yes, (stay-none-slice (0 ∷ []) tt (plain (λ _. E)) yes,
-    (stay-none-slice (0 ∷ []) tt (plain (λ _. u8)) yes, (stay-none-slice (0 ∷ []) tt (plain (λ _. u32)) yes, (stay-slice (1 ∷ []) tt (plain (λ _. R)), tt))))))))
+stayed = (
+  stay-none-slice (0 ∷ []) tt (plain (λ _. u32)) yes,
+  (
+    stay-none (λ _. usize) yes,
+    (
+      stay-none-slice (0 ∷ []) tt (plain (λ _. u8)) yes,
+      (
+        stay-none (λ _. usize) yes,
+        (
+          stay-none-slice (0 ∷ []) tt (plain (λ _. E)) yes,
+          (stay-none-slice (0 ∷ []) tt (plain (λ _. u8)) yes, (stay-none-slice (0 ∷ []) tt (plain (λ _. u32)) yes, (stay-slice (1 ∷ []) tt (plain (λ _. R)), tt))),
+        ),
+      ),
+    ),
+  ),
+)
 
 -- the contracts that the proof cites
 abbrev Judge : {M : Type 1} (𝓤 : URA M) (H : Heap 𝓤) (A : Atoms 𝓤) (mem : Memory → SProp 𝓤) (run : Routine → Fun 𝓤) → Contract 𝓤
@@ -464,9 +477,19 @@ module _ {M : Type 1} (𝓤 : URA M) (H : Heap 𝓤) (A : Atoms 𝓤) (W : Given
       (are .1 .0 .1) (are .1 .1 .1 .0 .1) 𝓣 known-judge known-ask known-look (are .0 .0 .1) (are .1 .1 .0 .0 .1) (are .1 .1 .1 .1 .0 .0 .1) (are .1 .1 .1 .1 .1 .0 .0 .1) (are .1 .1 .1 .1 .1 .1 .0 .0 .1) (are .1 .1 .1 .1 .1 .1 .1 .0 .0 .1)))
 
   find-meets : Meets 𝓤 H A find′.signature (WpFn 𝓤 H (𝓣 .C) (𝓣 .Λ) code.function) (find′.spec 𝓤 H A mem run)
-  find-meets = walk-meets 𝓤 H A find′.ended stayed W
-      (goes-none-slice 𝓤 H A W 2 (0 ∷ []) tt (plain (λ _. u32)) yes, (goes-none 𝓤 H A W 2 (λ _. usize) yes (λ κs x f. refl), (goes-none-slice 𝓤 H A W 2 (0 ∷ []) tt (plain (λ _. u8)) yes, (goes-none 𝓤 H A W 2 (λ _. usize) yes (λ κs x f. refl),
-      (goes-none-slice 𝓤 H A W 2 (0 ∷ []) tt (plain (λ _. E)) yes, (goes-none-slice 𝓤 H A W 2 (0 ∷ []) tt (plain (λ _. u8)) yes, (goes-none-slice 𝓤 H A W 2 (0 ∷ []) tt (plain (λ _. u32)) yes, (goes-slice 𝓤 H A W 2 1 tt (plain (λ _. R)), tt)))))))) (find′.clauses 𝓤 H A mem run)
+  find-meets = walk-meets 𝓤 H A find′.ended stayed W (
+    goes-none-slice 𝓤 H A W 2 (0 ∷ []) tt (plain (λ _. u32)) yes,
+    (
+      goes-none 𝓤 H A W 2 (λ _. usize) yes (λ κs x f. refl),
+      (
+        goes-none-slice 𝓤 H A W 2 (0 ∷ []) tt (plain (λ _. u8)) yes,
+        (
+          goes-none 𝓤 H A W 2 (λ _. usize) yes (λ κs x f. refl),
+          (goes-none-slice 𝓤 H A W 2 (0 ∷ []) tt (plain (λ _. E)) yes, (goes-none-slice 𝓤 H A W 2 (0 ∷ []) tt (plain (λ _. u8)) yes, (goes-none-slice 𝓤 H A W 2 (0 ∷ []) tt (plain (λ _. u32)) yes, (goes-slice 𝓤 H A W 2 1 tt (plain (λ _. R)), tt)))),
+        ),
+      ),
+    ),
+  ) (find′.clauses 𝓤 H A mem run)
       (WpFn 𝓤 H (𝓣 .C) (𝓣 .Λ) code.function) (WpFn-mono 𝓤 H (W .laws) 𝓣 code.function) find-walks
 
 pub binmode-index-find-spec : {M : Type 1} → stated.statement M
