@@ -22,6 +22,8 @@ static uint8_t answer, sort;
 static int64_t number;
 static double x, y, turn;
 static struct binmode_pieces state;
+static struct binmode_entry list[BINMODE_MOST_ROWS / 2];
+static struct binmode_report reports[2];
 
 /* The message, tag by tag. */
 static void put(const void *bytes, size_t count)
@@ -117,6 +119,17 @@ static void default_text(void)
                          (const uint8_t *)"x", 1, &sort, &offset, &size);
 }
 
+static void fill_index(void)
+{
+    binmode_index_fill(table, BINMODE_TABLE_WORDS, rows, message, length, 1, list, BINMODE_MOST_ROWS / 2);
+}
+static void find_in_index(void)
+{
+    static const uint32_t ends[] = {1, 9};
+    binmode_index_find(table, BINMODE_TABLE_WORDS, rows, message, length, 1, list, BINMODE_MOST_ROWS / 2, (const uint8_t *)"xmember 0", 9,
+                       ends, 2, reports, 2);
+}
+
 /* Calls for a station, whose share has all rows but one. */
 #define SHARE BINMODE_TABLE_WORDS, BINMODE_MOST_ROWS - 1, BINMODE_STATION_FOUR
 static void find_share(void) { answer = binmode_share(SHARE, &offset, &size); }
@@ -155,6 +168,8 @@ static struct {
     {"binmode_lookup", look_up, BINMODE_STACK_LOOKUP, 0},
     {"binmode_position", find_position, BINMODE_STACK_LOOKUP, 0},
     {"binmode_default_text", default_text, BINMODE_STACK_LOOKUP, 0},
+    {"binmode_index_fill", fill_index, BINMODE_STACK_INDEX, 0},
+    {"binmode_index_find", find_in_index, BINMODE_STACK_INDEX, 0},
     {"binmode_read_card", read_card, BINMODE_STACK_READ, 0},
     {"binmode_next_card", next_card, 1024, 0},
     {"binmode_pieces_next", take_piece, BINMODE_STACK_READ, 0},

@@ -86,6 +86,7 @@ static uint32_t (*const binmode_linked_version)(void) BINMODE_KEPT = binmode_ver
 #define BINMODE_STACK_READ 65536   /* binmode_read, binmode_read_card, binmode_pieces_next; binmode_station_* that read */
 #define BINMODE_STACK_LOOKUP 49152 /* binmode_lookup, binmode_position, binmode_default_text; binmode_station_* that look up */
 #define BINMODE_STACK_WRITE 81920  /* binmode_write, binmode_station_write */
+#define BINMODE_STACK_INDEX 65536  /* binmode_index_fill, binmode_index_find */
 
 /* The answers: acceptance, or the number of a refusal; for a message in pieces also that more is wanted. */
 #define BINMODE_ACCEPTED 0
@@ -99,16 +100,17 @@ static uint32_t (*const binmode_linked_version)(void) BINMODE_KEPT = binmode_ver
 #define BINMODE_REFUSED_TOO_DEEP 8          /* read: an Array or Struct in more than 32, itself counted */
 #define BINMODE_REFUSED_NO_ROW 9            /* read: no row left in the table */
 #define BINMODE_REFUSED_TOO_LONG 10         /* both: message or text bytes over 65,536 */
-#define BINMODE_REFUSED_NOT_WRITABLE 11     /* write, lookup, default text: a table is not writable */
+#define BINMODE_REFUSED_NOT_WRITABLE 11     /* write, lookup, index, default text: a table is not writable */
 #define BINMODE_REFUSED_FORM_TOO_LONG 12    /* write: the written form is over 65,536 bytes */
 #define BINMODE_REFUSED_OUTPUT_TOO_SHORT 13 /* write: the output is shorter than the written form */
 #define BINMODE_REFUSED_BAD_FAULT 14        /* read: a fault's Struct without exactly faultCode (Integer) and faultString (String) */
 #define BINMODE_REFUSED_FILE_ENDED 15       /* job file: it ends before or inside a record, with no kind 2 yet */
 #define BINMODE_REFUSED_WRONG_END 16        /* job file: a kind 2 body of wrong length or number */
 #define BINMODE_REFUSED_BAD_VALUE 17        /* read: a Double or DateTime in ASCII that is no such text, as "5." or 30 February */
-#define BINMODE_REFUSED_NO_MEMBER 18        /* lookup: the row is no Struct, or the member is absent or of the wrong sort */
+#define BINMODE_REFUSED_NO_MEMBER 18        /* lookup, index: the row is no Struct, or the member is absent or of the wrong sort */
 #define BINMODE_REFUSED_TOO_MANY_DIGITS 19  /* lookup: a Double of more than 15 digits, or of more than 22 after the point */
 #define BINMODE_REFUSED_REPEATED_KEY 20     /* read: a key that its Struct has already, compared as bytes */
+#define BINMODE_REFUSED_SHORT_LIST 21       /* index: the list is shorter than the member count */
 #define BINMODE_REFUSED_NOT_SPLIT 22        /* station: the row gives no shares, being 0 or not below the table's whole rows */
 #define BINMODE_REFUSED_NO_CARD 26          /* job file: a sound job ends before the card asked for */
 #define BINMODE_MORE_WANTED 255             /* pieces: no answer yet */
@@ -261,6 +263,57 @@ uint8_t binmode_lookup(const uint32_t *table, size_t table_words, size_t rows, c
  */
 uint8_t binmode_position(const uint32_t *table, size_t table_words, size_t rows, const uint8_t *text, size_t text_len,
                          size_t row, double *x, double *y, double *turn) BINMODE_NO_NULL;
+
+/*
+ * An index of a Struct's members: a list of entries, one for each member, in byte order of their keys (a key that begins another
+ * stands before it). Looking up through it compares log n keys and not n. Every call judges its table, which costs more than
+ * looking a key up from the front; so ask for many keys in one call, and for one key alone use binmode_lookup.
+ */
+struct binmode_entry { /* a member, by its two rows; 0 and 0 if the entry is not used */
+    uint32_t key;
+    uint32_t value;
+};
+
+/* What is reported of one key: what binmode_lookup gives and sets. */
+struct binmode_report {
+    uint8_t refusal; /* BINMODE_ACCEPTED, or the refusal's number */
+    uint8_t sort;    /* BINMODE_SORT_*, or 0 */
+    int64_t number;
+    double decimal;
+    size_t offset;
+    size_t length;
+};
+
+/*
+ * Fills a list with the index of a Struct.
+ *
+ *   table .. row          as for binmode_lookup
+ *   list, list_len        the list and how many entries it has. All of them are written: an entry for each member, in order, and
+ *                         unused ones behind them; on a refusal all are unused. A Struct has at most 2,047 members
+ *
+ * Gives BINMODE_ACCEPTED; or BINMODE_REFUSED_NOT_WRITABLE; BINMODE_REFUSED_NO_MEMBER for a row that is no Struct; or
+ * BINMODE_REFUSED_SHORT_LIST. Each has place 0.
+ */
+uint8_t binmode_index_fill(const uint32_t *table, size_t table_words, size_t rows, const uint8_t *text, size_t text_len,
+                           size_t row, struct binmode_entry *list, size_t list_len) BINMODE_NO_NULL;
+
+/*
+ * Looks up keys through a list: a report for each, as for that many single lookups, with the table judged once.
+ *
+ *   table .. row          as for binmode_lookup
+ *   list, list_len        the list. Through one that binmode_index_fill made of the same Struct each key is answered as by
+ *                         binmode_lookup. Any other is safe too: then a key is answered as by binmode_lookup or with
+ *                         BINMODE_REFUSED_NO_MEMBER, and always with that if no entry names the key's two rows
+ *   keys, keys_len        the bytes of the keys, one behind the other
+ *   ends, ends_len        where each key ends in `keys`; it begins where the one before it ends, the first at 0. A key that would
+ *                         end before it begins, or has no end, is empty; one that would end behind `keys` ends there
+ *   reports, reports_len  the reports, as many as there are keys. All of them are written
+ *
+ * Gives BINMODE_ACCEPTED, or BINMODE_REFUSED_NOT_WRITABLE, and then each report has that.
+ */
+uint8_t binmode_index_find(const uint32_t *table, size_t table_words, size_t rows, const uint8_t *text, size_t text_len,
+                           size_t row, const struct binmode_entry *list, size_t list_len, const uint8_t *keys, size_t keys_len,
+                           const uint32_t *ends, size_t ends_len, struct binmode_report *reports, size_t reports_len) BINMODE_NO_NULL;
 
 /*
  * Job defaults behind a card: a text asked for by key is the card's if the card's Struct has the key, otherwise the defaults'. The
@@ -586,6 +639,7 @@ static inline const char *binmode_answer_words(size_t answer)
     case BINMODE_REFUSED_NO_MEMBER: return "the row is no Struct, or the member is absent or of the wrong sort";
     case BINMODE_REFUSED_TOO_MANY_DIGITS: return "a Double has more than 15 digits, or more than 22 after the point";
     case BINMODE_REFUSED_REPEATED_KEY: return "a key that its Struct has already";
+    case BINMODE_REFUSED_SHORT_LIST: return "the list is shorter than the number of members";
     case BINMODE_REFUSED_NOT_SPLIT: return "the row number does not split the table, or there is no such station";
     case BINMODE_REFUSED_NO_CARD: return "the job has no card of this number";
     case BINMODE_MORE_WANTED: return "more bytes are wanted";

@@ -189,6 +189,72 @@ pub fn lookup(
     }
 }
 
+/// A report of a key looked up through a list.
+pub fn looked(report: sys::Report) -> Looked {
+    Looked {
+        refusal: report.refusal,
+        sort: report.sort,
+        number: report.number,
+        decimal: report.decimal.to_bits(),
+        offset: report.offset,
+        length: report.length,
+    }
+}
+
+pub fn index_fill(
+    table: &[u32],
+    rows: usize,
+    text: &[u8],
+    row: usize,
+    list: &mut [sys::Entry],
+) -> u8 {
+    // SAFETY: as above.
+    unsafe {
+        sys::binmode_index_fill(
+            table.as_ptr(),
+            table.len(),
+            rows,
+            text.as_ptr(),
+            text.len(),
+            row,
+            list.as_mut_ptr(),
+            list.len(),
+        )
+    }
+}
+
+#[allow(clippy::too_many_arguments)] // the library's
+pub fn index_find(
+    table: &[u32],
+    rows: usize,
+    text: &[u8],
+    row: usize,
+    list: &[sys::Entry],
+    keys: &[u8],
+    ends: &[u32],
+    reports: &mut [sys::Report],
+) -> u8 {
+    // SAFETY: as above.
+    unsafe {
+        sys::binmode_index_find(
+            table.as_ptr(),
+            table.len(),
+            rows,
+            text.as_ptr(),
+            text.len(),
+            row,
+            list.as_ptr(),
+            list.len(),
+            keys.as_ptr(),
+            keys.len(),
+            ends.as_ptr(),
+            ends.len(),
+            reports.as_mut_ptr(),
+            reports.len(),
+        )
+    }
+}
+
 /// What it reports on is `rubbish` before the call.
 pub fn position(rubbish: u32, table: &[u32], rows: usize, text: &[u8], row: usize) -> Placed {
     let mut parts = [f64::from_bits(rubbish.into()); 3];

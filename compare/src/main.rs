@@ -1,12 +1,13 @@
 //! Compares the proved library with the second implementation on generated
-//! messages, whole and in pieces, tables, job files, members and shares of a
-//! table: `compare SEED CALLS`. Ends with 1 where they differ.
+//! messages, whole and in pieces, tables, job files, members, indexes and
+//! shares of a table: `compare SEED CALLS`. Ends with 1 where they differ.
 
 mod change;
 mod defaults;
 mod doubles_and_dates;
 mod edges;
 mod gather;
+mod index;
 mod job;
 mod lent;
 mod library;
@@ -21,6 +22,7 @@ mod tally;
 mod writing;
 
 use defaults::Texts;
+use index::Indexes;
 use job::Jobs;
 use lookup::Lookups;
 use pieces::InPieces;
@@ -67,6 +69,7 @@ fn compare(run: &mut Run) -> Compared {
     let mut lookups = Lookups::new();
     let mut pieces = InPieces::new();
     let mut texts = Texts::new();
+    let mut indexes = Indexes::new();
     let mut stations = Stations::new();
     shortest::tried(&mut run.random)?;
     doubles_and_dates::read(&mut run.random, &mut reading)?;
@@ -85,6 +88,7 @@ fn compare(run: &mut Run) -> Compared {
         lookups.round(run)?;
         pieces.round(run)?;
         texts.round(run)?;
+        indexes.round(run)?;
         stations.round(run)?;
         writing.round(run)?;
         if run.random.one_in(4) {

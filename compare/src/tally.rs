@@ -27,7 +27,7 @@ const MEANINGS: [&str; NUMBERS] = [
     "no such member",
     "too many digits",
     "the same key twice",
-    "",
+    "list too short",
     "row splits no table",
     "",
     "",
@@ -50,6 +50,8 @@ pub struct Tally {
     pub positions: [usize; NUMBERS],
     pub pieces: [usize; NUMBERS],
     pub texts: [usize; NUMBERS],
+    pub indexes: [usize; NUMBERS],
+    pub through: [usize; NUMBERS],
     pub stations: [usize; NUMBERS],
 }
 
@@ -64,6 +66,8 @@ impl Tally {
             positions: [0; NUMBERS],
             pieces: [0; NUMBERS],
             texts: [0; NUMBERS],
+            indexes: [0; NUMBERS],
+            through: [0; NUMBERS],
             stations: [0; NUMBERS],
         }
     }
@@ -114,6 +118,18 @@ impl Tally {
         self.texts[usize::from(number)] += 1;
     }
 
+    /// Notes an index filled.
+    pub fn filled(&mut self, number: u8) {
+        self.left = self.left.saturating_sub(1);
+        self.indexes[usize::from(number)] += 1;
+    }
+
+    /// Notes a key looked up through a list.
+    pub fn found(&mut self, number: u8) {
+        self.left -= 1;
+        self.through[usize::from(number)] += 1;
+    }
+
     /// Notes a call for a station, by its answer; none while more is wanted.
     pub fn at_station(&mut self, number: u8) {
         self.left -= 1;
@@ -131,6 +147,8 @@ impl Tally {
             ("positions", &self.positions),
             ("in pieces", &self.pieces),
             ("texts", &self.texts),
+            ("indexes", &self.indexes),
+            ("through", &self.through),
             ("stations", &self.stations),
         ];
         let line = |number: &str, meaning: &str, cells: Vec<String>| {

@@ -5,6 +5,7 @@ pub mod corpus;
 pub mod defaults;
 pub mod generate;
 pub mod hex;
+pub mod index;
 pub mod job;
 pub mod keys;
 pub mod lookup;

@@ -48,6 +48,11 @@ pub fn lookup(
 ) -> Result<Member, u8> {
     let rows = writable(table, rows, text, |_| {}).ok_or(refusal::TABLE)?;
     let value = find(rows, text, row, key).ok_or(sought::NO_MEMBER)?;
+    answer(rows, text, value)
+}
+
+/// What the value in a row answers.
+pub(crate) fn answer(rows: &[Row], text: &[u8], value: usize) -> Result<Member, u8> {
     let [kind, a, b, _] = rows[value];
     Ok(match kind {
         kind::INTEGER => Member::Whole(a as i32),

@@ -1,12 +1,14 @@
-//! How long looking up a member and a position takes, by the library and by
-//! the second implementation: `cargo run --release --bin bench-lookup`.
+//! How long looking up a member and a position takes, filling an index and
+//! looking up through it, by the library and by the second implementation:
+//! `cargo run --release --bin bench-lookup`.
 
 #[allow(dead_code)] // the other functions
 #[path = "../library.rs"]
 mod library;
 
+use binmode::sys::{Entry, Report};
 use second::rules::{PREFIX, ROW_LIMIT, ROW_WORDS};
-use second::{Read, lookup};
+use second::{Read, index, lookup};
 use std::hint::black_box;
 use std::time::Instant;
 
@@ -16,6 +18,10 @@ const ROUNDS: usize = 201;
 /// interrupted.
 const MEMBERS_OF_A_TURN: usize = 12_000;
 const MEMBERS: [usize; 2] = [300, 2_000];
+/// Members of the cards of which an index is made.
+const INDEXED: [usize; 3] = [30, 300, 2_000];
+/// Keys looked up in one call.
+const KEYS: usize = 24;
 
 fn main() {
     println!(
@@ -33,7 +39,15 @@ fn main() {
         card.time_member("lookup, an absent member", "turns");
         card.time_position("position");
     }
-    // Cards with keys picked to collide in the library stand here.
+    println!(
+        "\nAn index. \"judging alone\" is a call that is refused once the table is judged, for a row that is no Struct: it is in\n\
+         every line below it. The keys looked up are spread over the card, the last of it among them.\n"
+    );
+    for members in INDEXED {
+        let title = format!("card of {members} members");
+        println!("{title:34} {:>9} {:>9} {:>6}", "library", "second", "ratio");
+        Card::new(members).time_index(members);
+    }
 }
 
 /// A card in the Struct of row 1.
@@ -90,6 +104,65 @@ impl Card {
             let _ = black_box(lookup::lookup(black_box(table), rows, text, 1, key));
         };
         time(name, self.calls, library, second);
+    }
+
+    fn time_index(&self, members: usize) {
+        let (table, rows, text) = (&self.table[..], self.rows, &self.text[..]);
+        let calls = self.calls.div_ceil(8);
+        let judged = || {
+            black_box(library::lookup(1, black_box(table), rows, text, 0, b""));
+        };
+        let second = || {
+            let _ = black_box(lookup::lookup(black_box(table), rows, text, 0, b""));
+        };
+        time("judging alone", calls, judged, second);
+        let filled = std::cell::RefCell::new(vec![Entry::default(); members]);
+        let fill = || {
+            let list = &mut filled.borrow_mut()[..];
+            black_box(library::index_fill(black_box(table), rows, text, 1, list));
+        };
+        let second = || {
+            let _ = black_box(index::fill(black_box(table), rows, text, 1, members));
+        };
+        time("index, filled", calls, fill, second);
+        let list = filled.into_inner();
+        let of_second = index::fill(table, rows, text, 1, members).expect("a good card");
+        let key = |at: usize| {
+            let entry = of_second[(at * 7919 + members - 1) % members];
+            let row = &table[entry.key as usize * ROW_WORDS..];
+            &text[row[1] as usize..][..row[2] as usize]
+        };
+        for count in [1, KEYS] {
+            let keys: Vec<&[u8]> = (0..count).map(key).collect();
+            let joined = keys.concat();
+            let mut end = 0;
+            let ends = keys.iter().map(|key| {
+                end += key.len() as u32;
+                end
+            });
+            let ends: Vec<u32> = ends.collect();
+            let reports = std::cell::RefCell::new(vec![Report::default(); count]);
+            let find = || {
+                let (table, reports) = (black_box(table), &mut reports.borrow_mut()[..]);
+                library::index_find(table, rows, text, 1, &list, &joined, &ends, reports);
+            };
+            let second = || {
+                black_box(index::find(black_box(table), rows, text, 1, &of_second, &keys));
+            };
+            let name = format!("{count} of its keys through it, one call");
+            time(&name, calls, find, second);
+            let front = || {
+                for key in &keys {
+                    black_box(library::lookup(1, black_box(table), rows, text, 1, key));
+                }
+            };
+            let second = || {
+                for key in &keys {
+                    let _ = black_box(lookup::lookup(black_box(table), rows, text, 1, key));
+                }
+            };
+            time(&format!("{count} from the front"), calls, front, second);
+        }
     }
 
     fn time_position(&self, name: &str) {

@@ -4,3 +4,4 @@ pub mod Choosing
 pub mod InPieces
 pub mod Looking
 pub mod Reporting
+pub mod Behind

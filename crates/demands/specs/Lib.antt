@@ -1,6 +1,7 @@
 pub mod Accepting
 pub mod Cases
 pub mod Defaults
+pub mod Index
 pub mod Jobs
 pub mod Lookups
 pub mod Pieces

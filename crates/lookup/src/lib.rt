@@ -31,6 +31,7 @@ pub enum Answer {
 
 // An answer in numbers, for programs in C and Rust. The sort is 1 for a whole number, 2 for a decimal, 3 for a yes or no, 4 for a text, 5 for another
 // item's row, and 0 for a refusal; `number` is 0 then or the refusal's, and what is not the answer's is 0.
+#[repr(C)]
 pub struct Report {
     pub number: u8,
     pub sort: u8,
@@ -108,8 +109,8 @@ fn item_answer(text: &[u8], item: Item, row: Row, r: u32) -> Answer
     }
 }
 
-// What row r answers.
-fn row_answer(table: &[u32], room: usize, text: &[u8], r: u32) -> Answer
+// What row r answers, in a table that was judged before.
+pub fn row_answer(table: &[u32], room: usize, text: &[u8], r: u32) -> Answer
     requires { ⌜ (r < room) × (room ≤ 4096) × (room * 4 ≤ length (now table)) ⌝ }
     ensures { λ a. ⌜ a ≡ answerAt (rowAt room (now (table .entry))) (now (text .entry)) r ⌝ }
 {

@@ -1,5 +1,5 @@
--- The members of a Struct, by rows that have a meaning which the draft derives, have distinct keys; so one that has a key is the one found. Assumes
--- nothing.
+-- The members of a Struct, by rows that have a meaning which the draft derives, have distinct keys, so one that has a key is the one found; and they
+-- stand one behind the other. Assumes nothing.
 use mathlib.Core.Path.{_≡_, refl, sym, ap, _∙_}
 use mathlib.Core.Bool.{Bool, true, false, cond, _&&_}
 use mathlib.Core.List.{List, [], _∷_, _++_}
@@ -19,6 +19,7 @@ use Rattle.exact.proofs.Keys.{Distinct, Fresh, no-key, new-key, fresh-distinct}
 use Rattle.member.specs.declared.Member.{Member}
 use Rattle.member.specs.declared.Found.the-variants.{At}
 use Rattle.member.specs.Members.{membersFrom, isStruct, members, keysOf, pickFound, hasKey, find}
+use Rattle.member.proofs.Apart.{Apart, none-apart, and-apart, apart-from}
 use Rattle.meant.specs.Meant.{StructAt}
 use Rattle.meant.proofs.Structs.{kindAt, derived-structs}
 use Rattle.meant.proofs.Saying.{Standing, and-row, first-part, last-part, value-first, value-end, key-text, behind, kind-at}
@@ -37,6 +38,19 @@ module _ (row : ℕ → Row) (s : List ℕ) where
       rw (lt-ltb (r + 1) rows (omega arith), key-text row s stands, value-end row s c (first-part row s cs vs (behind row s stands)))
       (new-key u (members-fresh rows pairs (last-part row s cs vs (behind row s stands)) (omega arith)))
 
+  members-apart :
+      (rows : ℕ) {d n r : ℕ} {seen : Texts} {xs : List ℕ} {ws : List Cell} {fs : List Sent} → Pairs d seen n xs ws fs → Standing row s r ws → r + length ws ≤ rows
+      → Apart rows r (membersFrom row rows n r)
+  unfolding membersFrom
+  members-apart rows no-pairs t h = none-apart
+  members-apart rows {r = r} (more-pairs {n = n} {vs = vs} {ws = ws} (pair {t = k} {cs = cs} string value q) u pairs z w g) t h =
+      let stands : Standing row s r (content-cell content.Text k ∷ (cs ++ vs)) = rw w at t in
+      let l : length ws ≡ suc (length cs + length vs) = rw w (ap suc (length-append cs vs)) in
+      let c = value-first row s value in
+      let f : length cs ≡ suc (length (c .rest)) = ap length (c .is) in
+      rw (lt-ltb (r + 1) rows (omega arith), value-end row s c (first-part row s cs vs (behind row s stands)))
+      (and-apart {r = r} r _ (omega arith) (omega arith) (apart-from (omega arith) (members-apart rows pairs (last-part row s cs vs (behind row s stands)) (omega arith))))
+
   module _ {cells : List Cell} (t : Standing row s 0 cells) (rows : ℕ) (l : length cells ≡ rows) where
     struct-fresh : {r : ℕ} → StructAt cells r → Fresh [] (keysOf row s (membersFrom row rows (row r .b) (r + 1)))
     struct-fresh {r} st = go (rw (z, st .place) at (last-part row s (st .before) _ (rw (st .is) at t)))
@@ -54,6 +68,22 @@ module _ (row : ℕ → Row) (s : List ℕ) where
         go (and-row (means k e (says-holding h i a b)) u) =
             rw b (members-fresh rows (st .pairs) (first-part row s (st .ws) (st .after) (rw add-one u)) (omega (arith, total)))
 
+    struct-apart : {r : ℕ} → StructAt cells r → Apart rows (r + 1) (membersFrom row rows (row r .b) (r + 1))
+    struct-apart {r} st = go (rw (z, st .place) at (last-part row s (st .before) _ (rw (st .is) at t)))
+      where
+        z : 0 + length (st .before) ≡ length (st .before)
+        z = omega arith
+
+        total : length cells ≡ r + suc (length (st .ws) + length (st .after))
+        total =
+            rw (st .is, ← st .place)
+            (length-append (st .before) (struct-cell (st .n) (length (st .ws)) ∷ (st .ws ++ st .after))
+            ∙ ap (λ (k : ℕ). length (st .before) + suc k) (length-append (st .ws) (st .after)))
+
+        go : Standing row s r (struct-cell (st .n) (length (st .ws)) ∷ (st .ws ++ st .after)) → Apart rows (r + 1) (membersFrom row rows (row r .b) (r + 1))
+        go (and-row (means k e (says-holding h i a b)) u) =
+            rw b (members-apart rows (st .pairs) (first-part row s (st .ws) (st .after) (rw add-one u)) (omega (arith, total)))
+
     -- THE KEYS of a Struct's members, whichever row is asked for
     pub members-distinct : {d : ℕ} {xs : List ℕ} → Derives d xs cells → (r : ℕ) → Distinct (keysOf row s (members row rows r))
     unfolding members isStruct keysOf
@@ -67,6 +97,20 @@ module _ (row : ℕ → Row) (s : List ℕ) where
             let z : 0 + r ≡ r = omega arith in
             let m : kindAt cells r ≡ 10 = sym (rw z at (kind-at row s t r k)) ∙ eqb-true (row r .kind) 10 f in
             fresh-distinct (struct-fresh (derived-structs g r m))
+
+    -- THE ROWS of a Struct's members stand one behind the other, behind its own
+    pub members-stand : {d : ℕ} {xs : List ℕ} → Derives d xs cells → (r : ℕ) → Apart rows (r + 1) (members row rows r)
+    unfolding members isStruct
+    members-stand g r = go (ltb r rows) refl (eqb (row r .kind) 10) refl
+      where
+        go : (b : Bool) → ltb r rows ≡ b → (c : Bool) → eqb (row r .kind) 10 ≡ c → Apart rows (r + 1) (cond (b && c) (membersFrom row rows (row r .b) (r + 1)) [])
+        go false e c f = none-apart
+        go true e false f = none-apart
+        go true e true f =
+            let k : r < length cells = omega (arith, ltb-true r rows e) in
+            let z : 0 + r ≡ r = omega arith in
+            let m : kindAt cells r ≡ 10 = sym (rw z at (kind-at row s t r k)) ∙ eqb-true (row r .kind) 10 f in
+            struct-apart (derived-structs g r m)
 
   -- ---- one found
 

@@ -1,2 +1,4 @@
 -- The laws of `member`.
 pub mod Finding
+pub mod Counting
+pub mod Apart

@@ -1,6 +1,6 @@
 -- The members of a Struct, by rows, and the first that has a key. Defined for any rows: a row past the stated ones ends the members, and a row
 -- that is no Struct has none. Assumes nothing.
-use mathlib.Core.Bool.{Bool, true, false, cond, _&&_}
+use mathlib.Core.Bool.{Bool, true, false, cond, _&&_, _||_}
 use mathlib.Core.List.{List, [], _∷_}
 use Prim.Native.Nat.{ℕ, zero, suc, _+_}
 use lib.Dec.{ltb, eqb}
@@ -28,6 +28,14 @@ module _ (row : ℕ → Row) (rows : ℕ) where
   -- the members of the Struct of row r, in order: b pairs
   unfoldable pub members : ℕ → List Member
   members r = cond (isStruct r) (membersFrom (row r .b) (r + 1)) []
+
+-- two members with the same two rows
+unfoldable pub sameMember : Member → Member → Bool
+sameMember m n = eqb (m .key) (n .key) && eqb (m .value) (n .value)
+
+unfoldable pub isAmong : Member → List Member → Bool
+isAmong m [] = false
+isAmong m (x ∷ xs) = sameMember x m || isAmong m xs
 
 abbrev pub pickFound : Bool → Found → Found → Found
 pickFound true x y = x

@@ -1,5 +1,6 @@
 //! Binmode RPC messages, read and written by the proved library; the cards of
-//! job files; members of Structs, looked up; two stations that share a table.
+//! job files; members of Structs, looked up, and an index of them; two stations
+//! that share a table.
 //!
 //! ```
 //! let bytes = b"binmode-rpc:CU\x03\0\0\0addA\x02\0\0\0I\x02\0\0\0I\x02\0\0\0";
@@ -15,8 +16,8 @@
 //! (`link/binmode.h`) holds of every slice in Rust: the pointer is not null and
 //! is aligned, its elements are there, `&mut` overlaps nothing else, and the
 //! bytes are at most `isize::MAX`. Every content and length has its answer. A
-//! thread needs the stack that [`STACK_READ`], [`STACK_LOOKUP`] and
-//! [`STACK_WRITE`] name; those of `std` have more.
+//! thread needs the stack that [`STACK_READ`], [`STACK_LOOKUP`],
+//! [`STACK_WRITE`] and [`STACK_INDEX`] name; those of `std` have more.
 //!
 //! Nothing is allocated. `docs/FORMAT.md` says what a message, a row and a job
 //! file are. The library is looked for where `rt staticlib binmode` puts it,
@@ -32,6 +33,7 @@ extern crate std;
 #[cfg(not(all(target_arch = "x86_64", target_os = "linux")))]
 compile_error!("the proved library is built for x86-64 Linux");
 
+mod index;
 mod job;
 mod lookup;
 mod message;
@@ -41,6 +43,7 @@ mod stations;
 pub mod sys;
 mod table;
 
+pub use index::{Entry, Index};
 pub use job::{Card, Cards, Job};
 pub use lookup::{Member, Position, Source};
 pub use message::{Message, read};
@@ -66,3 +69,5 @@ pub const STACK_READ: usize = 65_536;
 pub const STACK_LOOKUP: usize = 49_152;
 /// What writing takes.
 pub const STACK_WRITE: usize = 81_920;
+/// What filling an index, and looking up through one, takes of the stack.
+pub const STACK_INDEX: usize = 65_536;

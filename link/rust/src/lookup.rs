@@ -1,7 +1,7 @@
 //! Members of a Struct, looked up by their keys; positions; and job defaults
 //! behind a card.
 
-use crate::{Item, Refusal, sys};
+use crate::{Item, Refusal, Table, sys};
 
 /// What looking up a member answers.
 #[derive(Clone, Copy, Debug)]
@@ -37,6 +37,23 @@ pub enum Source {
 fn text_in(bytes: &[u8], offset: usize, length: usize) -> &str {
     let text = &bytes[offset..][..length];
     str::from_utf8(text).expect("a String of a writable table is UTF-8")
+}
+
+/// What was reported of a key in a table.
+pub(crate) fn reported<'t>(table: Table<'t>, report: sys::Report) -> Result<Member<'t>, Refusal> {
+    if report.refusal != sys::ACCEPTED {
+        return Err(Refusal::given(report.refusal, 0));
+    }
+    Ok(match report.sort {
+        1 => Member::WholeNumber(report.number),
+        2 => Member::Decimal(report.decimal),
+        3 => Member::YesOrNo(report.number != 0),
+        4 => Member::Text(text_in(table.text, report.offset, report.length)),
+        _ => {
+            let item = table.item(report.number as usize);
+            Member::Item(item.expect("a row of a writable table has a kind"))
+        }
+    })
 }
 
 impl<'t> Item<'t> {
@@ -78,19 +95,15 @@ impl<'t> Item<'t> {
                 &mut length,
             )
         };
-        if number != sys::ACCEPTED {
-            return Err(Refusal::given(number, 0));
-        }
-        Ok(match sort {
-            1 => Member::WholeNumber(whole),
-            2 => Member::Decimal(decimal),
-            3 => Member::YesOrNo(whole != 0),
-            4 => Member::Text(text_in(table.text, offset, length)),
-            _ => {
-                let item = table.item(whole as usize);
-                Member::Item(item.expect("a row of a writable table has a kind"))
-            }
-        })
+        let report = sys::Report {
+            refusal: number,
+            sort,
+            number: whole,
+            decimal,
+            offset,
+            length,
+        };
+        reported(table, report)
     }
 
     /// The position in this Struct: its members x, y and turn, each a Double.

@@ -22,6 +22,27 @@ pub struct Pieces {
     pub wanted: usize,
 }
 
+/// An entry of an index: a member by its two rows. Both are 0 if it is unused.
+#[repr(C)]
+#[derive(Clone, Copy, Debug, Default, PartialEq, Eq)]
+pub struct Entry {
+    pub key: u32,
+    pub value: u32,
+}
+
+/// What is reported of one key: what `binmode_lookup` gives and sets.
+#[repr(C)]
+#[derive(Clone, Copy, Debug, Default, PartialEq)]
+pub struct Report {
+    /// 0, or the number of the refusal.
+    pub refusal: u8,
+    pub sort: u8,
+    pub number: i64,
+    pub decimal: f64,
+    pub offset: usize,
+    pub length: usize,
+}
+
 /// The answer of an accepted message.
 pub const ACCEPTED: u8 = 0;
 /// The answer of a message in pieces that is not decided.
@@ -101,6 +122,34 @@ unsafe extern "C" {
         x: *mut f64,
         y: *mut f64,
         turn: *mut f64,
+    ) -> u8;
+
+    pub fn binmode_index_fill(
+        table: *const u32,
+        table_words: usize,
+        rows: usize,
+        text: *const u8,
+        text_len: usize,
+        row: usize,
+        list: *mut Entry,
+        list_len: usize,
+    ) -> u8;
+
+    pub fn binmode_index_find(
+        table: *const u32,
+        table_words: usize,
+        rows: usize,
+        text: *const u8,
+        text_len: usize,
+        row: usize,
+        list: *const Entry,
+        list_len: usize,
+        keys: *const u8,
+        keys_len: usize,
+        ends: *const u32,
+        ends_len: usize,
+        reports: *mut Report,
+        reports_len: usize,
     ) -> u8;
 
     pub fn binmode_default_text(

@@ -64,6 +64,8 @@ fn of_c(written: &str) -> String {
         "int64_t" => "i64",
         "double" => "f64",
         "struct binmode_pieces" => "Pieces",
+        "struct binmode_entry" => "Entry",
+        "struct binmode_report" => "Report",
         "void" => "()",
         other => panic!("an unknown type of C: {other}"),
     };
@@ -102,8 +104,9 @@ fn of_library() -> Functions {
     for path in paths {
         let source = text(path);
         for part in source.split("pub extern \"C\" fn ").skip(1) {
-            let name = part.split('(').next().expect("a name");
-            let (list, rest) = parameters(part);
+            let name = part.split(['(', '<']).next().expect("a name");
+            let part = part.replace("'a ", "").replace("'b ", "");
+            let (list, rest) = parameters(&part);
             let result = rest.lines().next().expect("a line").trim();
             let result = result.strip_prefix("-> ").unwrap_or("()");
             let types = list
@@ -132,7 +135,10 @@ fn of_rattle(written: &str) -> Vec<String> {
         (None, None) => return vec![written.into()],
     };
     match slice(to) {
-        Some(element) => vec![format!("{kind} {element}"), "usize".into()],
+        Some(element) => {
+            let element = if element == "Member" { "Entry" } else { &element };
+            vec![format!("{kind} {element}"), "usize".into()]
+        }
         None => vec![pointer(kind, to)],
     }
 }
@@ -143,6 +149,42 @@ fn declarations() {
     assert!(library.contains_key("binmode_read"));
     assert_eq!(of_header(), library);
     assert_eq!(of_crate(), library);
+}
+
+/// The types of a struct's fields, as they pass to Rust.
+fn fields(source: &str, start: &str, of: impl Fn(&str) -> String) -> Vec<String> {
+    let (_, rest) = source.split_once(start).expect("the struct");
+    let (body, _) = rest.split_once('}').expect("its end");
+    let lines = body.lines().skip(1).map(str::trim);
+    let lines = lines.filter(|line| !line.is_empty() && !line.starts_with("//"));
+    lines.map(of).collect()
+}
+
+#[test]
+fn structs() {
+    let of_rust = |line: &str| {
+        let kind = line.trim_end_matches(',').split_once(": ").expect("a type").1;
+        kind.replace("u64", "usize")
+    };
+    let of_c = |line: &str| {
+        let (kind, _) = line.split_once(' ').expect("a type and a name");
+        of_c(kind)
+    };
+    for (rattle, c, rust) in [
+        ("member/src/lib.rt", "entry", "Entry"),
+        ("lookup/src/lib.rt", "report", "Report"),
+    ] {
+        let source = text(format!("../../crates/{rattle}"));
+        let name = if c == "entry" { "Member" } else { "Report" };
+        let start = format!("#[repr(C)]\npub struct {name} {{");
+        let fields_of_library = fields(&source, &start, of_rust);
+        let header = fields(&header(), &format!("struct binmode_{c} {{"), of_c);
+        let here = fields(&text("src/sys.rs"), &format!("pub struct {rust} {{"), of_rust);
+        assert_eq!(header, fields_of_library);
+        assert_eq!(here, fields_of_library);
+    }
+    assert_eq!(size_of::<sys::Entry>(), 8);
+    assert_eq!(size_of::<sys::Report>(), 40);
 }
 
 /// The numbers that the header defines under a prefix, by their names.
@@ -209,11 +251,12 @@ fn limits() {
     assert_eq!(of("ROWS"), binmode::MOST_ROWS);
     assert_eq!(of("NESTING"), binmode::MOST_NESTING);
     let stack = defined("BINMODE_STACK_");
-    let stack = ["READ", "LOOKUP", "WRITE"].map(|name| stack[name] as usize);
+    let stack = ["READ", "LOOKUP", "WRITE", "INDEX"].map(|name| stack[name] as usize);
     let here = [
         binmode::STACK_READ,
         binmode::STACK_LOOKUP,
         binmode::STACK_WRITE,
+        binmode::STACK_INDEX,
     ];
     assert_eq!(stack, here);
     let words = defined("BINMODE_ROW_");

@@ -1,0 +1,170 @@
+-- Document 02's index of members: what `binmode_index_fill` and `binmode_index_find` promise (`Filling.Filled`, `Through.reportsOf`) is an entry for each
+-- member in byte order of the keys, and through it what E5's lookup gives; through any other list, that or 18. Assumes nothing.
+use mathlib.Core.Path.{_≡_, refl, sym, ap, _∙_}
+use mathlib.Core.Bool.{Bool, true, false, cond, _||_}
+use mathlib.Core.List.{List, []}
+use Prim.Native.Nat.{ℕ, _+_, _^_, _≤_, _<_}
+use native.Mathlib.Omega.{arith}
+use lib.Dec.{ltb}
+use lib.ListN.{length, getD}
+use borrow.Author.Tests.{le-ltb}
+use Rattle.draft.specs.declared.Row.{Row}
+use Rattle.draft.specs.Read.{textOf}
+use Rattle.draft.specs.Table.{roomOf, rowAt}
+use Rattle.draft.specs.Writable.{writable}
+use Rattle.draft.specs.Written.{rowsOf}
+use Rattle.exact.proofs.Realising.{counts}
+use Rattle.written.proofs.Concluding.{rows-length}
+use Rattle.member.specs.declared.Member.{Member}
+use Rattle.member.specs.declared.Found.the-variants.{At}
+use Rattle.member.specs.Members.{isStruct, members, find, isAmong}
+use Rattle.member.proofs.Apart.{Apart, apart-half}
+use Rattle.order.specs.ByteOrder.{compared}
+use Rattle.order.specs.declared.Relation.the-variants.{Before}
+use Rattle.order.proofs.Ordering.{compared-self, before-equal}
+use Rattle.lookup.specs.declared.Report.{Report}
+use Rattle.lookup.specs.declared.Refusal.the-variants.{NotWritable, NoMember}
+use Rattle.lookup.specs.declared.Answer.{Answer}
+use Rattle.lookup.specs.declared.Answer.the-variants.{Refused}
+use Rattle.lookup.specs.Answers.{lookup}
+use Rattle.lookup.specs.Reports.{reportOf}
+use Rattle.lookup.proofs.Looking.{rows-stated, room-most}
+use Rattle.seeking.specs.Seeking.{unused}
+use Rattle.index.specs.Filling.{refusalIn, refusalOf, orderOf, entries, Filled}
+use Rattle.index.specs.Through.{throughIf, through, keyAt, reportsOf}
+use Rattle.index.proofs.Theorems as index
+use Rattle.meant.proofs.Saying.{standing}
+use Rattle.meant.proofs.Only.{members-stand}
+use Rattle.demands.specs.Writing.{Words, form-derived}
+use Rattle.demands.specs.Lookups.{distinct-members}
+
+-- UNWRITABLE first: filling is refused with 11, and so is every key looked up, through whatever list.
+pub unwritable-fill : (T : List ℕ) (rows : ℕ) (s : List ℕ) (r n : ℕ) → writable T rows s ≡ false → refusalOf T rows s r n ≡ 11
+unfolding refusalOf
+unwritable-fill T rows s r n e = rw e
+
+pub unwritable-through : (T : List ℕ) (rows : ℕ) (s : List ℕ) (r : ℕ) (es : List Member) (key : List ℕ) → writable T rows s ≡ false → through T rows s r es key ≡ Refused NotWritable
+unfolding through throughIf
+unwritable-through T rows s r es key e = rw e
+
+-- REFUSED. Whatever was refused, all entries are unused: (0, 0).
+pub refused-unused :
+    {T s : List ℕ} {rows r n answer : ℕ} {es : List Member} → Filled T rows s r n answer es → (answer ≡ 0 → ⊥) → (i : ℕ) → i < n → getD es i unused ≡ unused
+refused-unused {T} {s} {rows} {r} {n} f e i h =
+    let g : orderOf T rows s r n ≡ [] = index.refused-none T rows s r n (λ z. e (f .answers ∙ z)) in
+    rw (f .list, g) (index.entries-past [] n i h (omega arith))
+
+-- A WRITABLE TABLE, with a Struct's row or another.
+module _ (T : List ℕ) (rows : ℕ) (s : List ℕ) (e : writable T rows s ≡ true) (w : Words T) (r : ℕ) where
+  -- its rows by their numbers
+  abbrev row : ℕ → Row
+  row = rowAt (roomOf 4096 (length T)) T
+
+  -- the Struct's members, in the table's order
+  abbrev its : List Member
+  its = members row rows r
+
+  within : rows ≤ roomOf 4096 (length T)
+  within = rows-stated T rows s {b = true} (sym e) refl refl
+
+  most : rows ≤ 4096
+  most = omega (arith, within, room-most T rows s {b = true} (sym e) refl {room = roomOf 4096 (length T)} refl)
+
+  stand : Apart rows (r + 1) its
+  unfolding rowsOf
+  stand =
+      let g = form-derived T rows s e w in
+      members-stand row s (standing row s rows (g .meaning)) rows (sym (counts (g .meaning)) ∙ rows-length 4096 T rows) (g .derived) r
+
+  sound : index.Sound T rows s r
+  sound = record { writes = e; first = r + 1; low = omega arith; apart = stand; distinct = distinct-members T rows s e w r; most = most; within = within }
+
+  -- FEW. No Struct of a writable table has more than 2,047 members,
+  pub few-members : length its ≤ 2047
+  few-members = apart-half stand (omega arith) most
+
+  -- so filling is refused as document 02 says: 18 for a row that is no Struct, then 21 for a list shorter than the member count.
+  pub fill-answers : (n : ℕ) → refusalOf T rows s r n ≡ cond (isStruct row rows r) (cond (ltb n (length its)) 21 0) 18
+  unfolding refusalOf refusalIn
+  fill-answers n = rw (e, le-ltb 2047 (length its) few-members) (go (ltb n (length its)))
+    where
+      go : (b : Bool) → _≡_ {A = ℕ} (cond (isStruct row rows r) (cond (b || false) 21 0) 18) (cond (isStruct row rows r) (cond b 21 0) 18)
+      go true = refl
+      go false = refl
+
+  -- FILLED. Of a list that filling made, with 0:
+  module _ {n : ℕ} {es : List Member} (f : Filled T rows s r n 0 es) where
+    so : index.Accepted T rows s r n
+    so = index.accepted-so T rows s r n (sym (f .answers))
+
+    is : es ≡ entries (index.itsOrder T rows s r) n
+    is = f .list ∙ ap (λ (ks : List ℕ). entries ks n) (so .order)
+
+    -- there are as many entries as were lent, and one for each member at least;
+    pub filled-length : length es ≡ n
+    filled-length = rw is (index.entries-length (index.itsOrder T rows s r) n)
+
+    pub filled-room : length its ≤ n
+    filled-room = so .room
+
+    -- the first name members of the Struct, by their two rows,
+    pub filled-members : (i : ℕ) → i < length its → isAmong (getD es i unused) its ≡ true
+    filled-members i h = rw is (index.entry-member (roomOf 4096 (length T)) row rows s its stand (omega arith) most within n i (omega (arith, filled-room)) h)
+
+    -- each member is named,
+    pub filled-all : (m : Member) → isAmong m its ≡ true → (i : ℕ) × (i < length its) × (getD es i unused ≡ m)
+    filled-all m h = rw is (index.member-placed (roomOf 4096 (length T)) row rows s its stand (omega arith) most within n filled-room m h)
+
+    -- IN BYTE ORDER: the key of each is before the key of every later one, so none is named twice;
+    pub filled-sorted : (i j : ℕ) → i < j → j < length its → compared (textOf s (row (getD es i unused .key))) (textOf s (row (getD es j unused .key))) ≡ Before
+    filled-sorted i j h l =
+        let c = index.ordered-count (roomOf 4096 (length T)) row rows s its stand (omega arith) most within in
+        rw (
+          is,
+          index.entry-used (roomOf 4096 (length T)) row rows s its stand (omega arith) most within n i (omega (arith, filled-room)) (omega (arith, c)),
+          index.entry-used (roomOf 4096 (length T)) row rows s its stand (omega arith) most within n j (omega (arith, filled-room)) (omega (arith, c)),
+        )
+        (index.entries-ascend (roomOf 4096 (length T)) row rows s its stand (omega arith) most within n (distinct-members T rows s e w r) i j h (omega (arith, c)))
+
+    pub filled-once : (i j : ℕ) → i < j → j < length its → getD es i unused ≡ getD es j unused → ⊥
+    filled-once i j h l g = before-equal (rw g at (filled-sorted i j h l)) (compared-self (textOf s (row (getD es j unused .key))))
+
+    -- and the rest are unused.
+    pub filled-rest : (i : ℕ) → length its ≤ i → i < n → getD es i unused ≡ unused
+    filled-rest i h l =
+        rw is (index.entries-past (index.itsOrder T rows s r) n i l (omega (arith, index.ordered-count (roomOf 4096 (length T)) row rows s its stand (omega arith) most within)))
+
+    -- EVERY KEY, present or not, is answered through it as by the lookup from the front, decimals and refusals included.
+    pub filled-finds : n < 2 ^ 64 → (key : List ℕ) → through T rows s r es key ≡ lookup T rows s r key
+    filled-finds h key = rw is (index.through-index T rows s r sound key n filled-room (omega arith))
+
+  -- ANY LIST, with no word on how it was made. The result is free, in document 01's sense; its property: it is what the lookup from the front answers, and
+  -- an entry names the two rows of the member with the key; or it is 18.
+  pub data Free (es : List Member) (key : List ℕ) (a : Answer) : Type 0 where
+    as-front : (i : ℕ) → i < length es → find row s key its ≡ At (getD es i unused) → a ≡ lookup T rows s r key → Free es key a
+    no-member : a ≡ Refused NoMember → Free es key a
+
+  pub any-list : (es : List Member) (key : List ℕ) → Free es key (through T rows s r es key)
+  any-list es key = go (index.through-any T rows s r sound key es)
+    where
+      go : index.Answered T rows s r sound key es (through T rows s r es key) → Free es key (through T rows s r es key)
+      go (index.as-front i h f g) = as-front i h f g
+      go (index.no-member g) = no-member g
+
+  -- So it is always 18 if no entry names the key's two rows.
+  pub not-named : (es : List Member) (key : List ℕ) → ((i : ℕ) → i < length es → find row s key its ≡ At (getD es i unused) → ⊥) → through T rows s r es key ≡ Refused NoMember
+  not-named es key n = go (any-list es key)
+    where
+      go : Free es key (through T rows s r es key) → through T rows s r es key ≡ Refused NoMember
+      go (as-front i h f g) = absurd (n i h f)
+      go (no-member g) = g
+
+-- SEVERAL KEYS in one call: as many reports as were lent room for, each that of a single lookup of its key.
+module _ (T : List ℕ) (rows : ℕ) (s : List ℕ) (r : ℕ) (es : List Member) (keys ends : List ℕ) (n : ℕ) where
+  pub reports-length : length (reportsOf T rows s r es keys ends n) ≡ n
+  unfolding reportsOf
+  reports-length = index.from-length (λ i. reportOf (through T rows s r es (keyAt keys ends i))) 0 n
+
+  pub each-key : (i : ℕ) (d : Report) → i < n → getD (reportsOf T rows s r es keys ends n) i d ≡ reportOf (through T rows s r es (keyAt keys ends i))
+  unfolding reportsOf
+  each-key i d h = let z : 0 + i ≡ i = omega arith in index.getD-from (λ j. reportOf (through T rows s r es (keyAt keys ends j))) 0 n i d h ∙ rw z

@@ -1,0 +1,15 @@
+use borrow.Author.Needs.{needs}
+use Rattle.index.specs.Filling.{padded}
+use Rattle.index.proofs.order_of.Statement.{statement}
+use Rattle.index.proofs.order_of.Tie as tie
+
+-- the new array holds no key row
+judged-order-requires : tie.Need-judged-order-requires
+unfolding padded
+judged-order-requires c κs = search needs
+
+pub order-of-spec : {M : Type 1} → statement M
+order-of-spec = tie.close (tie.spec
+    (λ c. search needs)  -- slice-aggregate-judged-order
+    judged-order-requires
+    (λ c. search needs))  -- returns

@@ -1,0 +1,3 @@
+-- The laws of `order`.
+pub mod Comparing
+pub mod Ordering

@@ -1,0 +1,3 @@
+-- The laws of `seeking`.
+pub mod Narrowing
+pub mod Finding

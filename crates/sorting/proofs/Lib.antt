@@ -1,0 +1,4 @@
+-- The laws of `sorting`.
+pub mod Inserting
+pub mod Placing
+pub mod Sliding
