@@ -1,6 +1,6 @@
 //! Compares the proved library with the second implementation on generated
-//! messages, whole and in pieces, tables, job files and members: `compare SEED
-//! CALLS`. Ends with 1 where they differ.
+//! messages, whole and in pieces, tables, job files, members and shares of a
+//! table: `compare SEED CALLS`. Ends with 1 where they differ.
 
 mod change;
 mod defaults;
@@ -15,6 +15,8 @@ mod pieces;
 mod reading;
 mod shortest;
 mod state;
+mod station_calls;
+mod stations;
 mod tally;
 mod writing;
 
@@ -24,6 +26,7 @@ use lookup::Lookups;
 use pieces::InPieces;
 use reading::{Compared, Reading};
 use second::generate::Random;
+use stations::Stations;
 use std::process::ExitCode;
 use tally::{Run, Tally};
 use writing::Writing;
@@ -64,6 +67,7 @@ fn compare(run: &mut Run) -> Compared {
     let mut lookups = Lookups::new();
     let mut pieces = InPieces::new();
     let mut texts = Texts::new();
+    let mut stations = Stations::new();
     shortest::tried(&mut run.random)?;
     doubles_and_dates::read(&mut run.random, &mut reading)?;
     doubles_and_dates::written(&mut run.random, &mut writing)?;
@@ -74,11 +78,14 @@ fn compare(run: &mut Run) -> Compared {
     jobs.edges(run)?;
     pieces.papers(run)?;
     pieces.limit(run)?;
+    stations.every_split(run)?;
+    stations.many_rows(run)?;
     while !run.tally.is_over() {
         reading.round(run)?;
         lookups.round(run)?;
         pieces.round(run)?;
         texts.round(run)?;
+        stations.round(run)?;
         writing.round(run)?;
         if run.random.one_in(4) {
             jobs.round(run)?;

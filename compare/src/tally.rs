@@ -28,7 +28,7 @@ const MEANINGS: [&str; NUMBERS] = [
     "too many digits",
     "the same key twice",
     "",
-    "",
+    "row splits no table",
     "",
     "",
     "",
@@ -50,6 +50,7 @@ pub struct Tally {
     pub positions: [usize; NUMBERS],
     pub pieces: [usize; NUMBERS],
     pub texts: [usize; NUMBERS],
+    pub stations: [usize; NUMBERS],
 }
 
 impl Tally {
@@ -63,6 +64,7 @@ impl Tally {
             positions: [0; NUMBERS],
             pieces: [0; NUMBERS],
             texts: [0; NUMBERS],
+            stations: [0; NUMBERS],
         }
     }
 
@@ -112,6 +114,14 @@ impl Tally {
         self.texts[usize::from(number)] += 1;
     }
 
+    /// Notes a call for a station, by its answer; none while more is wanted.
+    pub fn at_station(&mut self, number: u8) {
+        self.left -= 1;
+        if let Some(count) = self.stations.get_mut(usize::from(number)) {
+            *count += 1;
+        }
+    }
+
     pub fn print(&self) {
         let columns = [
             ("reading", &self.reading),
@@ -121,6 +131,7 @@ impl Tally {
             ("positions", &self.positions),
             ("in pieces", &self.pieces),
             ("texts", &self.texts),
+            ("stations", &self.stations),
         ];
         let line = |number: &str, meaning: &str, cells: Vec<String>| {
             let cells: String = cells.iter().map(|cell| format!(" {cell:>10}")).collect();

@@ -6,5 +6,6 @@ pub mod Lookups
 pub mod Pieces
 pub mod Reading
 pub mod Settled
+pub mod Stations
 pub mod Writer
 pub mod Writing

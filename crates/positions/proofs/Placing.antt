@@ -59,15 +59,17 @@ pub record Placing (n : ℕ) (fs tw : List ℕ) (r next : ℕ) (sp : List ℕ) :
   pub within : r ≤ n
   pub few : next ≤ r
   pub room : n ≤ length sp
+  pub later : (k : ℕ) → r ≤ k → getD sp k 0 ≡ getD tw k 0
   pub at : (t : ℕ → Text) → Firsts t n fs → Marks t n tw → Listed t n r next sp
 
-pub place-first : (n : ℕ) (fs tw sp : List ℕ) → n ≤ length sp → Placing n fs tw 0 0 sp
+pub place-first : (n : ℕ) (fs sp : List ℕ) → n ≤ length sp → Placing n fs sp 0 0 sp
 unfolding before among
-place-first n fs tw sp h =
+place-first n fs sp h =
     record {
       within = omega arith;
       few = omega arith;
       room = h;
+      later = λ k l. refl;
       at = λ t f m. record { acc = []; split = rw sub-zero; count = refl; old = λ u e. clash e refl; slots = record { at = λ k l. absurd (omega arith) } };
     }
 
@@ -170,38 +172,46 @@ module _ {t : ℕ → Text} {n r next : ℕ} {sp : List ℕ} (i : Listed t n r n
       }
 
 module _ {n r next : ℕ} {fs tw sp : List ℕ} (i : Placing n fs tw r next sp) (h : r < n) where
-  pub place-new : getD fs r 0 ≡ r → 0 < getD tw r 0 → Placing n fs tw (r + 1) (next + 1) (set sp r next)
-  place-new e y =
+  set-later : (v k : ℕ) → suc r ≤ k → getD (set sp r v) k 0 ≡ getD tw k 0
+  set-later v k l = getD-set-other sp r k v 0 (λ e. omega arith) ∙ i .later k (omega arith)
+
+  pub place-new : {f : ℕ} → f ≡ getD fs r 0 → f ≡ r → 0 < getD sp r 0 → Placing n fs tw (r + 1) (next + 1) (set sp r next)
+  place-new p q y =
+      let e : getD fs r 0 ≡ r = sym p ∙ q in
       rw (add-one r)
       (record {
         within = h;
         few = omega (arith, i .few);
         room = simp length-set (i .room);
+        later = set-later next;
         at = λ t f m.
             let o : First t r r = rw e at (f .at r h) in
-            listed-new (i .at t f m) h (omega (arith, i .room)) o (sym (m .at r h o) ∙ lt-ltb 0 (getD tw r 0) y);
+            listed-new (i .at t f m) h (omega (arith, i .room)) o (sym (m .at r h o) ∙ lt-ltb 0 (getD tw r 0) (omega (arith, i .later r (omega arith))));
       })
 
-  pub place-once : getD fs r 0 ≡ r → getD tw r 0 ≤ 0 → Placing n fs tw (r + 1) next (set sp r 4096)
-  place-once e y =
+  pub place-once : {f : ℕ} → f ≡ getD fs r 0 → f ≡ r → getD sp r 0 ≤ 0 → Placing n fs tw (r + 1) next (set sp r 4096)
+  place-once p q y =
+      let e : getD fs r 0 ≡ r = sym p ∙ q in
       rw add-one
       (record {
         within = h;
         few = omega (arith, i .few);
         room = simp length-set (i .room);
+        later = set-later 4096;
         at = λ t f m.
             let o : First t r r = rw e at (f .at r h) in
-            listed-once (i .at t f m) h (omega (arith, i .room)) o (sym (m .at r h o) ∙ le-ltb 0 (getD tw r 0) y);
+            listed-once (i .at t f m) h (omega (arith, i .room)) o (sym (m .at r h o) ∙ le-ltb 0 (getD tw r 0) (omega (arith, i .later r (omega arith))));
       })
 
-  pub place-old : (getD fs r 0 ≡ r → ⊥) → Placing n fs tw (r + 1) next sp
-  place-old e =
+  pub place-old : {f : ℕ} → f ≡ getD fs r 0 → (f ≡ r → ⊥) → Placing n fs tw (r + 1) next sp
+  place-old p e =
       rw add-one
       (record {
         within = h;
         few = omega (arith, i .few);
         room = i .room;
-        at = λ t f m. listed-old (i .at t f m) h (f .at r h) e;
+        later = λ k l. i .later k (omega arith);
+        at = λ t f m. listed-old (i .at t f m) h (f .at r h) (λ q. e (p ∙ q));
       })
 
 pub place-done : {n : ℕ} {fs tw : List ℕ} {r next : ℕ} {sp : List ℕ} → Placing n fs tw r next sp → n ≤ r → Placed n fs tw sp

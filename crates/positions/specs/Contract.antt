@@ -31,7 +31,6 @@ pub record Ready (fs sp : List ℕ) (j : ℕ) : Type 0 where
   pub first : j < length fs
   pub spot : j < length sp
   pub earlier : getD fs j 0 ≤ j
-  pub few : j < 4096
 
 -- a string of this text, sent so
 abbrev pub sent : Sending → Text → Sent

@@ -1,6 +1,7 @@
 // The positions of the texts that come again, and how each string is sent. Strings are numbered in row order; of each it is known which is
 // the first of its text, and of a first one whether the text comes again.
-ghost use Prim.Native.Nat.{_≤_, _<_};
+ghost use mathlib.Core.Path.{_≡_};
+ghost use Prim.Native.Nat.{_≤_};
 ghost use lib.ListN.{length};
 ghost use Rattle.positions.specs.Contract.{Placed, Ready, SentBy};
 
@@ -11,16 +12,24 @@ pub enum Sending {
     Recalled(u8),
 }
 
-// The position of each text that comes again, at its first string; 4,096 at the first strings of the others.
-pub fn place(count: usize, firsts: &[usize], again: &[usize], spots: &mut [usize])
-    requires { ⌜ (count ≤ length (now firsts)) × (count ≤ length (now again)) × (count ≤ length (now spots)) ⌝ }
-    ensures { λ _. ⌜ Placed count (now (firsts .entry)) (now (again .entry)) (now (spots .exit)) ⌝ }
+// A word as a number: the caller has no fit of the element to show.
+fn wide(x: u16) -> usize
+    ensures { λ r. ⌜ r ≡ x ⌝ }
+{
+    x as usize
+}
+
+// The position of each text that comes again, at its first string, whose word says whether it does; 4,096 at the first strings of the
+// others.
+pub fn place(count: usize, firsts: &[u16], spots: &mut [u16])
+    requires { ⌜ (count ≤ 4096) × (count ≤ length (now firsts)) × (count ≤ length (now spots)) ⌝ }
+    ensures { λ _. ⌜ Placed count (now (firsts .entry)) (now (spots .entry)) (now (spots .exit)) ⌝ }
 {
     let mut j = 0;
-    let mut next = 0;
+    let mut next: u16 = 0;
     while j < count {
-        if firsts[j] == j {
-            if 0 < again[j] {
+        if wide(firsts[j]) == j {
+            if 0 < spots[j] {
                 spots[j] = next;
                 next += 1;
                 j += 1;
@@ -35,11 +44,11 @@ pub fn place(count: usize, firsts: &[usize], again: &[usize], spots: &mut [usize
 }
 
 // How string j is sent. A position of 256 or more is none.
-pub fn sending_of(firsts: &[usize], spots: &[usize], j: usize) -> Sending
+pub fn sending_of(firsts: &[u16], spots: &[u16], j: usize) -> Sending
     requires { ⌜ Ready (now firsts) (now spots) j ⌝ }
     ensures { λ r. ⌜ SentBy (now (firsts .entry)) (now (spots .entry)) j r ⌝ }
 {
-    let f = firsts[j];
+    let f = wide(firsts[j]);
     let p = spots[f];
     if p < 256 {
         if f < j {

@@ -14,6 +14,7 @@ use lib.Dec.{eqb, ltb, leb}
 use borrow.Author.Tests.{ltb-true, ltb-false, lt-ltb, eq-eqb, ne-eqb, lt-leb, le-leb}
 use Rattle.text.specs.Texts.{among}
 use Rattle.text.proofs.Comparing.{clash}
+use Rattle.draft.specs.declared.Row.{Row}
 use Rattle.draft.specs.Strings.{Text}
 use Rattle.draft.specs.Table.{from}
 use Rattle.buckets.specs.Numbered.{textAt, before, First, Firsts, Marks}
@@ -58,8 +59,8 @@ new-no e = record { is = rw (ne-eqb _ _ e) }
 
 pub ruleset costing = (new-yes, new-no)
 
-pub new-fits : (W s : List ℕ) {n r sum f x : ℕ} {fs tw : List ℕ} → Scan (textAt W s) n r sum fs tw → NewCost (textAt W s) r f x → length s ≤ 65536 → Fits w64 (sum + x)
-new-fits W s {r = r} {f = f} i e l = omega (arith, new-most (eqb f r) (length (textAt W s r)), i .small, e .is, text-short W s r)
+pub new-fits : (row : ℕ → Row) (W s : List ℕ) {n r sum f x : ℕ} {fs tw : List ℕ} → Scan (textAt row W s) n r sum fs tw → NewCost (textAt row W s) r f x → length s ≤ 65536 → Fits w64 (sum + x)
+new-fits row W s {r = r} {f = f} i e l = omega (arith, new-most (eqb f r) (length (textAt row W s r)), i .small, e .is, text-short row W s r)
 
 -- a new text is one whose first string is its own
 new-is : (t : ℕ → Text) {r f : ℕ} → First t r f → not (among (before t r) (t r)) ≡ eqb f r

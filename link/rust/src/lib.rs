@@ -1,5 +1,5 @@
 //! Binmode RPC messages, read and written by the proved library; the cards of
-//! job files; members of Structs, looked up.
+//! job files; members of Structs, looked up; two stations that share a table.
 //!
 //! ```
 //! let bytes = b"binmode-rpc:CU\x03\0\0\0addA\x02\0\0\0I\x02\0\0\0I\x02\0\0\0";
@@ -37,6 +37,7 @@ mod lookup;
 mod message;
 mod pieces;
 mod refusal;
+mod stations;
 pub mod sys;
 mod table;
 
@@ -45,6 +46,7 @@ pub use lookup::{Member, Position, Source};
 pub use message::{Message, read};
 pub use pieces::Pieces;
 pub use refusal::{Reason, Refusal};
+pub use stations::{Share, Station, StationPieces, shares};
 pub use table::{Children, Item, Items, Kind, Members, Table, room, set_row};
 
 /// Most bytes in a message, and in the bytes a writer's texts lie in.
@@ -63,4 +65,4 @@ pub const STACK_READ: usize = 65_536;
 /// What looking up takes: members, positions and texts with defaults.
 pub const STACK_LOOKUP: usize = 49_152;
 /// What writing takes.
-pub const STACK_WRITE: usize = 196_608;
+pub const STACK_WRITE: usize = 81_920;
