@@ -1,7 +1,8 @@
 //! How long the library takes on tables and messages made to be slow:
 //! `cargo run --release --bin worst`. Each table is judged (by a lookup, which
-//! judges first) and written; a call above `BAR` ends the run with 1, and so
-//! does reading a text slower than the second implementation.
+//! judges first) and written, and what was written is read; a call above `BAR`
+//! ends the run with 1, and so does reading a text slower than the second
+//! implementation.
 
 #[allow(dead_code, reason = "the other functions")]
 #[path = "../library.rs"]
@@ -11,9 +12,9 @@ mod messages;
 use messages::{card, text};
 use second::Read;
 use second::rules::{BYTE_LIMIT, ROW_LIMIT, ROW_WORDS};
+use std::cell::RefCell;
 use std::hint::black_box;
 use std::process::ExitCode;
-use std::time::Instant;
 
 /// What a call may take at most, in milliseconds.
 const BAR: f64 = 40.0;
@@ -30,29 +31,24 @@ const STRING: u32 = 11;
 
 /// The rows of a table that can hold Strings, behind the Response and the Array.
 const MOST: usize = ROW_LIMIT - 2;
+/// The keys that a Struct can have there, each with an Integer.
+const KEYS: usize = MOST / 2;
 
 fn main() -> ExitCode {
     println!(
-        "Milliseconds of a call, the median of {TURNS}, and how many times a card of 300 members goes into it.\n\
+        "Milliseconds of a call at work, the median of {TURNS}, and how many times a card of 300 members goes into it.\n\
          Asked: {BAR} ms at most.\n"
     );
     let card = Table::of_message(&card(300));
-    let usual = Times {
-        judging: milliseconds(|| card.judge()),
-        writing: milliseconds(|| card.write()),
-    };
+    let usual = card.times();
     println!(
-        "{:52} {:>5} {:>9} {:>7} {:>9} {:>7}",
-        "table", "rows", "judging", "cards", "writing", "cards"
+        "{:52} {:>5} {:>16} {:>16} {:>16}",
+        "table", "rows", "judging  cards", "writing  cards", "reading  cards"
     );
     card.print("card of 300 members", &usual, &usual);
     let mut above = 0;
     for (name, table) in tables() {
-        let times = Times {
-            judging: milliseconds(|| table.judge()),
-            writing: milliseconds(|| table.write()),
-        };
-        above += table.print(name, &times, &usual);
+        above += table.print(name, &table.times(), &usual);
     }
     above += usize::from(slower(
         "reading 65,000 bytes of characters of any width",
@@ -128,14 +124,13 @@ fn tables() -> Vec<(&'static str, Table)> {
             Table::strings(&any, (0..29).map(|i| (nth(i), end - nth(i)))),
         ),
         ("equal Strings at different offsets", long(&ascii, 1)),
+        ("Strings that differ in one byte", alike(1, MOST, ARRAY)),
+        ("keys that differ in one byte", alike(1, KEYS, STRUCT)),
         (
-            "Strings that differ in one byte, in one bucket",
-            alike(MOST, ARRAY),
+            "keys that differ in the last byte of a sixteen",
+            alike(16, KEYS, STRUCT),
         ),
-        (
-            "keys that differ in one byte, in one bucket",
-            alike(64, STRUCT),
-        ),
+        ("keys picked for one bucket", picked()),
     ]
 }
 
@@ -183,17 +178,42 @@ fn spoilt(text: &[u8], starts: &[usize]) -> Table {
     )
 }
 
-/// Texts of equal length, beginning and end, that differ in one byte in the middle.
-fn alike(count: usize, holder: u32) -> Table {
+/// Texts in one another, each so many bytes behind the one before: of equal
+/// length, all one letter but for a byte in the middle of the text bytes.
+fn alike(apart: usize, count: usize, holder: u32) -> Table {
     let mut text = vec![b'a'; BYTE_LIMIT];
-    text[BYTE_LIMIT / 2] = b'b';
-    let length = BYTE_LIMIT - count;
-    let strings = (0..count).map(|i| (i, length));
+    text[BYTE_LIMIT / 2 - 1] = b'b';
+    let strings = (0..count).map(|i| (apart * i, BYTE_LIMIT - apart * count));
     if holder == ARRAY {
         Table::strings(&text, strings)
     } else {
         Table::keys(&text, strings)
     }
+}
+
+/// Keys of eight letters that all fall in one bucket, by the definition in
+/// `crates/spread`.
+fn picked() -> Table {
+    let word = |key: &[u8], at: usize| u32::from_le_bytes(key[at..at + 4].try_into().unwrap());
+    let mixed = |hash: u32, word: u32| hash.wrapping_add(word).wrapping_mul(1_540_483_477);
+    let first_key = 2;
+    let bucket = |key: &[u8]| {
+        mixed(
+            (1..5).fold(word(key, 0), |hash, at| mixed(hash, word(key, at))),
+            first_key,
+        ) >> 20
+    };
+    let text: Vec<u8> = (0_u64..)
+        .map(|number| {
+            (0..8)
+                .map(|place| b'a' + (number >> (4 * place)) as u8 % 16)
+                .collect::<Vec<u8>>()
+        })
+        .filter(|key| bucket(key) == 0)
+        .take(KEYS)
+        .flatten()
+        .collect();
+    Table::keys(&text, (0..KEYS).map(|i| (8 * i, 8)))
 }
 
 /// A table of a Response, with its text.
@@ -203,10 +223,9 @@ struct Table {
     text: Vec<u8>,
 }
 
-struct Times {
-    judging: f64,
-    writing: f64,
-}
+/// The milliseconds of a call to judge, to write and to read; reading only
+/// where the table was written.
+type Times = [Option<f64>; 3];
 
 impl Table {
     fn of_message(message: &[u8]) -> Self {
@@ -255,23 +274,41 @@ impl Table {
         black_box(library::lookup(1, words, self.rows, &self.text, 1, b"x"));
     }
 
-    fn write(&self) {
-        let mut output = vec![0; BYTE_LIMIT];
+    /// The length, where it is written.
+    fn write(&self, output: &mut [u8]) -> Option<usize> {
         let words = black_box(&self.words[..]);
-        black_box(library::write(words, self.rows, &self.text, &mut output));
+        let written = library::write(words, self.rows, &self.text, output);
+        (written.number == 0).then_some(written.length)
     }
 
-    /// Tells how many of the two are above the bar, too.
+    fn times(&self) -> Times {
+        let output = RefCell::new(vec![0; BYTE_LIMIT]);
+        let judging = milliseconds(|| self.judge());
+        let writing = milliseconds(|| {
+            black_box(self.write(&mut output.borrow_mut()));
+        });
+        let length = self.write(&mut output.borrow_mut());
+        let table = RefCell::new(vec![0; ROW_LIMIT * ROW_WORDS]);
+        let reading = length.map(|length| {
+            let message = &output.borrow()[..length];
+            milliseconds(|| {
+                black_box(library::read(black_box(message), &mut table.borrow_mut()));
+            })
+        });
+        [Some(judging), Some(writing), reading]
+    }
+
+    /// Tells how many of the three are above the bar, too.
     fn print(&self, name: &str, times: &Times, usual: &Times) -> usize {
-        let (judging, writing) = (times.judging, times.writing);
-        let above = usize::from(judging > BAR) + usize::from(writing > BAR);
-        println!(
-            "{name:52} {:>5} {judging:>9.3} {:>7.0} {writing:>9.3} {:>7.0}{}",
-            self.rows,
-            judging / usual.judging,
-            writing / usual.writing,
-            if above > 0 { "  above" } else { "" }
-        );
+        print!("{name:52} {:>5}", self.rows);
+        for (time, usual) in times.iter().zip(usual) {
+            match time {
+                Some(time) => print!(" {time:>9.3} {:>6.0}", time / usual.unwrap()),
+                None => print!(" {:>16}", "refused"),
+            }
+        }
+        let above = times.iter().flatten().filter(|&&time| time > BAR).count();
+        println!("{}", if above > 0 { "  above" } else { "" });
         above
     }
 }
@@ -286,13 +323,13 @@ fn slower(name: &str, characters: &str) -> bool {
     let mut table = vec![0; ROW_LIMIT * ROW_WORDS];
     let mut turn = |second: bool| {
         let (message, table) = (black_box(&message[..]), &mut table[..]);
-        let start = Instant::now();
+        let start = own_time();
         if second {
             black_box(second::read(message, table));
         } else {
             black_box(library::read(message, table));
         }
-        start.elapsed().as_secs_f64() * 1e3
+        own_time() - start
     };
     let rounds: Vec<[f64; 2]> = (0..201).map(|_| [turn(false), turn(true)]).collect();
     let library = median(rounds.iter().map(|round| round[0]).collect());
@@ -345,9 +382,30 @@ fn milliseconds(call: impl Fn()) -> f64 {
 }
 
 fn time(call: impl Fn()) -> f64 {
-    let start = Instant::now();
+    let start = own_time();
     call();
-    start.elapsed().as_secs_f64() * 1e3
+    own_time() - start
+}
+
+/// The milliseconds that this thread was at work: others at work on the machine
+/// are not timed.
+fn own_time() -> f64 {
+    #[repr(C)]
+    struct Timespec {
+        seconds: i64,
+        nanoseconds: i64,
+    }
+    unsafe extern "C" {
+        fn clock_gettime(clock: i32, time: *mut Timespec) -> i32;
+    }
+    const THREAD_CPU_TIME: i32 = 3;
+    let mut time = Timespec {
+        seconds: 0,
+        nanoseconds: 0,
+    };
+    // SAFETY: the time is valid for the call, and has the form that Linux gives it on 64 bits.
+    unsafe { clock_gettime(THREAD_CPU_TIME, &mut time) };
+    time.seconds as f64 * 1e3 + time.nanoseconds as f64 / 1e6
 }
 
 fn median(mut numbers: Vec<f64>) -> f64 {

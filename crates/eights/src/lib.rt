@@ -16,7 +16,7 @@ fn wide(byte: u8) -> u64
 }
 
 // The number of the eight bytes at `at`, the lowest first. Compiled, it is one load.
-fn word_at(s: &[u8], at: usize) -> u64
+pub fn word_at(s: &[u8], at: usize) -> u64
     requires { ⌜ at + 8 ≤ length (now s) ⌝ }
     ensures { λ r. ⌜ r ≡ number (take 8 (drop at (now (s .entry)))) ⌝ }
 {

@@ -15,7 +15,7 @@ use Rattle.draft.specs.declared.Row.{Row}
 use Rattle.draft.specs.Bytes.{part}
 use Rattle.draft.specs.Strings.{Text}
 use Rattle.draft.specs.Table.{rowAt}
-use Rattle.spread.specs.Buckets.{bucketOf}
+use Rattle.spread.specs.Buckets.{wholeBucketOf}
 use Rattle.keys.specs.Notes.{headOf, linkOf, ownerOf, named, keepIf, keysOf, On, here, next, Noted, Rows, Entry, Added, Noting, Ahead}
 
 pub text-is : (s : List ℕ) (room : ℕ) (T : List ℕ) (r : ℕ) {x : Row} {a n : ℕ} {t : Text} → x ≡ rowAt room T r → a ≡ x .a → n ≡ x .b → t ≡ part s a n → t ≡ named s room T r
@@ -126,8 +126,8 @@ keys-move t t′ W W′ o (suc n) p q = rw (p n (omega arith)) (go (eqb (ownerOf
     go true e i = rw (q n (omega arith) (eqb-true (ownerOf W n) o e), i)
     go false e i = i
 
-module _ {t : ℕ → Text} {W : List ℕ} {owner row : ℕ} (a : Noted t W row) {u : Text} {h m : ℕ} (eu : u ≡ t row) (bu : h ≡ bucketOf (m / 3) owner u) (em : m ≡ length W) (en : Entry owner row (length W)) where
-  eh : h ≡ bucketOf (length W / 3) owner u
+module _ {t : ℕ → Text} {W : List ℕ} {owner row : ℕ} (a : Noted t W row) {u : Text} {h m : ℕ} (eu : u ≡ t row) (bu : h ≡ wholeBucketOf (m / 3) owner u) (em : m ≡ length W) (en : Entry owner row (length W)) where
+  eh : h ≡ wholeBucketOf (length W / 3) owner u
   eh = bu ∙ rw em
 
   -- a chain before its walk
@@ -135,7 +135,7 @@ module _ {t : ℕ → Text} {W : List ℕ} {owner row : ℕ} (a : Noted t W row)
   note-ahead e =
       rw (e, eh)
       (record {
-        within = a .heads (bucketOf (length W / 3) owner u);
+        within = a .heads (wholeBucketOf (length W / 3) owner u);
         links = a .links;
         owners = a .owners;
         on = λ k l o r. rw (o, r) at (a .on k (omega (arith, o, en .some)));
@@ -212,11 +212,11 @@ module _ {t : ℕ → Text} {W : List ℕ} {owner row : ℕ} (a : Noted t W row)
         at-or-not (λ (b : ℕ). On W′ (headOf W b) k → On W′ (headOf W′ b) k) b h (λ o. rw head (next row k (rw link o))) (λ d o. rw (head-other b d) o)
         (on-move row (a .links) (λ j l. link-other j (λ e. omega arith)) (a .heads b) o)
 
-    on-more : (k : ℕ) → 0 < ownerOf W′ k → On W′ (headOf W′ (bucketOf (length W / 3) (ownerOf W′ k) (t k))) k
+    on-more : (k : ℕ) → 0 < ownerOf W′ k → On W′ (headOf W′ (wholeBucketOf (length W / 3) (ownerOf W′ k) (t k))) k
     on-more k =
-        at-or-not (λ (k : ℕ). 0 < ownerOf W′ k → On W′ (headOf W′ (bucketOf (length W / 3) (ownerOf W′ k) (t k))) k) k row
+        at-or-not (λ (k : ℕ). 0 < ownerOf W′ k → On W′ (headOf W′ (wholeBucketOf (length W / 3) (ownerOf W′ k) (t k))) k) k row
         (λ l. rw (own, ← eu, ← eh, head) here)
-        (λ d. rw (owner-other k d) (λ l. on-old (bucketOf (length W / 3) (ownerOf W k) (t k)) k (a .on k l)))
+        (λ d. rw (owner-other k d) (λ l. on-old (wholeBucketOf (length W / 3) (ownerOf W k) (t k)) k (a .on k l)))
 
     same-words : length W′ ≡ length W
     same-words = simp length-set

@@ -9,7 +9,7 @@ use lib.ListN.{length, getD, replicate}
 use lib.Dec.{eqb, ltb}
 use borrow.Author.Tests.{eqb-true, eqb-false, ne-eqb, ltb-true, ltb-false}
 use Rattle.draft.specs.Strings.{Text}
-use Rattle.spread.specs.Buckets.{bucketOf}
+use Rattle.spread.specs.Buckets.{wholeBucketOf}
 use Rattle.keys.specs.Notes.{headOf, linkOf, ownerOf, named, keepIf, keysOf, On, Noted, Rows, Entry, Added, Keeps}
 use Rattle.keys.proofs.Chaining.{keys-move}
 

@@ -11,7 +11,7 @@ use Rattle.text.specs.Texts.{among}
 use Rattle.draft.specs.Strings.{Text}
 use Rattle.draft.specs.Table.{rowAt}
 use Rattle.draft.specs.Read.{textOf}
-use Rattle.spread.specs.Buckets.{bucketOf}
+use Rattle.spread.specs.Buckets.{wholeBucketOf}
 
 abbrev pub headOf : List ℕ → ℕ → ℕ
 headOf W b = getD W (b * 3) 0
@@ -46,7 +46,7 @@ pub record Noted (t : ℕ → Text) (W : List ℕ) (free : ℕ) : Type 0 where
   pub links : (k : ℕ) → linkOf W k ≤ k
   pub owners : (k : ℕ) → ownerOf W k ≤ k
   pub blank : (k : ℕ) → free ≤ k → ownerOf W k ≡ 0
-  pub on : (k : ℕ) → 0 < ownerOf W k → On W (headOf W (bucketOf (length W / 3) (ownerOf W k) (t k))) k
+  pub on : (k : ℕ) → 0 < ownerOf W k → On W (headOf W (wholeBucketOf (length W / 3) (ownerOf W k) (t k))) k
 
 -- what noting the key of a row asks: of the table, and of the words
 pub record Rows (row room words : ℕ) : Type 0 where

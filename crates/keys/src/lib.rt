@@ -88,7 +88,7 @@ pub fn note(
     ensures { λ again. ⌜ Noting (named (now (s .entry)) room (now (table .entry))) (now (notes .entry)) (now (notes .exit)) owner row again ⌝ }
 {
     let key = text_of(s, table, room, row);
-    let h = spread::bucket(key, owner, notes.len() / 3);
+    let h = spread::bucket_whole(key, owner, notes.len() / 3);
     let newest = notes[h * 3];
     if find(s, table, room, notes, owner, row, word(newest), key) {
         return true;

@@ -3,7 +3,7 @@ use Prim.Native.Nat.{ℕ, zero, suc, _+_, _-_, _*_, _/_, _%_, _≤_, _<_, min}
 use mathlib.Core.Path.{_≡_, refl, sym, ap, _∙_}
 use mathlib.Core.List.{List, [], _∷_}
 use native.Mathlib.Omega.{arith}
-use native.Mathlib.Nat.{mod-lt, mul-lt-mul-of-pos-right, mul-le-mul-left}
+use native.Mathlib.Nat.{add-zero, mod-lt, mul-lt-mul-of-pos-right, mul-le-mul-left}
 use native.Mathlib.Numerals.{add-one}
 use mir.Syntax.{w64}
 use mir.Val.{Fits}
@@ -11,7 +11,7 @@ use lib.ListN.{length, getD}
 use borrow.Author.Tests.{le-leb, lt-leb}
 use Rattle.draft.specs.Bytes.{unsignedAt}
 use Rattle.draft.specs.Strings.{Text}
-use Rattle.spread.specs.Buckets.{mixed, fours, long, five, mixedOf, bucketOf}
+use Rattle.spread.specs.Buckets.{mixed, fours, long, five, mixedOf, bucketOf, folded, lane, whole, wholeBucketOf}
 
 pub none-past : (t : List ℕ) (i : ℕ) → length t ≤ i → _≡_ {A = ℕ} 0 (getD t i 0)
 none-past [] zero h = refl
@@ -58,6 +58,82 @@ module _ (t : Text) where
   unfolding bucketOf
   bucket-is buckets salt e f = rw (f, e)
 
+-- a long text
+module _ (t : Text) where
+  lane-none : (k : ℕ) → _≡_ {A = ℕ} 0 (lane t k 0)
+  unfolding lane
+  lane-none k = refl
+
+  lane-first : (i : ℕ) {h w x : ℕ} → h ≡ lane t 0 i → w ≡ unsignedAt t (i * 16) → x ≡ folded h w → x ≡ lane t 0 (i + 1)
+  unfolding lane
+  lane-first i p q e = e ∙ rw (add-one i, add-zero, p, q)
+
+  lane-again : (k i : ℕ) {h w x : ℕ} → h ≡ lane t k i → w ≡ unsignedAt t (i * 16 + k) → x ≡ folded h w → x ≡ lane t k (i + 1)
+  unfolding lane
+  lane-again k i p q e = e ∙ rw (add-one i, p, q)
+
+  -- where the loop over the lanes stands
+  pub record Lanes (n a b c d i : ℕ) : Type 0 where
+    pub within : i ≤ n
+    pub first : a ≡ lane t 0 i
+    pub second : b ≡ lane t 4 i
+    pub third : c ≡ lane t 8 i
+    pub fourth : d ≡ lane t 12 i
+    pub first-small : a < 8589934592
+    pub second-small : b < 8589934592
+    pub third-small : c < 8589934592
+    pub fourth-small : d < 8589934592
+
+  pub lanes-first : (n : ℕ) → Lanes n 0 0 0 0 0
+  lanes-first n =
+      record {
+        within = omega arith;
+        first = lane-none 0;
+        second = lane-none 4;
+        third = lane-none 8;
+        fourth = lane-none 12;
+        first-small = omega arith;
+        second-small = omega arith;
+        third-small = omega arith;
+        fourth-small = omega arith;
+      }
+
+  pub lanes-again : (n i : ℕ) {a b c d w x y z a′ b′ c′ d′ : ℕ} → Lanes n a b c d i → i < n → w ≡ unsignedAt t (i * 16) → x ≡ unsignedAt t (i * 16 + 4) → y ≡ unsignedAt t (i * 16 + 8) → z ≡ unsignedAt t (i * 16 + 12) → (a′ ≡ folded a w) × (a′ < 8589934592) → (b′ ≡ folded b x) × (b′ < 8589934592) → (c′ ≡ folded c y) × (c′ < 8589934592) → (d′ ≡ folded d z) × (d′ < 8589934592) → Lanes n a′ b′ c′ d′ (i + 1)
+  lanes-again n i g h ew ex ey ez ea eb ec ed =
+      record {
+        within = omega arith;
+        first = lane-first i (g .first) ew (ea .0);
+        second = lane-again 4 i (g .second) ex (eb .0);
+        third = lane-again 8 i (g .third) ey (ec .0);
+        fourth = lane-again 12 i (g .fourth) ez (ed .0);
+        first-small = ea .1;
+        second-small = eb .1;
+        third-small = ec .1;
+        fourth-small = ed .1;
+      }
+
+  pub lanes-done : (i n : ℕ) {a b c d x y z : ℕ} → a ≡ lane t 0 i → b ≡ lane t 4 i → c ≡ lane t 8 i → d ≡ lane t 12 i → i ≤ n → n ≤ i → x ≡ folded a b → y ≡ folded x c → z ≡ folded y d → z ≡ folded (folded (folded (lane t 0 n) (lane t 4 n)) (lane t 8 n)) (lane t 12 n)
+  lanes-done i n ea eb ec ed l m ex ey ez = let q : i ≡ n = omega arith in ez ∙ rw (ey, ex, ea, eb, ec, ed, q)
+
+  pub whole-is : {h a b c d x y z r : ℕ} → h ≡ folded (folded (folded (lane t 0 (length t / 16)) (lane t 4 (length t / 16))) (lane t 8 (length t / 16))) (lane t 12 (length t / 16)) → a ≡ unsignedAt t (length t - 16) → b ≡ unsignedAt t (length t - 12) → c ≡ unsignedAt t (length t - 8) → d ≡ unsignedAt t (length t - 4) → x ≡ folded h a → y ≡ folded x b → z ≡ folded y c → r ≡ folded z d → r ≡ whole t
+  unfolding whole
+  whole-is eh ea eb ec ed ex ey ez er = er ∙ rw (ez, ey, ex, eh, ea, eb, ec, ed)
+
+  pub bucket-short : (buckets salt : ℕ) {r : ℕ} → length t ≤ 64 → r ≡ bucketOf buckets salt t → r ≡ wholeBucketOf buckets salt t
+  unfolding wholeBucketOf
+  bucket-short buckets salt h e = e ∙ rw (le-leb (length t) 64 h)
+
+  pub bucket-long : (buckets salt : ℕ) {h x : ℕ} → 64 < length t → h ≡ whole t → x ≡ mixed (h % 4294967296) salt → x * buckets / 4294967296 ≡ wholeBucketOf buckets salt t
+  unfolding wholeBucketOf
+  bucket-long buckets salt l e f = rw (f, e, lt-leb (length t) 64 l)
+
+pub folded-is : (h w : ℕ) {p : ℕ} → p ≡ (h + w) * 625341585 → p % 4294967296 + p / 4294967296 ≡ folded h w
+unfolding folded
+folded-is h w e = rw e
+
+pub folded-small : (h w : ℕ) {p : ℕ} → h < 8589934592 → w < 8589934592 → p ≡ (h + w) * 625341585 → p % 4294967296 + p / 4294967296 < 8589934592
+folded-small h w l m e = omega arith
+
 pub mixed-is : (h w : ℕ) → (h + w) * 1540483477 % 4294967296 ≡ mixed h w
 unfolding mixed
 mixed-is h w = refl
@@ -71,4 +147,4 @@ scaled-fits h buckets l k = let m : h * buckets ≤ h * 4096 = mul-le-mul-left h
 pub scaled : (h buckets : ℕ) → h < 4294967296 → 0 < buckets → h * buckets / 4294967296 < buckets
 scaled h buckets l k = let m : h * buckets < 4294967296 * buckets = mul-lt-mul-of-pos-right l k in omega arith
 
-pub ruleset mixing = (none-past, last-short, fours-again, fours-done, fours-none, long-is, five-is, mixed-five, mixed-long, mixed-short, bucket-is, mixed-is, mixed-small, scaled-fits, scaled)
+pub ruleset mixing = (none-past, last-short, fours-again, fours-done, fours-none, long-is, five-is, mixed-five, mixed-long, mixed-short, bucket-is, mixed-is, mixed-small, scaled-fits, scaled, lanes-first, lanes-done, whole-is, bucket-short, bucket-long, folded-is, folded-small)

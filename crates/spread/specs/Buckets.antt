@@ -30,3 +30,34 @@ mixedOf t = cond (leb 4 (length t)) (cond (leb (length t) 20) (five t (length t 
 -- so that equal texts go to different buckets where the salts differ
 unfoldable pub bucketOf : ℕ → ℕ → List ℕ → ℕ
 bucketOf buckets salt t = mixed (mixedOf t) salt * buckets / 4294967296
+
+-- of a long text all bytes count, so that texts in one another that differ in a few bytes are spread too. What overflows is added, so that
+-- the highest bits of a four are not lost
+unfoldable pub folded : ℕ → ℕ → ℕ
+folded h w = (h + w) * 625341585 % 4294967296 + (h + w) * 625341585 / 4294967296
+
+-- n fours, each sixteen bytes behind the one before, the first at byte k
+unfoldable pub lane : List ℕ → ℕ → ℕ → ℕ
+lane t k zero = 0
+lane t k (suc n) = folded (lane t k n) (unsignedAt t (n * 16 + k))
+
+-- the fours of all whole sixteens, in four lanes, and the last sixteen bytes
+unfoldable pub whole : List ℕ → ℕ
+whole t =
+    folded
+    (folded
+    (folded
+    (folded
+    (folded
+    (folded
+    (folded (lane t 0 (length t / 16)) (lane t 4 (length t / 16)))
+    (lane t 8 (length t / 16)))
+    (lane t 12 (length t / 16)))
+    (unsignedAt t (length t - 16)))
+    (unsignedAt t (length t - 12)))
+    (unsignedAt t (length t - 8)))
+    (unsignedAt t (length t - 4))
+
+-- a text's bucket by all its bytes
+unfoldable pub wholeBucketOf : ℕ → ℕ → List ℕ → ℕ
+wholeBucketOf buckets salt t = cond (leb (length t) 64) (bucketOf buckets salt t) (mixed (whole t % 4294967296) salt * buckets / 4294967296)

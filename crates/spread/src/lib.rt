@@ -3,7 +3,7 @@ ghost use mathlib.Core.Path.{_≡_};
 ghost use Prim.Native.Nat.{_+_, _*_, _-_, _≤_, _<_, _/_, min};
 ghost use lib.ListN.{length};
 ghost use Rattle.draft.specs.Bytes.{unsignedAt, byteAt};
-ghost use Rattle.spread.specs.Buckets.{mixed, fours, long, five, mixedOf, bucketOf};
+ghost use Rattle.spread.specs.Buckets.{mixed, fours, long, five, mixedOf, bucketOf, folded, lane, whole, wholeBucketOf};
 
 // A byte as a number: the caller has no fit of the element to show.
 fn byte(x: u8) -> usize
@@ -105,4 +105,55 @@ pub fn bucket(t: &[u8], salt: usize, buckets: usize) -> usize
     ensures { λ r. ⌜ (r ≡ bucketOf buckets salt (now (t .entry))) × (r < buckets) ⌝ }
 {
     mix(mix_text(t), salt) * buckets / 4294967296
+}
+
+fn fold(h: usize, w: usize) -> usize
+    requires { ⌜ (h < 8589934592) × (w < 8589934592) ⌝ }
+    ensures { λ r. ⌜ (r ≡ folded h w) × (r < 8589934592) ⌝ }
+{
+    let p = (h + w) * 625341585;
+    p % 4294967296 + p / 4294967296
+}
+
+// The four lanes of a text's whole sixteens, side by side: none waits for another.
+fn fold_lanes(t: &[u8]) -> usize
+    ensures { λ r. ⌜ (r ≡ folded (folded (folded (lane (now (t .entry)) 0 (length (now (t .entry)) / 16)) (lane (now (t .entry)) 4 (length (now (t .entry)) / 16))) (lane (now (t .entry)) 8 (length (now (t .entry)) / 16))) (lane (now (t .entry)) 12 (length (now (t .entry)) / 16))) × (r < 8589934592) ⌝ }
+{
+    let n = t.len() / 16;
+    let mut a = 0;
+    let mut b = 0;
+    let mut c = 0;
+    let mut d = 0;
+    let mut i = 0;
+    while i < n {
+        let at = i * 16;
+        a = fold(a, four(t, at));
+        b = fold(b, four(t, at + 4));
+        c = fold(c, four(t, at + 8));
+        d = fold(d, four(t, at + 12));
+        i += 1;
+    }
+    fold(fold(fold(a, b), c), d)
+}
+
+fn fold_whole(t: &[u8]) -> usize
+    requires { ⌜ 16 ≤ length (now t) ⌝ }
+    ensures { λ r. ⌜ (r ≡ whole (now (t .entry))) × (r < 8589934592) ⌝ }
+{
+    let n = t.len();
+    let one = fold(fold_lanes(t), four(t, n - 16));
+    let two = fold(one, four(t, n - 12));
+    let three = fold(two, four(t, n - 8));
+    fold(three, four(t, n - 4))
+}
+
+// The bucket of a text, of so many, by all its bytes.
+pub fn bucket_whole(t: &[u8], salt: usize, buckets: usize) -> usize
+    requires { ⌜ (salt < 4294967296) × (0 < buckets) × (buckets ≤ 4096) ⌝ }
+    ensures { λ r. ⌜ (r ≡ wholeBucketOf buckets salt (now (t .entry))) × (r < buckets) ⌝ }
+{
+    if t.len() <= 64 {
+        return bucket(t, salt, buckets);
+    }
+    mix(fold_whole(t) % 4294967296, salt) * buckets / 4294967296
 }

@@ -8,13 +8,13 @@ use Rattle.keys.proofs.note.Tie as tie
 returns-2 : tie.Need-returns-2
 returns-2 c =
     let pre = c .before .before .before .before .before .before .before .before .before .before .pre in
-    let bucket = c .before .before .before .before .before .bucket .ensures in
+    let bucket = c .before .before .before .before .before .bucket-whole .ensures in
     note-new (pre .2) (c .before .before .before .before .before .before .text-of .ensures) (bucket .0) (search needs) (pre .1) (bucket .1) (c .before .find .ensures) (c .if1 .left)
 
 pub note-spec : {M : Type 1} → statement M
 note-spec = tie.close (tie.spec
     (λ c κs. search needs)  -- text-of-requires
-    (λ c κs. search needs)  -- bucket-requires
+    (λ c κs. search needs)  -- bucket-whole-requires
     (λ c. search needs)  -- mul-newest
     (λ c. search needs)  -- mul-newest-2
     (λ c. search needs)  -- slice-read-newest
