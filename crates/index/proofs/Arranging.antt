@@ -1,17 +1,16 @@
 -- What answers the needs of the functions that put a Struct's key rows in order. Assumes nothing.
 use mathlib.Core.Path.{_≡_, refl, sym, ap, _∙_}
-use mathlib.Core.Bool.{Bool, true, false, cond, _||_}
-use mathlib.Core.List.{List, [], _∷_, _++_}
+use mathlib.Core.Bool.{Bool, true, false}
+use mathlib.Core.List.{List, [], _++_}
 use Prim.Native.Nat.{ℕ, zero, suc, _+_, _-_, _≤_, _<_}
 use native.Mathlib.Omega.{arith}
-use lib.Dec.{ltb, eqb}
 use lib.ListN.{length, take, drop, replicate, length-append, length-replicate}
 use lib.Seq.{take-at, drop-append-add}
 use borrow.Author.Tests.{lt-ltb, le-ltb}
 use Rattle.draft.specs.declared.Row.{Row}
 use Rattle.draft.specs.Table.{roomOf, rowAt}
 use Rattle.draft.specs.Writable.{writable}
-use Rattle.member.specs.Members.{memberOf, membersFrom, isStruct, members}
+use Rattle.member.specs.Members.{membersFrom, isStruct, members}
 use Rattle.member.proofs.Counting.{from-none, from-past, from-more}
 use Rattle.sorting.specs.Sorting.{keyText, inserted, ordered, Rising}
 use Rattle.sorting.proofs.Inserting.{length-inserted, rising-none, rising-inserted}

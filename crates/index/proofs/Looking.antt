@@ -11,7 +11,6 @@ use Rattle.draft.specs.Table.{from}
 use Rattle.draft.specs.Writable.{writable}
 use Rattle.member.specs.declared.Member.{Member}
 use Rattle.lookup.specs.Reports.{reportOf}
-use Rattle.lookup.specs.declared.Answer.{Answer}
 use Rattle.lookup.specs.declared.Answer.the-variants.{Refused}
 use Rattle.lookup.specs.declared.Refusal.the-variants.{NotWritable}
 use Rattle.lookup.specs.Answers.{pick}

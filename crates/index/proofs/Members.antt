@@ -1,19 +1,18 @@
 -- The members of a Struct by their key rows, where they stand one behind the other and have distinct keys. Assumes nothing.
 use mathlib.Core.Path.{_≡_, refl, sym, ap, _∙_}
-use mathlib.Core.Bool.{Bool, true, false, cond, _&&_, _||_}
+use mathlib.Core.Bool.{Bool, true, false, cond, _||_}
 use mathlib.Core.List.{List, [], _∷_}
 use Prim.Native.Nat.{ℕ, zero, suc, _+_, _≤_, _<_}
 use native.Mathlib.Omega.{arith}
-use lib.Dec.{ltb, eqb}
+use lib.Dec.{eqb}
 use lib.ListN.{length, getD}
 use borrow.Author.Tests.{eq-eqb, ne-eqb, eqb-true}
 use Rattle.text.proofs.Comparing.{clash, both, same-is, same-self}
 use Rattle.draft.specs.declared.Row.{Row}
 use Rattle.draft.specs.Read.{textOf}
 use Rattle.member.specs.declared.Member.{Member}
-use Rattle.member.specs.declared.Found.{Found}
 use Rattle.member.specs.declared.Found.the-variants.{At, Absent}
-use Rattle.member.specs.Members.{memberOf, hasKey, keysOf, pickFound, find, sameMember, isAmong}
+use Rattle.member.specs.Members.{memberOf, hasKey, keysOf, find, sameMember, isAmong}
 use Rattle.member.proofs.Apart.{Apart, none-apart, and-apart}
 use Rattle.sorting.proofs.Inserting.{times, times-at, Stands, stands}
 use Rattle.index.specs.Filling.{keyRows}

@@ -1,5 +1,5 @@
 -- What answers the needs of the functions that take a search a step on, and say what it found. Assumes nothing.
-use mathlib.Core.Path.{_≡_, refl, sym, ap, _∙_}
+use mathlib.Core.Path.{_≡_, refl, sym, _∙_}
 use mathlib.Core.Bool.{Bool, true, false}
 use mathlib.Core.List.{List}
 use Prim.Native.Nat.{ℕ, _+_, _-_, _*_, _≤_, _<_}
@@ -23,7 +23,7 @@ use Rattle.lookup.specs.declared.Report.{Report}
 use Rattle.lookup.specs.Reports.{reportOf}
 use Rattle.lookup.proofs.Looking.{rows-stated, room-most, room-inside}
 use Rattle.seeking.specs.declared.Search.{Search}
-use Rattle.seeking.specs.Seeking.{between, ended, begun, turned, stepped}
+use Rattle.seeking.specs.Seeking.{between, ended, turned, stepped}
 use Rattle.sorting.specs.Sorting.{keyText}
 use Rattle.index.specs.declared.Question.{Question}
 use Rattle.index.specs.Through.{relationTo, isMember, verified, startOf, judgement, questionOf, judgedOf, questionAt, Rightly, rowAnswer, stepFor, answerFor}

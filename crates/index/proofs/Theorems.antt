@@ -5,9 +5,9 @@ use mathlib.Core.Bool.{Bool, true, false, cond, _&&_, _||_}
 use mathlib.Core.List.{List, []}
 use Prim.Native.Nat.{ℕ, zero, suc, _+_, _≤_, _<_}
 use native.Mathlib.Omega.{arith}
-use lib.Dec.{ltb, eqb}
+use lib.Dec.{ltb}
 use lib.ListN.{length, getD}
-use borrow.Author.Tests.{eq-eqb, ne-eqb, lt-ltb, le-ltb, ltb-true, ltb-false}
+use borrow.Author.Tests.{ne-eqb, lt-ltb, ltb-true, ltb-false}
 use Rattle.draft.specs.declared.Row.{Row}
 use Rattle.draft.specs.Table.{roomOf, rowAt, from}
 use Rattle.draft.specs.Read.{textOf}
@@ -19,8 +19,8 @@ use Rattle.member.proofs.Apart.{Apart}
 use Rattle.order.specs.declared.Relation.{Relation}
 use Rattle.order.specs.declared.Relation.the-variants.{Before, Equal, After}
 use Rattle.order.specs.ByteOrder.{compared}
-use Rattle.order.proofs.Ordering.{Less, turned, compared-self, compared-equal, compared-turned, after-less, less-le, le-less, before-equal, before-after, equal-after}
-use Rattle.lookup.specs.declared.Refusal.the-variants.{NotWritable, NoMember}
+use Rattle.order.proofs.Ordering.{Less, turned, compared-self, compared-equal, compared-turned, after-less, less-le, le-less, before-after, equal-after}
+use Rattle.lookup.specs.declared.Refusal.the-variants.{NoMember}
 use Rattle.lookup.specs.declared.Answer.{Answer}
 use Rattle.lookup.specs.declared.Answer.the-variants.{Refused}
 use Rattle.lookup.specs.Answers.{answerAt, foundAnswer, pick, look, lookup}
@@ -29,9 +29,9 @@ use Rattle.seeking.proofs.Finding.{Outcome, nothing, found, any-list, InOrder, 
 use Rattle.sorting.specs.Sorting.{keyText, ordered, Rising}
 use Rattle.sorting.proofs.Inserting.{before-not, rising-none, ordered-rising, ordered-length, times, times-ordered, Stands, stands, times-at}
 use Rattle.index.specs.Filling.{keyRows, refusalIn, orderIn, refusalOf, orderOf, entryOf, entries}
-use Rattle.index.specs.Through.{relationTo, isMember, itsRelation, itsMember, foundRow, rowAnswer, throughIf, through}
+use Rattle.index.specs.Through.{relationTo, isMember, foundRow, rowAnswer, throughIf, through}
 use Rattle.index.proofs.Storing.{getD-past, entry-here}
-use Rattle.index.proofs.Members.{KeyRow, rows-length, key-row, OfKeyRow, of-key-row, apart-once, once-apart, Distinct, same-row, found-at, found-none}
+use Rattle.index.proofs.Members.{KeyRow, rows-length, key-row, of-key-row, apart-once, once-apart, Distinct, same-row, found-at, found-none}
 
 -- ---- entries
 

@@ -1,7 +1,7 @@
 -- Looking a key up through a list of entries: by halves, and an entry whose text is the key is answered only if its two rows are those of a member of
 -- the Struct. Defined for any table and any list. Assumes nothing.
 use mathlib.Core.Path.{_≡_}
-use mathlib.Core.Bool.{Bool, true, false, cond, _&&_}
+use mathlib.Core.Bool.{Bool, true, cond, _&&_}
 use mathlib.Core.List.{List}
 use Prim.Native.Nat.{ℕ, _-_}
 use lib.Dec.{ltb, eqb}
@@ -22,7 +22,7 @@ use Rattle.lookup.specs.Answers.{answerAt, pick}
 use Rattle.lookup.specs.declared.Report.{Report}
 use Rattle.lookup.specs.Reports.{reportOf}
 use Rattle.seeking.specs.declared.Search.{Search}
-use Rattle.seeking.specs.Seeking.{ended, pick as pickSearch, begun, turned, stepped, searched}
+use Rattle.seeking.specs.Seeking.{ended, pick as pickSearch, begun, stepped, searched}
 use Rattle.sorting.specs.Sorting.{keyText}
 use Rattle.index.specs.declared.Question.{Question}
 

@@ -1,7 +1,7 @@
 -- What a search finds. Of any list: nothing, or the value of an entry that stands equal and whose rows are a member's. Of a list in order, all of
 -- whose entries that stand equal are members': one of these, if there is one. Assumes nothing.
-use mathlib.Core.Path.{_≡_, refl, sym, ap, _∙_}
-use mathlib.Core.Bool.{Bool, true, false, cond}
+use mathlib.Core.Path.{_≡_, refl, ap, _∙_}
+use mathlib.Core.Bool.{Bool, true, false}
 use mathlib.Core.List.{List}
 use Prim.Native.Nat.{ℕ, zero, suc, _+_, _-_, _/_, _≤_, _<_}
 use native.Mathlib.Omega.{arith}
@@ -11,7 +11,7 @@ use borrow.Author.Tests.{lt-ltb, le-ltb, ltb-true, ltb-false}
 use Rattle.member.specs.declared.Member.{Member}
 use Rattle.order.specs.declared.Relation.{Relation}
 use Rattle.order.specs.declared.Relation.the-variants.{Before, Equal, After}
-use Rattle.order.proofs.Ordering.{before-equal, equal-after, before-after}
+use Rattle.order.proofs.Ordering.{before-equal, equal-after}
 use Rattle.seeking.specs.declared.Search.{Search}
 use Rattle.seeking.specs.Seeking.{over, search as searchAt, middle, between, ended, pick, begun, turned, unused, stepped, searched}
 

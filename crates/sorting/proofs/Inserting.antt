@@ -1,6 +1,6 @@
 -- Insertion at its place keeps the order of the texts, and the rows. Assumes nothing.
-use mathlib.Core.Path.{_≡_, refl, sym, ap, _∙_}
-use mathlib.Core.Bool.{Bool, true, false, cond, _||_}
+use mathlib.Core.Path.{_≡_, refl, ap, _∙_}
+use mathlib.Core.Bool.{Bool, true, false, cond}
 use mathlib.Core.List.{List, [], _∷_}
 use Prim.Native.Nat.{ℕ, zero, suc, _+_, _≤_, _<_}
 use native.Mathlib.Omega.{arith}
@@ -10,7 +10,7 @@ use borrow.Author.Tests.{eq-eqb, eqb-true}
 use Rattle.order.specs.declared.Relation.{Relation}
 use Rattle.order.specs.declared.Relation.the-variants as relation
 use Rattle.order.specs.ByteOrder.{compared}
-use Rattle.order.proofs.Ordering.{Less, compared-self, less-not, less-le, before-equal, before-after}
+use Rattle.order.proofs.Ordering.{Less, compared-self, less-not, less-le, before-equal}
 use Rattle.sorting.specs.Sorting.{isBefore, insertAt, before, spot, inserted, ordered, Rising}
 
 -- ---- what is where after an insertion

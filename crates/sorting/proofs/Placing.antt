@@ -1,5 +1,5 @@
 -- What answers the needs of the search for a row's place, by halves. Assumes nothing.
-use mathlib.Core.Path.{_≡_, refl, sym, ap, _∙_}
+use mathlib.Core.Path.{_≡_, sym, ap, _∙_}
 use mathlib.Core.Bool.{Bool, true, false}
 use mathlib.Core.List.{List, []}
 use Prim.Native.Nat.{ℕ, _+_, _-_, _/_, _≤_, _<_}
@@ -13,7 +13,7 @@ use Rattle.order.specs.ByteOrder.{compared}
 use Rattle.order.proofs.Ordering.{less-le, le-le}
 use Rattle.draft.specs.declared.Row.{Row}
 use Rattle.draft.specs.Bytes.{part}
-use Rattle.sorting.specs.Sorting.{keyText, isBefore, before, spot, Rising, Placed}
+use Rattle.sorting.specs.Sorting.{keyText, isBefore, before, Rising, Placed}
 use Rattle.sorting.proofs.Inserting.{before-less, less-before, before-not, not-before, spot-is}
 
 -- ---- a row's text, and whether it is before another's

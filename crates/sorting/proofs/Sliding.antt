@@ -6,7 +6,7 @@ use native.Mathlib.Omega.{arith}
 use native.Mathlib.Numerals.{add-one}
 use native.Mathlib.Nat.{suc-add, zero-add}
 use lib.ListN.{length, getD, set, take, drop, length-set}
-use Rattle.sorting.specs.Sorting.{insertAt, spot, inserted, slid, Placed}
+use Rattle.sorting.specs.Sorting.{insertAt, inserted, slid, Placed}
 
 slid-shift : (m i c x : ℕ) (l : List ℕ) → slid m (suc i) c (x ∷ l) ≡ x ∷ slid m i c l
 unfolding slid
