@@ -327,16 +327,16 @@ module _ {row : ℕ → Row} {rows : ℕ} {s W fs sp : List ℕ} {most : ℕ} {o
       split : take 12 o ++ planned s (from row 0 rows) ≡ i .done ++ (rowBytes row s W fs sp j x ++ rest row rows s W (i .known .count) (suc r) (nextString j x))
       split = i .split ∙ ap (λ (w : List ℕ). i .done ++ w) (rest-row (i .known) (i .stands) h e)
 
-      pub write-over : {out′ : List ℕ} → most < at + m → Fitted (take 12 o ++ planned s (from row 0 rows)) most o out′ (at + m)
+      pub write-over : {out′ : List ℕ} → most - at < m → Fitted (take 12 o ++ planned s (from row 0 rows)) most o out′ (at + m)
       write-over l =
           record {
-            put = λ k. absurd (omega arith);
-            over = λ k. omega (arith, i .place, p .long, ap length split ∙ length-append (i .done) _, length-append (rowBytes row s W fs sp j x) (rest row rows s W (i .known .count) (suc r) (nextString j x)));
+            put = λ k. absurd (omega (arith, i .within));
+            over = λ k. omega (arith, i .within, i .place, p .long, ap length split ∙ length-append (i .done) _, length-append (rowBytes row s W fs sp j x) (rest row rows s W (i .known .count) (suc r) (nextString j x)));
           }
 
-      module _ (l : at + m ≤ most) where
+      module _ (l : m ≤ most - at) where
         front-here : Front (i .done ++ rowBytes row s W fs sp j x) o (take at out ++ (ys ++ drop (length out - at) (drop at out)))
-        front-here = front-on (i .front) at (sym (i .place)) (omega (arith, i .within, i .room .within)) (p .front (omega arith))
+        front-here = front-on (i .front) at (sym (i .place)) (omega (arith, i .within, i .room .within)) (p .front l)
 
         place-here : at + m ≡ length (i .done ++ rowBytes row s W fs sp j x)
         place-here = sym (length-append (i .done) (rowBytes row s W fs sp j x) ∙ omega (arith, i .place, p .long))
@@ -351,8 +351,8 @@ module _ {row : ℕ → Row} {rows : ℕ} {s W fs sp : List ℕ} {most : ℕ} {o
               split = split ∙ sym (append-assoc (i .done) (rowBytes row s W fs sp j x) _);
               front = front-here;
               place = place-here;
-              within = l;
-              long = front-long front-here (at + m) (sym place-here) (omega (arith, i .room .within));
+              within = omega (arith, i .within);
+              long = front-long front-here (at + m) (sym place-here) (omega (arith, i .within, i .room .within));
               room = i .room;
             })
 

@@ -127,10 +127,10 @@ fn put_items(
             left,
             &mut output[at..],
         );
-        at += n;
-        if most < at {
-            return at;
+        if left < n {
+            return at + n;
         }
+        at += n;
         j = next_string(j, row);
         sent += 1;
     }
