@@ -1,3 +1,4 @@
 pub mod Numbered
 pub mod Comparing
+pub mod Eights
 pub mod Chaining
