@@ -85,7 +85,7 @@ static uint32_t (*const binmode_linked_version)(void) BINMODE_KEPT = binmode_ver
  */
 #define BINMODE_STACK_READ 65536   /* binmode_read, binmode_read_card, binmode_pieces_next; binmode_station_* that read */
 #define BINMODE_STACK_LOOKUP 49152 /* binmode_lookup, binmode_position, binmode_default_text; binmode_station_* that look up */
-#define BINMODE_STACK_WRITE 81920  /* binmode_write, binmode_station_write */
+#define BINMODE_STACK_WRITE 65536  /* binmode_write, binmode_station_write */
 #define BINMODE_STACK_INDEX 65536  /* binmode_index_fill, binmode_index_find */
 
 /* The answers: acceptance, or the number of a refusal; for a message in pieces also that more is wanted. */

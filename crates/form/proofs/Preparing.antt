@@ -59,13 +59,13 @@ news-written s xs =
     omega (arith, news-least (kept (textsOf s xs)) [] (textsOf s xs), costs-least s xs (plan (textsOf s xs)) (omega (arith, sents-many (kept (textsOf s xs)) [] (textsOf s xs))), ap length (written-is s xs) ∙ length-append prefix (planned s xs))
 
 -- what is known of the strings after they were scanned
-module _ {t : ℕ → Text} {n : ℕ} {fs tw sp : List ℕ} {b : Bool} (d : Scanned t n fs tw b) where
-  pub settled-known : b ≡ true → Placed n fs tw sp → Settled t n fs sp true
+module _ {t : ℕ → Text} {n : ℕ} {fs sp : List ℕ} {b : Bool} (d : Scanned t n fs b) where
+  pub settled-known : b ≡ true → Placed n fs sp → Settled t n fs sp true
   settled-known e p =
       record {
         says = sym e ∙ d .says;
         firsts = λ f. d .firsts e;
-        slots = λ f. p .at t (d .firsts e) (d .marks e);
+        slots = λ f. p .at t (d .firsts e);
         room = λ f. d .room e;
         room-spots = λ f. p .room;
       }

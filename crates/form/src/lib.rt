@@ -11,7 +11,7 @@ ghost use Rattle.message.specs.Filled.{Filled};
 ghost use Rattle.form.specs.Contract.{Settled, Prepared};
 
 // Finds the first string of each text and the texts' positions, or that the texts alone make the form too long. The heads of the chains
-// are lent as zeros.
+// are lent as zeros; their links lie where the positions go when all first strings are found.
 fn settle(
     table: &[u32],
     room: usize,
@@ -19,24 +19,13 @@ fn settle(
     count: usize,
     text: &[u8],
     firsts: &mut [u16],
-    spots: &mut [u16],
     heads: &mut [u16],
-    nexts: &mut [u16],
+    spots: &mut [u16],
 ) -> bool
-    requires { ⌜ Strings room (length (now table)) count (now strings) × (length (now text) ≤ 65536) × (count ≤ length (now firsts)) × (count ≤ length (now spots)) × (count ≤ length (now nexts)) × (now heads ≡ replicate (length (now heads)) 0) × (0 < length (now heads)) × (length (now heads) ≤ 4096) ⌝ }
+    requires { ⌜ Strings room (length (now table)) count (now strings) × (length (now text) ≤ 65536) × (count ≤ length (now firsts)) × (count ≤ length (now spots)) × (now heads ≡ replicate (length (now heads)) 0) × (0 < length (now heads)) × (length (now heads) ≤ 4096) ⌝ }
     ensures { λ b. ⌜ Settled (textAt (rowAt room (now (table .entry))) (now (strings .entry)) (now (text .entry))) count (now (firsts .exit)) (now (spots .exit)) b ⌝ }
 {
-    if texts::scan(
-        table,
-        room,
-        strings,
-        count,
-        text,
-        firsts,
-        spots,
-        heads,
-        nexts,
-    ) {
+    if texts::scan(table, room, strings, count, text, firsts, heads, spots) {
         positions::place(count, &firsts[..], spots);
         return true;
     }
@@ -52,25 +41,14 @@ fn prepare(
     text: &[u8],
     strings: &mut [u16],
     firsts: &mut [u16],
-    spots: &mut [u16],
     heads: &mut [u16],
-    nexts: &mut [u16],
+    spots: &mut [u16],
 ) -> bool
-    requires { ⌜ Ready rows room (length (now table)) × (length (now text) ≤ 65536) × (rows ≤ length (now strings)) × (rows ≤ length (now firsts)) × (rows ≤ length (now spots)) × (rows ≤ length (now nexts)) × (now heads ≡ replicate (length (now heads)) 0) × (0 < length (now heads)) × (length (now heads) ≤ 4096) ⌝ }
+    requires { ⌜ Ready rows room (length (now table)) × (length (now text) ≤ 65536) × (rows ≤ length (now strings)) × (rows ≤ length (now firsts)) × (rows ≤ length (now spots)) × (now heads ≡ replicate (length (now heads)) 0) × (0 < length (now heads)) × (length (now heads) ≤ 4096) ⌝ }
     ensures { λ b. ⌜ Prepared (rowAt room (now (table .entry))) rows (now (text .entry)) (now (strings .exit)) (now (firsts .exit)) (now (spots .exit)) b ⌝ }
 {
     let count = sending::collect(table, room, rows, strings);
-    settle(
-        table,
-        room,
-        &strings[..],
-        count,
-        text,
-        firsts,
-        spots,
-        heads,
-        nexts,
-    )
+    settle(table, room, &strings[..], count, text, firsts, heads, spots)
 }
 
 // The written form of rows whose strings were prepared, and what was found then.
@@ -103,9 +81,8 @@ fn fill_few(table: &[u32], room: usize, rows: usize, text: &[u8], output: &mut [
 {
     let mut strings = [0u16; 64];
     let mut firsts = [0u16; 64];
+    let mut heads = [0u16; 32];
     let mut spots = [0u16; 64];
-    let mut heads = [0u16; 64];
-    let mut nexts = [0u16; 64];
     let known = prepare(
         table,
         room,
@@ -113,9 +90,8 @@ fn fill_few(table: &[u32], room: usize, rows: usize, text: &[u8], output: &mut [
         text,
         &mut strings,
         &mut firsts,
-        &mut spots,
         &mut heads,
-        &mut nexts,
+        &mut spots,
     );
     fill_prepared(
         table,
@@ -137,9 +113,8 @@ fn fill_some(table: &[u32], room: usize, rows: usize, text: &[u8], output: &mut 
 {
     let mut strings = [0u16; 1024];
     let mut firsts = [0u16; 1024];
+    let mut heads = [0u16; 512];
     let mut spots = [0u16; 1024];
-    let mut heads = [0u16; 1024];
-    let mut nexts = [0u16; 1024];
     let known = prepare(
         table,
         room,
@@ -147,9 +122,8 @@ fn fill_some(table: &[u32], room: usize, rows: usize, text: &[u8], output: &mut 
         text,
         &mut strings,
         &mut firsts,
-        &mut spots,
         &mut heads,
-        &mut nexts,
+        &mut spots,
     );
     fill_prepared(
         table,
@@ -171,9 +145,8 @@ fn fill_many(table: &[u32], room: usize, rows: usize, text: &[u8], output: &mut 
 {
     let mut strings = [0u16; 4096];
     let mut firsts = [0u16; 4096];
+    let mut heads = [0u16; 2048];
     let mut spots = [0u16; 4096];
-    let mut heads = [0u16; 4096];
-    let mut nexts = [0u16; 4096];
     let known = prepare(
         table,
         room,
@@ -181,9 +154,8 @@ fn fill_many(table: &[u32], room: usize, rows: usize, text: &[u8], output: &mut 
         text,
         &mut strings,
         &mut firsts,
-        &mut spots,
         &mut heads,
-        &mut nexts,
+        &mut spots,
     );
     fill_prepared(
         table,

@@ -29,10 +29,10 @@ use Rattle.positions.specs.Contract.{told, Ready as Told}
 use Rattle.buckets.proofs.Numbered.{from-step, from-none}
 use Rattle.buckets.proofs.Comparing.{text-short, through}
 use Rattle.positions.proofs.Choosing.{told-is}
-use Rattle.output.specs.Contract.{Front, Put}
+use Rattle.output.specs.Contract.{Front, Put, Tried}
 use Rattle.output.proofs.Putting.{front-on, front-long, front-drop, front-take, lsb-four, counted-length}
 use Rattle.sending.specs.Contract.{Collected, Takes}
-use Rattle.message.specs.Contract.{planned, Known, rowBytes, nextString, Asked, Long, Tried, Fitted}
+use Rattle.message.specs.Contract.{planned, Known, rowBytes, nextString, Asked, Long, Fitted}
 use Rattle.message.specs.Filled.{Most}
 use Rattle.sending.proofs.Collecting.{texts-string, texts-other, strings-there}
 use Rattle.sending.proofs.Sending.{string-cost}
@@ -194,22 +194,20 @@ module _ (row : ℕ → Row) (s W fs sp : List ℕ) (j : ℕ) (x : Row) where
     pub item-long : {n : ℕ} → (x .kind ≡ 11 → ⊥) → n ≡ length (itemBytes s x) → Long (rowBytes row s W fs sp j x) n
     item-long f e = record { is = e ∙ rw (item-bytes f); few = omega (arith, item-most s x, a .short) }
 
-  module _ {n m q : ℕ} (l : Long (rowBytes row s W fs sp j x) n) (h : n ≤ m) (k : m ≤ q) where
-    pub string-room : x .kind ≡ 11 → length (stringBytes (told fs sp j (textAt row W s j))) ≤ q
-    string-room f = omega (arith, l .is, ap length (string-bytes f))
+    -- the most that it takes
+    row-most : length (rowBytes row s W fs sp j x) ≤ 65542
+    unfolding rowBytes
+    row-most = go (isString x)
+      where
+        go : (b : Bool) → length (cond b (stringBytes (told fs sp j (textAt row W s j))) (itemBytes s x)) ≤ 65542
+        go true = omega (arith, string-most row W s fs sp j, a .short)
+        go false = omega (arith, item-most s x, a .short)
 
-    pub item-room : (x .kind ≡ 11 → ⊥) → length (itemBytes s x) ≤ q
-    item-room f = omega (arith, l .is, ap length (item-bytes f))
+  pub string-tried : {m n : ℕ} {o o′ : List ℕ} → x .kind ≡ 11 → Tried (stringBytes (told fs sp j (textAt row W s j))) m o o′ n → Tried (rowBytes row s W fs sp j x) m o o′ n
+  string-tried f p = rw (string-bytes f) p
 
-  module _ {n m : ℕ} {o : List ℕ} (l : Long (rowBytes row s W fs sp j x) n) where
-    pub row-over : {o′ : List ℕ} → m < n → Tried (rowBytes row s W fs sp j x) m o o′ n
-    row-over h = record { long = l; front = λ k. absurd (omega arith) }
-
-    pub string-tried : {o′ : List ℕ} {q : ℕ} → x .kind ≡ 11 → Put (stringBytes (told fs sp j (textAt row W s j))) o o′ q → Tried (rowBytes row s W fs sp j x) m o o′ n
-    string-tried f p = record { long = l; front = λ h. rw (string-bytes f) (p .front) }
-
-    pub item-tried : {o′ : List ℕ} {q : ℕ} → (x .kind ≡ 11 → ⊥) → Put (itemBytes s x) o o′ q → Tried (rowBytes row s W fs sp j x) m o o′ n
-    item-tried f p = record { long = l; front = λ h. rw (item-bytes f) (p .front) }
+  pub item-tried : {m n : ℕ} {o o′ : List ℕ} → (x .kind ≡ 11 → ⊥) → Tried (itemBytes s x) m o o′ n → Tried (rowBytes row s W fs sp j x) m o o′ n
+  item-tried f p = rw (item-bytes f) p
 
 pub next-yes : (j : ℕ) (x : Row) → x .kind ≡ 11 → j + 1 ≡ nextString j x
 unfolding nextString
@@ -219,7 +217,7 @@ pub next-no : (j : ℕ) (x : Row) → (x .kind ≡ 11 → ⊥) → j ≡ nextStr
 unfolding nextString
 next-no j x f = rw (ne-eqb (x .kind) 11 f)
 
-pub ruleset rowwise = (asked-told, asked-words, string-long, item-long, row-over, string-room, item-room, string-tried, item-tried, next-yes, next-no)
+pub ruleset rowwise = (asked-told, asked-words, string-long, item-long, string-tried, item-tried, next-yes, next-no)
 
 -- where the measuring stands
 pub record Measuring (row : ℕ → Row) (rows : ℕ) (s W fs sp : List ℕ) (r j sum : ℕ) : Type 0 where
@@ -323,25 +321,25 @@ module _ {row : ℕ → Row} {rows : ℕ} {s W fs sp : List ℕ} {most : ℕ} {o
       write-few = few-strings (i .known) (i .stands) h e y
 
     module _ {m : ℕ} {ys : List ℕ} (p : Tried (rowBytes row s W fs sp j x) (most - at) (take (length out - at) (drop at out)) ys m) where
-      pub write-fits : Fits w64 (at + m)
-      write-fits = omega (arith, p .long .few, i .within, i .room .few)
+      pub write-fits : {room words : ℕ} → Ready rows room words → Fits w64 (at + m)
+      write-fits y = omega (arith, p .long, row-most row s W fs sp j x (asked-there (i .known) (i .stands) h e y), i .within, i .room .few)
 
       split : take 12 o ++ planned s (from row 0 rows) ≡ i .done ++ (rowBytes row s W fs sp j x ++ rest row rows s W (i .known .count) (suc r) (nextString j x))
       split = i .split ∙ ap (λ (w : List ℕ). i .done ++ w) (rest-row (i .known) (i .stands) h e)
 
-      pub write-over : {out′ : List ℕ} → most < at + m → Fitted (take 12 o ++ planned s (from row 0 rows)) most o out′ (at + m)
+      pub write-over : {out′ : List ℕ} → most - at < m → Fitted (take 12 o ++ planned s (from row 0 rows)) most o out′ (at + m)
       write-over l =
           record {
-            put = λ k. absurd (omega arith);
-            over = λ k. omega (arith, i .place, p .long .is, ap length split ∙ length-append (i .done) _, length-append (rowBytes row s W fs sp j x) (rest row rows s W (i .known .count) (suc r) (nextString j x)));
+            put = λ k. absurd (omega (arith, i .within));
+            over = λ k. omega (arith, i .within, i .place, p .long, ap length split ∙ length-append (i .done) _, length-append (rowBytes row s W fs sp j x) (rest row rows s W (i .known .count) (suc r) (nextString j x)));
           }
 
-      module _ (l : at + m ≤ most) where
+      module _ (l : m ≤ most - at) where
         front-here : Front (i .done ++ rowBytes row s W fs sp j x) o (take at out ++ (ys ++ drop (length out - at) (drop at out)))
-        front-here = front-on (i .front) at (sym (i .place)) (omega (arith, i .within, i .room .within)) (p .front (omega arith))
+        front-here = front-on (i .front) at (sym (i .place)) (omega (arith, i .within, i .room .within)) (p .front l)
 
         place-here : at + m ≡ length (i .done ++ rowBytes row s W fs sp j x)
-        place-here = sym (length-append (i .done) (rowBytes row s W fs sp j x) ∙ omega (arith, i .place, p .long .is))
+        place-here = sym (length-append (i .done) (rowBytes row s W fs sp j x) ∙ omega (arith, i .place, p .long))
 
         pub write-again : {k : ℕ} → k ≡ nextString j x → Writing row rows s W fs sp most o (r + 1) k (at + m) (take at out ++ (ys ++ drop (length out - at) (drop at out)))
         write-again q =
@@ -353,8 +351,8 @@ module _ {row : ℕ → Row} {rows : ℕ} {s W fs sp : List ℕ} {most : ℕ} {o
               split = split ∙ sym (append-assoc (i .done) (rowBytes row s W fs sp j x) _);
               front = front-here;
               place = place-here;
-              within = l;
-              long = front-long front-here (at + m) (sym place-here) (omega (arith, i .room .within));
+              within = omega (arith, i .within);
+              long = front-long front-here (at + m) (sym place-here) (omega (arith, i .within, i .room .within));
               room = i .room;
             })
 

@@ -10,7 +10,7 @@ use Rattle.draft.specs.Strings.{isString, textsOf, kept, plan}
 use Rattle.draft.specs.Written.{itemsOf, itemBytes, stringBytes}
 use Rattle.buckets.specs.Numbered.{textAt, Through, Firsts}
 use Rattle.positions.specs.Contract.{Slots, told, Ready as Told}
-use Rattle.output.specs.Contract.{Front, Put}
+use Rattle.output.specs.Contract.{Put}
 use Rattle.sending.specs.Contract.{Collected}
 
 -- the items of the written form
@@ -45,11 +45,6 @@ pub record Asked (room words : ℕ) (s W fs sp : List ℕ) (j : ℕ) (x : Row) :
 pub record Long (xs : List ℕ) (n : ℕ) : Type 0 where
   pub is : n ≡ length xs
   pub few : n ≤ 65542
-
--- xs has n bytes, and stands in front if they are at most so many
-pub record Tried (xs : List ℕ) (most : ℕ) (out out′ : List ℕ) (n : ℕ) : Type 0 where
-  pub long : Long xs n
-  pub front : n ≤ most → Front xs out out′
 
 -- xs was put, if it has at most so many bytes; and if it has more, n is over that
 pub record Fitted (xs : List ℕ) (most : ℕ) (out out′ : List ℕ) (n : ℕ) : Type 0 where

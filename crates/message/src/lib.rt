@@ -8,7 +8,8 @@ ghost use lib.ListN.{length, take};
 ghost use Rattle.draft.specs.Table.{rowAt, from};
 ghost use Rattle.draft.specs.Written.{written};
 ghost use Rattle.extents.specs.Asked.{Ready};
-ghost use Rattle.message.specs.Contract.{planned, Known, rowBytes, nextString, Asked, Long, Tried, Fitted};
+ghost use Rattle.output.specs.Contract.{Tried};
+ghost use Rattle.message.specs.Contract.{planned, Known, rowBytes, nextString, Asked, Long, Fitted};
 ghost use Rattle.message.specs.Filled.{neededFor, Most, Filled};
 
 // The most bytes that a message may have.
@@ -61,16 +62,10 @@ fn put_row(
     requires { ⌜ Asked room (length (now table)) (now text) (now strings) (now firsts) (now spots) j row × (most ≤ length (now output)) ⌝ }
     ensures { λ n. ⌜ Tried (rowBytes (rowAt room (now (table .entry))) (now (text .entry)) (now (strings .entry)) (now (firsts .entry)) (now (spots .entry)) j row) most (now (output .entry)) (now (output .exit)) n ⌝ }
 {
-    let n = row_length(table, room, text, strings, firsts, spots, j, row);
-    if most < n {
-        return n;
-    }
     if row.kind == 11 {
-        sending::put_string(output, table, room, text, strings, firsts, spots, j);
-        return n;
+        return sending::put_string(output, most, table, room, text, strings, firsts, spots, j);
     }
-    encoding::put_item(output, text, row);
-    n
+    encoding::put_item(output, most, text, row)
 }
 
 // How many bytes the message has.
@@ -132,10 +127,10 @@ fn put_items(
             left,
             &mut output[at..],
         );
-        at += n;
-        if most < at {
-            return at;
+        if left < n {
+            return at + n;
         }
+        at += n;
         j = next_string(j, row);
         sent += 1;
     }

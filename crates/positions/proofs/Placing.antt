@@ -15,11 +15,11 @@ use Rattle.text.proofs.Comparing.{clash, same-self}
 use Rattle.draft.specs.Strings.{Text, repeats, repeated, kept, position}
 use Rattle.draft.specs.Table.{from}
 use Rattle.buckets.specs.Numbered.{before, First, Firsts, Marks}
-use Rattle.positions.specs.Contract.{Slot, Slots, Placed}
+use Rattle.positions.specs.Contract.{Slot, Slots, Marked, Numbered, Placed}
 use Rattle.occurring.specs.Occurring.{bit, times}
 use Rattle.occurring.proofs.Among.{at-or-not, and-false, or-true, or-no, among-append, among-times}
 use Rattle.occurring.proofs.Repeating.{times-repeats}
-use Rattle.buckets.proofs.Numbered.{from-step, seen-first, first-once}
+use Rattle.buckets.proofs.Numbered.{from-step, from-none, from-again, from-other, seen-first, first-once, first-of}
 
 among-take : (u : Text) (n : ℕ) (us : List Text) → among us u ≡ false → among (take n us) u ≡ false
 unfolding among
@@ -46,6 +46,55 @@ repeats-seen : (u : Text) (seen ts : List Text) → among seen u ≡ true → am
 repeats-seen u seen ts e =
     let z : times u (repeats seen ts) ≡ 0 = times-repeats u seen ts ∙ ap (λ (b : Bool). bit (not b && leb 2 (times u ts))) e in
     among-times u (repeats seen ts) ∙ ap (ltb 0) z
+
+-- the marks of the texts that come again, string by string
+marks-more : (t : ℕ → Text) (r f : ℕ) (tw : List ℕ) → Marks t r tw → First t r f → r < length tw → Marks t (suc r) (set tw f (r - f))
+unfolding among
+marks-more t r f tw h e l = record { at = λ k. at-or-not P k r here (old k) }
+  where
+    P : ℕ → Type 0
+    P k = k < suc r → First t k k → ltb 0 (getD (set tw f (r - f)) k 0) ≡ among (from t (suc k) (suc r - suc k)) (t k)
+
+    here : P r
+    here m o =
+        let q : f ≡ r = first-once t e o in
+        let z : r - f ≡ 0 = omega arith in
+        ap (ltb 0) (ap (λ (i : ℕ). getD (set tw f (r - f)) i 0) (sym q) ∙ getD-set-same tw f (r - f) 0 (omega arith) ∙ z)
+        ∙ sym (ap (λ (us : List Text). among us (t r)) (from-none t (suc r) (suc r) (omega arith)))
+
+    old : (k : ℕ) → (k ≡ r → ⊥) → P k
+    old k n m =
+        at-or-not (λ (k : ℕ). k < r → First t k k → ltb 0 (getD (set tw f (r - f)) k 0) ≡ among (from t (suc k) (suc r - suc k)) (t k)) k f
+        (λ i o. ap (ltb 0) (getD-set-same tw f (r - f) 0 (omega arith)) ∙ lt-ltb 0 (r - f) (omega arith) ∙ sym (from-again t (t f) f r i (e .equal)))
+        (λ d i o. ap (ltb 0) (getD-set-other tw f k (r - f) 0 d) ∙ h .at k i o ∙ sym (from-other t (t k) k r i (λ q. d (first-once t (first-of t o (omega arith) q) e))))
+        (omega (arith, n))
+
+-- where the marking stands at string r, whatever the texts are
+pub record Marking (n : ℕ) (fs : List ℕ) (r : ℕ) (sp : List ℕ) : Type 0 where
+  pub within : r ≤ n
+  pub room : n ≤ length sp
+  pub at : (t : ℕ → Text) → Firsts t n fs → Marks t r sp
+
+pub mark-first : (n : ℕ) (fs sp : List ℕ) → n ≤ length sp → Marking n fs 0 sp
+mark-first n fs sp h = record { within = omega arith; room = h; at = λ t f. record { at = λ k l. absurd (omega arith) } }
+
+module _ {n r : ℕ} {fs sp : List ℕ} (i : Marking n fs r sp) where
+  pub mark-again : {f : ℕ} → r < n → f ≡ getD fs r 0 → Marking n fs (r + 1) (set sp f (r - f))
+  mark-again {f} h e =
+      rw add-one
+      (record {
+        within = h;
+        room = simp length-set (i .room);
+        at = λ t g. marks-more t r f sp (i .at t g) (rw (← e) at (g .at r h)) (omega (arith, i .room));
+      })
+
+  pub mark-never : {f : ℕ} → r < n → f ≡ getD fs r 0 → r < f → Marking n fs (r + 1) sp
+  mark-never h e l = rw add-one (record { within = h; room = i .room; at = λ t g. absurd (omega (arith, (g .at r h) .within)) })
+
+  pub mark-done : n ≤ r → Marked n fs sp
+  mark-done h = let q : r ≡ n = omega (arith, i .within) in record { at = λ t f. rw q at (i .at t f); room = i .room }
+
+pub ruleset marking = (mark-first, mark-again, mark-never, mark-done)
 
 -- where the positions stand at string r, for texts t
 pub record Listed (t : ℕ → Text) (n r next : ℕ) (sp : List ℕ) : Type 0 where
@@ -214,9 +263,12 @@ module _ {n r next : ℕ} {fs tw sp : List ℕ} (i : Placing n fs tw r next sp) 
         at = λ t f m. listed-old (i .at t f m) h (f .at r h) (λ q. e (p ∙ q));
       })
 
-pub place-done : {n : ℕ} {fs tw : List ℕ} {r next : ℕ} {sp : List ℕ} → Placing n fs tw r next sp → n ≤ r → Placed n fs tw sp
+pub place-done : {n : ℕ} {fs tw : List ℕ} {r next : ℕ} {sp : List ℕ} → Placing n fs tw r next sp → n ≤ r → Numbered n fs tw sp
 place-done {n} {r = r} {next} {sp} i h =
     let q : r ≡ n = omega (arith, i .within) in
     record { at = λ t f m. rw q at ((i .at t f m) .slots); room = i .room }
 
-pub ruleset placing = (place-first, place-done, place-new, place-once, place-old)
+pub placed : {n : ℕ} {fs tw sp : List ℕ} → Marked n fs tw → Numbered n fs tw sp → Placed n fs sp
+placed m p = record { at = λ t f. p .at t f (m .at t f); room = p .room }
+
+pub ruleset placing = (place-first, place-done, place-new, place-once, place-old, placed)

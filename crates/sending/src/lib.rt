@@ -8,7 +8,7 @@ ghost use Rattle.draft.specs.Written.{stringBytes};
 ghost use Rattle.extents.specs.Asked.{Ready};
 ghost use Rattle.buckets.specs.Numbered.{textAt, Through};
 ghost use Rattle.positions.specs.Contract.{told, Ready as Told};
-ghost use Rattle.output.specs.Contract.{Put};
+ghost use Rattle.output.specs.Contract.{Tried};
 ghost use Rattle.sending.specs.Contract.{Collected, Takes};
 
 // The row of each string, in row order, and how many strings there are.
@@ -53,9 +53,10 @@ pub fn string_length(
     }
 }
 
-// String j, to the front of the output.
+// String j, to the front of the output, if it takes at most so many bytes.
 pub fn put_string(
     out: &mut [u8],
+    most: usize,
     table: &[u32],
     room: usize,
     text: &[u8],
@@ -64,14 +65,14 @@ pub fn put_string(
     spots: &[u16],
     j: usize,
 ) -> usize
-    requires { ⌜ Told (now firsts) (now spots) j × Through room (length (now table)) j (now strings) × (length (stringBytes (told (now firsts) (now spots) j (textAt (rowAt room (now table)) (now strings) (now text) j))) ≤ length (now out)) ⌝ }
-    ensures { λ n. ⌜ Put (stringBytes (told (now (firsts .entry)) (now (spots .entry)) j (textAt (rowAt room (now (table .entry))) (now (strings .entry)) (now (text .entry)) j))) (now (out .entry)) (now (out .exit)) n ⌝ }
+    requires { ⌜ Told (now firsts) (now spots) j × Through room (length (now table)) j (now strings) × (length (now text) ≤ 65536) × (most ≤ length (now out)) ⌝ }
+    ensures { λ n. ⌜ Tried (stringBytes (told (now (firsts .entry)) (now (spots .entry)) j (textAt (rowAt room (now (table .entry))) (now (strings .entry)) (now (text .entry)) j))) most (now (out .entry)) (now (out .exit)) n ⌝ }
 {
     let t = buckets::text_of(table, room, strings, text, j);
     let sending = positions::sending_of(firsts, spots, j);
     match sending {
-        Sending::Regular => output::put_long(out, b'U', t),
-        Sending::Recorded(p) => output::put_recorded(out, p, t),
-        Sending::Recalled(p) => output::put_two(out, b'<', p),
+        Sending::Regular => output::try_long(out, most, b'U', t),
+        Sending::Recorded(p) => output::try_recorded(out, most, p, t),
+        Sending::Recalled(p) => output::try_two(out, most, b'<', p),
     }
 }

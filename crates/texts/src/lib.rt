@@ -1,4 +1,4 @@
-// The texts of a message's strings: the first string of each, and which come again.
+// The texts of a message's strings: the first string of each.
 // Strings are numbered in row order; of string j a lent word has the row.
 ghost use mathlib.Core.Path.{_≡_};
 ghost use Prim.Native.Nat.{_≤_, _<_};
@@ -20,7 +20,7 @@ fn new_cost(table: &[u32], room: usize, strings: &[u16], text: &[u8], f: usize, 
     }
 }
 
-// The first string of each text, and which texts come again. Stops where the new texts alone cost over 65,536. The heads of the chains are
+// The first string of each text. Stops where the new texts alone cost over 65,536. The heads of the chains are
 // lent as zeros, the links as they are.
 pub fn scan(
     table: &[u32],
@@ -29,19 +29,17 @@ pub fn scan(
     count: usize,
     text: &[u8],
     firsts: &mut [u16],
-    again: &mut [u16],
     heads: &mut [u16],
     nexts: &mut [u16],
 ) -> bool
-    requires { ⌜ Strings room (length (now table)) count (now strings) × (length (now text) ≤ 65536) × (count ≤ length (now firsts)) × (count ≤ length (now again)) × (count ≤ length (now nexts)) × (now heads ≡ replicate (length (now heads)) 0) × (0 < length (now heads)) × (length (now heads) ≤ 4096) ⌝ }
-    ensures { λ c. ⌜ Scanned (textAt (rowAt room (now (table .entry))) (now (strings .entry)) (now (text .entry))) count (now (firsts .exit)) (now (again .exit)) c ⌝ }
+    requires { ⌜ Strings room (length (now table)) count (now strings) × (length (now text) ≤ 65536) × (count ≤ length (now firsts)) × (count ≤ length (now nexts)) × (now heads ≡ replicate (length (now heads)) 0) × (0 < length (now heads)) × (length (now heads) ≤ 4096) ⌝ }
+    ensures { λ c. ⌜ Scanned (textAt (rowAt room (now (table .entry))) (now (strings .entry)) (now (text .entry))) count (now (firsts .exit)) c ⌝ }
 {
     let mut j = 0;
     let mut sum: usize = 0;
     while j < count {
         let f = buckets::find_or_add(table, room, strings, text, heads, nexts, j);
         firsts[j] = f as u16;
-        again[f] = (j - f) as u16;
         sum += new_cost(table, room, strings, text, f, j);
         if 65536 < sum {
             return false;

@@ -68,6 +68,6 @@ pub const STACK_READ: usize = 65_536;
 /// What looking up takes: members, positions and texts with defaults.
 pub const STACK_LOOKUP: usize = 49_152;
 /// What writing takes.
-pub const STACK_WRITE: usize = 81_920;
+pub const STACK_WRITE: usize = 65_536;
 /// What filling an index, and looking up through one, takes of the stack.
 pub const STACK_INDEX: usize = 65_536;

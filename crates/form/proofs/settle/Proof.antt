@@ -10,10 +10,8 @@ settle-spec = tie.close (tie.spec
     (λ c. search needs)  -- same-length
     (λ c. search needs)  -- same-length-2
     (λ c. search needs)  -- same-length-3
-    (λ c. search needs)  -- same-length-4
     (λ c. search preparing)  -- returns
+    (λ c. search needs)  -- same-length-4
     (λ c. search needs)  -- same-length-5
     (λ c. search needs)  -- same-length-6
-    (λ c. search needs)  -- same-length-7
-    (λ c. search needs)  -- same-length-8
     (λ c. search preparing))  -- returns-2

@@ -22,9 +22,10 @@ put-items-spec = tie.close (tie.spec
     (λ c. search writing)  -- part-put-row-start
     (λ c. search needs)  -- part-put-row-end
     (λ c κs. (search writing, search writing))  -- put-row-requires
-    (λ c. search writing)  -- add-at
+    (λ c. search writing)  -- add-result
     (λ c. search needs)  -- same-length
     (λ c. search writing)  -- returns
+    (λ c. search writing)  -- add-at
     (λ c κs. search writing)  -- next-string-requires
     (λ c. search needs)  -- add-sent
     (λ c. search needs)  -- loop-less

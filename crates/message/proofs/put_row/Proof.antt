@@ -5,11 +5,9 @@ use Rattle.message.proofs.put_row.Tie as tie
 
 pub put-row-spec : {M : Type 1} → statement M
 put-row-spec = tie.close (tie.spec
-    (λ c κs. search needs)  -- row-length-requires
-    (λ c. search rowwise)  -- returns
-    (λ c κs. (search rowwise, search rowwise, search rowwise))  -- put-string-requires
+    (λ c κs. (search rowwise, search rowwise, search needs, search needs))  -- put-string-requires
     (λ c. search needs)  -- same-length
-    (λ c. search rowwise)  -- returns-2
-    (λ c κs. search rowwise)  -- put-item-requires
+    (λ c. search rowwise)  -- returns
+    (λ c κs. search needs)  -- put-item-requires
     (λ c. search needs)  -- same-length-2
-    (λ c. search rowwise))  -- returns-3
+    (λ c. search rowwise))  -- returns-2
