@@ -61,8 +61,8 @@ module _ (bytes most deep : ℕ) (T : List ℕ) (rows : ℕ) (s : List ℕ) (b :
       let g = sound m room nesting r in
       let h = begins m room nesting g in
       let i : meant bytes most deep T rows s e .0 ≡ g .cells = same-meaning (meant bytes most deep T rows s e .1) (g .realises) .0 z in
-      let k : fs ≡ g .sents = one-way sent-message (rw (← i) at (h .derived .derivation)) (append-nil m ∙ sym (take-append-drop used m)) in
-      rw k (g .legal)
+      let k : fs ≡ h .derived .sents = one-way [] (drop used m) sent-message (h .derived .derivation) i (append-nil m ∙ sym (take-append-drop used m)) in
+      rw k (h .derived .legal)
 
 -- prices that prove what strings cost prove that no message with the meaning is shorter
 pub no-shorter :
@@ -75,6 +75,6 @@ no-shorter {s} {t} {xs} {ys} {cs} fs prices room deep {used} m q p b e z =
     let i : cs ≡ g .cells = same-meaning m (g .realises) .0 z in
     let n = measured (h .derived .derivation) in
     let w = message-in (h .derived .derivation) (below-take used b) in
-    let x : texts (g .sents) ≡ texts fs = n .same ∙ ap strings (sym i) ∙ sym (texts-same m) ∙ sym q in
-    let y : costs fs ≤ costs (g .sents) = shortest 256 prices fs (rw q p) (g .sents) x (g .legal) w in
+    let x : texts (h .derived .sents) ≡ texts fs = n .same ∙ ap strings (sym i) ∙ sym (texts-same m) ∙ sym q in
+    let y : costs fs ≤ costs (h .derived .sents) = shortest 256 prices fs (rw q p) (h .derived .sents) x (h .derived .legal) w in
     (omega (arith, message-length m fs q, n .size, ap fixed i, y, length-take-le used t (h .inside)), h .inside)

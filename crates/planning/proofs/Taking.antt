@@ -7,7 +7,7 @@ use mathlib.Core.List.{List, [], _∷_}
 use native.Mathlib.Omega.{arith}
 use lib.ListN.{length}
 use lib.Dec.{eqb, leb}
-use borrow.Author.Tests.{eqb-true, eqb-false, eq-eqb, leb-true, le-leb}
+use borrow.Author.Tests.{eqb-true, eqb-false, eq-eqb, leb-true, le-leb, lt-ltb}
 use Rattle.text.specs.Texts.{same}
 use Rattle.text.proofs.Comparing.{clash, both, same-is, same-self}
 use Rattle.draft.specs.Grammar.{Sent, regular, recorded, recalled, Recording, text-at, look, after, Legal, legal-none, legal-regular, legal-recorded, legal-recalled}
@@ -37,7 +37,7 @@ valued-by form p e = let h = both (leb form 2) _ e in (leb-true form 2 (h .0), �
 valued-so : (form p : ℕ) → form ≤ 2 → (form ≡ 0 → p ≡ 0) → valued form p ≡ true
 unfolding valued
 valued-so zero p h z = eq-eqb p 0 (z refl)
-valued-so (suc form) p h z = rw (le-leb (suc form) 2 h)
+valued-so (suc form) p h z = rw (le-leb (suc form) 2 h, lt-ltb 0 (suc form) (omega arith))
 
 -- one string
 sends-legal : (R : List Recording) (f : Sent) (fs : List Sent) → maySend R f ≡ true → Legal (after R (f ∷ [])) fs → Legal R (f ∷ fs)

@@ -4,6 +4,7 @@ use mathlib.Core.Bool.{Bool, true, false}
 use mathlib.Core.List.{List, [], _∷_, _++_, append-assoc, append-nil}
 use Prim.Native.Nat.{ℕ, zero, suc, _+_}
 use Prim.Native.Char.{code}
+use native.Mathlib.Omega.{arith}
 use lib.Dec.{eqb}
 use lib.ListN.{length, drop}
 use lib.Seq.{drop-append-seam}
@@ -47,10 +48,17 @@ joined {xs} {ys} {zs} {us} {vs} {ws} {fs} {gs} {hs} p q e i j =
           (p .is (vs ++ ds) (ys ++ more) ∙ ap (λ (l : List Sent). fs ++ l) (q .is ds more));
     })
 
+-- a letter and a number before a text, or a letter, a position and a number, passed with it
+five : (a b c d e : ℕ) (t more : List ℕ) → drop (5 + length t) (a ∷ b ∷ c ∷ d ∷ e ∷ (t ++ more)) ≡ more
+five a b c d e t more = let i : 5 + length t ≡ suc (suc (suc (suc (suc (length t))))) = omega arith in rw i (drop-append-seam t more)
+
+six : (a b c d e f : ℕ) (t more : List ℕ) → drop (6 + length t) (a ∷ b ∷ c ∷ d ∷ e ∷ f ∷ (t ++ more)) ≡ more
+six a b c d e f t more = let i : 6 + length t ≡ suc (suc (suc (suc (suc (suc (length t)))))) = omega arith in rw i (drop-append-seam t more)
+
 string-tells : {xs t : List ℕ} {f : Sent} → String xs t f → Tells xs (content-cell content.Text t ∷ []) (f ∷ [])
 unfolding told cost
-string-tells {t = t} (regular-string (string-data e n k)) = record { is = λ ds more. ap (λ (l : List ℕ). regular t ∷ told ds l) (drop-append-seam t more) }
-string-tells {t = t} (recorded-string {p = p} (string-data e n k)) = record { is = λ ds more. ap (λ (l : List ℕ). recorded p t ∷ told ds l) (drop-append-seam t more) }
+string-tells {t = t} (regular-string (string-data {i = i} {j} {k} {l} e n h)) = record { is = λ ds more. ap (λ (x : List ℕ). regular t ∷ told ds x) (five (code "U") i j k l t more) }
+string-tells {t = t} (recorded-string {p = p} (string-data {i = i} {j} {k} {l} e n h)) = record { is = λ ds more. ap (λ (x : List ℕ). recorded p t ∷ told ds x) (six (code ">") p i j k l t more) }
 string-tells recalled-string = record { is = λ ds more. refl }
 
 binary-tells : {xs t : List ℕ} → Binary xs t → Tells xs (content-cell content.Binary t ∷ []) []
@@ -113,5 +121,7 @@ message-tells (response-message x e) more = behind (response-tells x) e more
 
 -- ONE WAY: two messages with one meaning that begin the same bytes send their strings alike
 pub one-way :
-    {d e : ℕ} {xs ys us vs : List ℕ} {cs : List Cell} {fs gs : List Sent} → Message d xs cs fs → Message e ys cs gs → xs ++ us ≡ ys ++ vs → fs ≡ gs
-one-way {us = us} {vs} {cs} m n e = sym (message-tells m us) ∙ ap (λ (l : List ℕ). told cs (drop 12 l)) e ∙ message-tells n vs
+    {d e : ℕ} {xs ys : List ℕ} (us vs : List ℕ) {cs ds : List Cell} {fs gs : List Sent} → Message d xs cs fs → Message e ys ds gs → cs ≡ ds
+    → xs ++ us ≡ ys ++ vs → fs ≡ gs
+one-way {ys = ys} us vs {cs} {ds} m n i e =
+    sym (message-tells m us) ∙ ap (λ (l : List ℕ). told cs (drop 12 l)) e ∙ ap (λ (l : List Cell). told l (drop 12 (ys ++ vs))) i ∙ message-tells n vs

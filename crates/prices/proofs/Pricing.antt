@@ -23,11 +23,11 @@ use Rattle.prices.specs.Contract.{Worth, Priced}
 
 -- the first j strings as the bound passes them, their shares, and their prices
 module _ (t : ℕ → Text) (y : ℕ → ℕ) where
-  unfoldable history : ℕ → List Past
+  unfoldable pub history : ℕ → List Past
   history zero = []
   history (suc j) = passed (history j) (y j) (t j)
 
-  unfoldable charged : ℕ → ℕ
+  unfoldable pub charged : ℕ → ℕ
   charged zero = 0
   charged (suc j) = charged j + share (length (t j)) (worth (history j) (t j))
 
@@ -36,7 +36,7 @@ module _ (t : ℕ → Text) (y : ℕ → ℕ) where
   charged-all zero j = rw (add-zero j) (add-zero (charged j))
   charged-all (suc m) j = let q : suc j + m ≡ j + suc m = omega arith in omega (arith, charged-all m (suc j), ap charged q)
 
-unfoldable spent : (ℕ → ℕ) → ℕ → ℕ
+unfoldable pub spent : (ℕ → ℕ) → ℕ → ℕ
 spent y zero = 0
 spent y (suc j) = spent y j + y j
 
@@ -185,7 +185,13 @@ left-above n w l = rw (lt-ltb (3 + n) w l)
 pub left-below : (n w : ℕ) → w ≤ 3 + n → 0 ≡ left n w
 left-below n w l = rw (le-ltb (3 + n) w l)
 
+pub size-same : (W s : List ℕ) (j : ℕ) {t : Text} → t ≡ textAt W s j → length t ≡ length (textAt W s j)
+size-same W s j e = ap length e
+
 pub size-most : (W s : List ℕ) (j : ℕ) {t : Text} → t ≡ textAt W s j → length s ≤ 65536 → length t ≤ 65536
 size-most W s j e h = rw e (omega (arith, text-short W s j))
 
-pub ruleset picking = (needs, share-above, share-below, left-above, left-below, size-most)
+pub first-there : {t : ℕ → Text} {n : ℕ} (j : ℕ) {fs : List ℕ} → Firsts t n fs → j < n → getD fs j 0 ≤ j
+first-there j f h = f .at j h .within
+
+pub ruleset picking = (needs, share-above, share-below, left-above, left-below, size-same, size-most)
