@@ -11,7 +11,7 @@ use lib.Seq.{getD-set-same, getD-set-other}
 use lib.Dec.{eqb, ltb, leb}
 use borrow.Author.Tests.{eqb-true, eqb-false, eq-eqb, ne-eqb, lt-leb}
 use Rattle.text.specs.Texts.{same}
-use Rattle.text.proofs.Comparing.{clash}
+use Rattle.text.proofs.Comparing.{clash, both}
 use Rattle.draft.specs.Table.{from}
 use Rattle.draft.specs.Grammar.{Recording, text-at, first, look, after}
 use Rattle.draft.specs.Strings.{Text}
@@ -144,6 +144,11 @@ module _ (t : ℕ → Text) (plan : List ℕ) (n : ℕ) where
   taken-rest : length plan ≡ n * 2 → taken plan (from t 0 n) ≡ takenFrom plan [] 0 (from t 0 n)
   unfolding taken
   taken-rest h = rw (from-length t 0 n, eq-eqb (length plan) (n * 2) h)
+
+  -- a plan that is taken has two bytes for each string
+  pub taken-long : taken plan (from t 0 n) ≡ true → length plan ≡ n * 2
+  unfolding taken
+  taken-long e = let h = both (eqb (length plan) (length (from t 0 n) * 2)) _ e in omega (arith, eqb-true (length plan) (length (from t 0 n) * 2) (h .0), from-length t 0 n)
 
 module _ {t : ℕ → Text} {plan : List ℕ} {n : ℕ} {book : List ℕ} {j : ℕ} (i : Taking t plan n book j) where
   pub take-named : Named j book
