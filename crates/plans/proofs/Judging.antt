@@ -114,7 +114,7 @@ pub record Taking (t : ℕ → Text) (plan : List ℕ) (n : ℕ) (book : List �
   pub named : Named j book
   pub within : j ≤ n
 
-from-length : {A : Type 0} (f : ℕ → A) (r n : ℕ) → length (from f r n) ≡ n
+pub from-length : {A : Type 0} (f : ℕ → A) (r n : ℕ) → length (from f r n) ≡ n
 unfolding from
 from-length f r zero = refl
 from-length f r (suc n) = ap suc (from-length f (suc r) n)
