@@ -4,6 +4,7 @@ pub mod Defaults
 pub mod Jobs
 pub mod Lookups
 pub mod Pieces
+pub mod Plans
 pub mod Reading
 pub mod Settled
 pub mod Writer

@@ -16,15 +16,16 @@ use Rattle.draft.specs.Meaning.{MeanSame, Realises}
 use Rattle.draft.specs.Strings.{Text, textsOf, costs}
 use Rattle.draft.specs.Writable.{writableWithin}
 use Rattle.draft.specs.Written.{messageOf, rowsOf}
-use Rattle.exact.proofs.Realising.{same-meaning}
+use Rattle.exact.proofs.Realising.{counts, same-meaning}
 use Rattle.exact.proofs.Deriving.{message-make, sound}
-use Rattle.exact.proofs.Concluding.{begins}
+use Rattle.exact.proofs.Concluding.{begins, reads, begins-once}
 use Rattle.written.specs.Derivable.{DerivesRows}
 use Rattle.written.proofs.Sending.{texts}
 use Rattle.written.proofs.Forming.{strings, form, fixed, texts-same, items-same, form-length}
 use Rattle.written.proofs.Limiting.{below-take}
 use Rattle.written.proofs.Measuring.{measured}
-use Rattle.written.proofs.Concluding.{meant}
+use Rattle.written.proofs.Concluding.{meant, begins-with}
+use Rattle.plans.specs.Plans.{sentsFrom, planned}
 use Rattle.prices.specs.Prices.{total, bound}
 use Rattle.planning.proofs.Positions.{message-in}
 use Rattle.planning.proofs.Certified.{shortest}
@@ -78,3 +79,26 @@ no-shorter {s} {t} {xs} {ys} {cs} fs prices room deep {used} m q p b e z =
     let x : texts (h .derived .sents) ≡ texts fs = n .same ∙ ap strings (sym i) ∙ sym (texts-same m) ∙ sym q in
     let y : costs fs ≤ costs (h .derived .sents) = shortest 256 prices fs (rw q p) (h .derived .sents) x (h .derived .legal) w in
     (omega (arith, message-length m fs q, n .size, ap fixed i, y, length-take-le used t (h .inside)), h .inside)
+
+-- the plan's message is settled by the meaning and the plan
+pub planned-same :
+    {s t : List ℕ} {xs ys : List Row} {cs ds : List Cell} (plan : List ℕ) → Realises s 0 xs cs → Realises t 0 ys ds → MeanSame s t xs ys
+    → planned s xs plan ≡ planned t ys plan
+unfolding planned
+planned-same {s} {t} {xs} {ys} {cs} {ds} plan m k z =
+    let i : cs ≡ ds = same-meaning m k .0 z in
+    let e : textsOf s xs ≡ textsOf t ys = texts-same m ∙ ap strings i ∙ sym (texts-same k) in
+    let fs : List Sent = sentsFrom plan 0 (textsOf t ys) in
+    rw e (message-formed m fs ∙ ap (λ (l : List Cell). prefix ++ form l fs) i ∙ sym (message-formed k fs))
+
+-- tables with whose meanings the same bytes are derived mean the same
+pub derived-once : {d e : ℕ} {zs s t : List ℕ} {xs ys : List Row} → DerivesRows d zs s xs → DerivesRows e zs t ys → MeanSame s t xs ys
+derived-once {zs = zs} g h = same-meaning (g .meaning) (h .meaning) .1 (begins-once (zs ++ []) (begins-with [] (g .derived)) (begins-with [] (h .derived)) .1)
+
+-- what is derived is read, whatever follows, with the meaning
+pub derived-reads :
+    {d : ℕ} {zs s : List ℕ} {xs : List Row} → DerivesRows d zs s xs → (more : List ℕ) (room deep : ℕ) → length xs ≤ room → d ≤ deep
+    → (others : List Row) × (book : Book) × (message (zs ++ more) room deep ≡ got others (length zs) book) × MeanSame s (zs ++ more) xs others
+derived-reads {zs = zs} g more room deep l h =
+    let r = reads (zs ++ more) room deep (begins-with more (g .derived)) (omega (arith, counts (g .meaning))) h in
+    (r .rows, r .book, r .is, same-meaning (g .meaning) (r .realises) .1 refl)
