@@ -5,8 +5,6 @@ use mathlib.Core.Bool.{Bool, true, false, _&&_, _||_, not}
 use mathlib.Core.Option.{Option, some, none}
 use mathlib.Core.List.{List, [], _∷_}
 use native.Mathlib.Omega.{arith}
-use mir.Syntax.{w64}
-use mir.Val.{Fits}
 use lib.ListN.{length}
 use lib.Dec.{eqb, leb}
 use borrow.Author.Tests.{eqb-true, eq-eqb, ne-eqb, leb-true, leb-false, le-leb, lt-leb}
@@ -87,12 +85,6 @@ pub firsts-known : {t : ℕ → Text} {n : ℕ} {fs tw : List ℕ} {cheap : Bool
 firsts-known g q = g .firsts q
 
 module _ {t : ℕ → Text} {ys : List ℕ} {n least prices : ℕ} (p : Priced t ys n least prices) where
-  pub prices-fit : n ≤ 4096 → Fits w64 (256 * prices)
-  prices-fit h = omega (arith, p .few)
-
-  pub sum-fits : {paid : ℕ} → n ≤ 4096 → paid ≤ 65536 → Fits w64 (paid + 256 * prices)
-  sum-fits h k = omega (arith, p .few)
-
   pub reaches : (paid : ℕ) → Reaches t n ys paid (leb (paid + 256 * prices) least)
   reaches paid = record { says = λ h. rw (p .prices-is, p .least-is) }
 

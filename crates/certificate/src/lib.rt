@@ -81,14 +81,7 @@ fn judge_rows(
 }
 
 // The same, with arrays for as many rows as a table may have.
-fn judge(
-    table: &[u32],
-    room: usize,
-    rows: usize,
-    text: &[u8],
-    plan: &[u8],
-    prices: &[u32],
-) -> bool
+fn judge(table: &[u32], room: usize, rows: usize, text: &[u8], plan: &[u8], prices: &[u32]) -> bool
     requires { ⌜ Ready rows room (length (now table)) × (length (now text) ≤ 65536) ⌝ }
     ensures { λ b. ⌜ Judged (now (text .entry)) (from (rowAt room (now (table .entry))) 0 rows) (now (plan .entry)) (now (prices .entry)) b ⌝ }
 {

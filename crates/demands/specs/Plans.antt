@@ -284,8 +284,7 @@ same-bytes T T′ rows rows′ s s′ p out₀ out₁ out out′ w w′ d d′ =
     let a′ = was-accepted T′ rows′ s′ p out₁ out′ d′ in
     let g = message-derived T rows s (a .shape) w p (a .takes) in
     let g′ = message-derived T′ rows′ s′ (a′ .shape) w′ p (a′ .takes) in
-    rw (first-bytes T rows s p out₀ out d, first-bytes T′ rows′ s′ p out₁ out′ d′)
-    (
+    rw (first-bytes T rows s p out₀ out d, first-bytes T′ rows′ s′ p out₁ out′ d′) (
       λ z.
           let f : written s (rowsOf 4096 T rows) ≡ written s′ (rowsOf 4096 T′ rows′) = one-form T rows s T′ rows′ s′ w w′ (a .shape) (a′ .shape) .0 z in
           let h : planned s (rowsOf 4096 T rows) p ≡ planned s′ (rowsOf 4096 T′ rows′) p = plan.planned-same p (g .meaning) (g′ .meaning) z in

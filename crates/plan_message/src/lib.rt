@@ -103,16 +103,7 @@ fn put_message(
     ensures { λ n. ⌜ Put (planned (now (text .entry)) (from (rowAt room (now (table .entry))) 0 rows) (now (plan .entry))) (now (output .entry)) (now (output .exit)) n ⌝ }
 {
     output::put_bytes(output, b"binmode-rpc:");
-    12
-        + put_items(
-            table,
-            room,
-            rows,
-            text,
-            strings,
-            plan,
-            &mut output[12..],
-        )
+    12 + put_items(table, room, rows, text, strings, plan, &mut output[12..])
 }
 
 // The plan's message, which has n bytes, where it is short enough and there is room for it, and zeros behind it; else zeros.

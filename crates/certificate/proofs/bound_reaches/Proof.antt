@@ -1,4 +1,4 @@
-use Rattle.certificate.proofs.Judging.{firsts-known, prices-fit, sum-fits, reaches, too-many}
+use Rattle.certificate.proofs.Judging.{firsts-known, reaches, too-many}
 use borrow.Author.Needs.{needs}
 use Rattle.certificate.proofs.bound_reaches.Statement.{statement}
 use Rattle.certificate.proofs.bound_reaches.Tie as tie
@@ -7,8 +7,8 @@ pub bound-reaches-spec : {M : Type 1} → statement M
 bound-reaches-spec = tie.close (tie.spec
     (λ c κs. search needs)  -- scan-requires
     (λ c κs. (search needs, search needs, search needs, search needs, search needs, search needs, firsts-known (c .before .before .before .before .before .before .before .scan .ensures) (c .before .before .if1 .taken)))  -- price-requires
-    (λ c. search prices-fit)  -- mul-result
-    (λ c. search sum-fits)  -- add-result
+    (λ c. search needs)  -- mul-result
+    (λ c. search needs)  -- add-result
     (λ c. search needs)  -- same-length
     (λ c. search needs)  -- same-length-2
     (λ c. search reaches)  -- returns

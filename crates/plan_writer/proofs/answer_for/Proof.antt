@@ -1,5 +1,4 @@
 use Rattle.plan_writer.proofs.Answering.{answer-long, answer-short, answer-written}
-use borrow.Author.Needs.{needs}
 use Rattle.plan_writer.proofs.answer_for.Statement.{statement}
 use Rattle.plan_writer.proofs.answer_for.Tie as tie
 

@@ -14,7 +14,7 @@ send-spec = tie.close (tie.spec
     (λ c. search needs)  -- element-copy-out-k
     (λ c. search sending)  -- returns-3
     (λ c. search needs)  -- sub-text-of
-    (λ c κs. (search (recalled-there), search (recalled-words)))  -- text-of-requires
+    (λ c κs. (search (needs, recalled-there), search (needs, recalled-words)))  -- text-of-requires
     (λ c κs. search needs)  -- text-of-requires-2
     (λ c κs. search needs)  -- equal-requires
     (λ c. search sending)  -- returns-4

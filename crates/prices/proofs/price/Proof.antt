@@ -22,8 +22,7 @@ slice-write-marks c = omega (arith, first-there (c .before .before .before .befo
 
 loop-again : tie.Need-loop-again Inv-loop μ-loop
 loop-again c =
-    let first = c .before .before .before .before .before .before .before .before .before .before .before .before .before .before .before .pre .6 .at (c .before .before .before .before .before .before .before .before .before .loop .j) (c .before .before .before .before .before .before .before .before .loop-test .taken) in
-    (
+    let first = c .before .before .before .before .before .before .before .before .before .before .before .before .before .before .before .pre .6 .at (c .before .before .before .before .before .before .before .before .before .loop .j) (c .before .before .before .before .before .before .before .before .loop-test .taken) in (
       going-on (c .before .before .before .before .before .before .before .before .before .loop .inv .0)
           (record {
             in-range = c .before .before .before .before .before .before .before .before .loop-test .taken;
