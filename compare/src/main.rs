@@ -1,5 +1,5 @@
 //! Compares the proved library with the second implementation on generated
-//! messages, whole and in pieces, tables, job files and members: `compare SEED
+//! messages, whole and in pieces, tables, plans, job files and members: `compare SEED
 //! CALLS`. Ends with 1 where they differ.
 
 mod change;
@@ -12,6 +12,7 @@ mod lent;
 mod library;
 mod lookup;
 mod pieces;
+mod plans;
 mod reading;
 mod shortest;
 mod state;
@@ -22,6 +23,7 @@ use defaults::Texts;
 use job::Jobs;
 use lookup::Lookups;
 use pieces::InPieces;
+use plans::Plans;
 use reading::{Compared, Reading};
 use second::generate::Random;
 use std::process::ExitCode;
@@ -64,7 +66,10 @@ fn compare(run: &mut Run) -> Compared {
     let mut lookups = Lookups::new();
     let mut pieces = InPieces::new();
     let mut texts = Texts::new();
+    let mut plans = Plans::new();
     shortest::tried(&mut run.random)?;
+    plans.all_of_small(&mut run.random)?;
+    plans.many_texts(&mut run.random)?;
     doubles_and_dates::read(&mut run.random, &mut reading)?;
     doubles_and_dates::written(&mut run.random, &mut writing)?;
     lookups.decimals(&mut run.random)?;
@@ -80,6 +85,7 @@ fn compare(run: &mut Run) -> Compared {
         pieces.round(run)?;
         texts.round(run)?;
         writing.round(run)?;
+        plans.round(run)?;
         if run.random.one_in(4) {
             jobs.round(run)?;
         }

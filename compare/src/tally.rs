@@ -30,7 +30,7 @@ const MEANINGS: [&str; NUMBERS] = [
     "",
     "",
     "",
-    "",
+    "plan not taken",
     "",
     "no such card",
 ];
@@ -50,6 +50,7 @@ pub struct Tally {
     pub positions: [usize; NUMBERS],
     pub pieces: [usize; NUMBERS],
     pub texts: [usize; NUMBERS],
+    pub plans: [usize; NUMBERS],
 }
 
 impl Tally {
@@ -63,6 +64,7 @@ impl Tally {
             positions: [0; NUMBERS],
             pieces: [0; NUMBERS],
             texts: [0; NUMBERS],
+            plans: [0; NUMBERS],
         }
     }
 
@@ -112,6 +114,12 @@ impl Tally {
         self.texts[usize::from(number)] += 1;
     }
 
+    /// Notes a table written with a plan.
+    pub fn planned(&mut self, number: u8) {
+        self.left -= 1;
+        self.plans[usize::from(number)] += 1;
+    }
+
     pub fn print(&self) {
         let columns = [
             ("reading", &self.reading),
@@ -121,6 +129,7 @@ impl Tally {
             ("positions", &self.positions),
             ("in pieces", &self.pieces),
             ("texts", &self.texts),
+            ("plans", &self.plans),
         ];
         let line = |number: &str, meaning: &str, cells: Vec<String>| {
             let cells: String = cells.iter().map(|cell| format!(" {cell:>10}")).collect();

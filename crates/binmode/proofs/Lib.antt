@@ -2,4 +2,5 @@ pub mod Cards
 pub mod Choosing
 pub mod InPieces
 pub mod Looking
+pub mod Planning
 pub mod Reporting

@@ -15,8 +15,8 @@
 //! (`link/binmode.h`) holds of every slice in Rust: the pointer is not null and
 //! is aligned, its elements are there, `&mut` overlaps nothing else, and the
 //! bytes are at most `isize::MAX`. Every content and length has its answer. A
-//! thread needs the stack that [`STACK_READ`], [`STACK_LOOKUP`] and
-//! [`STACK_WRITE`] name; those of `std` have more.
+//! thread needs the stack that [`STACK_READ`], [`STACK_LOOKUP`],
+//! [`STACK_WRITE`] and [`STACK_PLAN`] name; those of `std` have more.
 //!
 //! Nothing is allocated. `docs/FORMAT.md` says what a message, a row and a job
 //! file are. The library is looked for where `rt staticlib binmode` puts it,
@@ -36,6 +36,7 @@ mod job;
 mod lookup;
 mod message;
 mod pieces;
+mod plan;
 mod refusal;
 pub mod sys;
 mod table;
@@ -44,6 +45,7 @@ pub use job::{Card, Cards, Job};
 pub use lookup::{Member, Position, Source};
 pub use message::{Message, read};
 pub use pieces::Pieces;
+pub use plan::Form;
 pub use refusal::{Reason, Refusal};
 pub use table::{Children, Item, Items, Kind, Members, Table, room, set_row};
 
@@ -64,3 +66,5 @@ pub const STACK_READ: usize = 65_536;
 pub const STACK_LOOKUP: usize = 49_152;
 /// What writing takes.
 pub const STACK_WRITE: usize = 196_608;
+/// What writing with a plan takes, and proving it shortest.
+pub const STACK_PLAN: usize = 262_144;

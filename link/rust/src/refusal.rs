@@ -51,6 +51,8 @@ pub enum Reason {
     TooManyDigits = 19,
     /// A key that its Struct has already, compared as bytes.
     RepeatedKey = 20,
+    /// The plan does not send the table's strings.
+    NotTaken = 24,
     /// A sound job ends before the card asked for.
     NoCard = 26,
 }
@@ -58,7 +60,7 @@ pub enum Reason {
 use Reason::*;
 
 impl Reason {
-    const ALL: [Reason; 21] = [
+    const ALL: [Reason; 22] = [
         Ended,
         WrongPrefix,
         UnexpectedByte,
@@ -79,6 +81,7 @@ impl Reason {
         NoMember,
         TooManyDigits,
         RepeatedKey,
+        NotTaken,
         NoCard,
     ];
 
@@ -129,6 +132,7 @@ impl Reason {
             NoMember => "the row is no Struct, or the member is absent or of the wrong sort",
             TooManyDigits => "a Double has more than 15 digits, or more than 22 after the point",
             RepeatedKey => "a key that its Struct has already",
+            NotTaken => "the plan does not send the table's strings",
             NoCard => "the job has no card of this number",
         }
     }
