@@ -83,8 +83,8 @@ static uint32_t (*const binmode_linked_version)(void) BINMODE_KEPT = binmode_ver
  */
 #define BINMODE_STACK_READ 65536   /* binmode_read, binmode_read_card, binmode_pieces_next */
 #define BINMODE_STACK_LOOKUP 49152 /* binmode_lookup, binmode_position, binmode_default_text */
-#define BINMODE_STACK_WRITE 196608 /* binmode_write */
-#define BINMODE_STACK_PLAN 262144  /* binmode_write_planned, binmode_proves_shortest */
+#define BINMODE_STACK_WRITE 65536  /* binmode_write */
+#define BINMODE_STACK_PLAN 131072  /* binmode_write_planned, binmode_proves_shortest */
 
 /* The answers: acceptance, or the number of a refusal; for a message in pieces also that more is wanted. */
 #define BINMODE_ACCEPTED 0

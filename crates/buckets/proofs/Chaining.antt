@@ -1,49 +1,21 @@
 -- What answers the returns and turns of the functions that find a text's first string by its bucket's chain. Assumes nothing.
-use Prim.Native.Nat.{ℕ, zero, suc, _+_, _-_, _*_, _%_, _≤_, _<_}
+use Prim.Native.Nat.{ℕ, zero, suc, _+_, _-_, _≤_, _<_}
 use mathlib.Core.Path.{_≡_, refl, sym, ap, _∙_}
 use mathlib.Core.Bool.{Bool, true, false}
 use mathlib.Core.List.{List}
 use native.Mathlib.Omega.{arith}
-use native.Mathlib.Nat.{mod-lt}
 use native.Mathlib.Numerals.{add-one}
-use lib.ListN.{length, getD, set, drop, replicate, length-set, length-replicate}
-use lib.Seq.{drop-cons, getD-set-same, getD-set-other}
-use borrow.Author.Tests.{lt-leb, le-leb}
+use lib.ListN.{length, getD, set, replicate, length-set}
+use lib.Seq.{getD-set-same, getD-set-other}
 use borrow.Author.Count.{below-more}
 use Rattle.text.specs.Texts.{same}
-use Rattle.text.proofs.Comparing.{clash, ended, same-is}
-use Rattle.draft.specs.Bytes.{part}
+use Rattle.text.proofs.Comparing.{clash, same-is}
 use Rattle.draft.specs.Strings.{Text}
+use Rattle.spread.specs.Buckets.{bucketOf}
 use Rattle.buckets.specs.Numbered.{First}
-use Rattle.buckets.specs.Chains.{mixed, bucketOf, On, here, next, Link, Linked, Chains, Ahead, Found}
+use Rattle.buckets.specs.Chains.{On, here, next, Link, Linked, Chains, Ahead, Found}
 use Rattle.occurring.proofs.Among.{same-eq, at-or-not}
 use Rattle.buckets.proofs.Numbered.{first-of, first-once}
-
--- the first i bytes are mixed in
-pub record Mix (start : ℕ) (s : List ℕ) (h i : ℕ) : Type 0 where
-  pub rest : mixed start s ≡ mixed h (drop i s)
-  pub small : h < 4096
-
-pub mix-first : (start : ℕ) (s : List ℕ) → start < 4096 → Mix start s start 0
-mix-first start s l = record { rest = refl; small = l }
-
-module _ {start : ℕ} {s : List ℕ} {h i : ℕ} (e : Mix start s h i) where
-  pub mix-again : {b : ℕ} → i < length s → b ≡ getD s i 0 → Mix start s ((h * 101 + b) % 4096) (i + 1)
-  unfolding mixed
-  mix-again {b} l q = record { rest = e .rest ∙ rw (add-one, drop-cons s i 0 l, q); small = mod-lt (h * 101 + b) (omega arith) }
-
-  pub mix-done : length s ≤ i → h ≡ mixed start s
-  unfolding mixed
-  mix-done l = sym (e .rest ∙ rw (ended s i l))
-
-module _ (t : Text) where
-  pub bucket-short : {r : ℕ} → length t ≤ 64 → r ≡ mixed 0 t → r ≡ bucketOf t
-  unfolding bucketOf
-  bucket-short l e = e ∙ rw (le-leb (length t) 64 l)
-
-  pub bucket-long : {q r : ℕ} {a z : List ℕ} → 64 < length t → q ≡ mixed 0 a → r ≡ mixed q z → a ≡ part t 0 32 → z ≡ part t (length t - 32) 32 → r ≡ bucketOf t
-  unfolding bucketOf
-  bucket-long l p e ea ez = e ∙ rw (lt-leb (length t) 64 l, p, ea, ez)
 
 on-some : {ns : List ℕ} {c k : ℕ} → On ns c k → 0 < c
 on-some here = omega arith
@@ -103,13 +75,13 @@ module _ {t : ℕ → Text} {j : ℕ} {ns : List ℕ} {c : ℕ} (a : Ahead t j n
 
 -- the chains' turn
 module _ {t : ℕ → Text} {j : ℕ} {hs ns : List ℕ} (a : Chains t j hs ns) where
-  pub chain-ahead : {h c : ℕ} {u : Text} → h ≡ bucketOf u → u ≡ t j → c ≡ getD hs h 0 → Ahead t j ns c
+  pub chain-ahead : {h c : ℕ} {u : Text} → h ≡ bucketOf (length hs) 0 u → u ≡ t j → c ≡ getD hs h 0 → Ahead t j ns c
   chain-ahead q r p =
       rw (p, q, r)
       (record {
-        link = a .heads (bucketOf (t j));
+        link = a .heads (bucketOf (length hs) 0 (t j));
         links = a .links;
-        on = λ k l f r. rw (ap bucketOf r) at (a .on k l f);
+        on = λ k l f r. rw (ap (bucketOf (length hs) 0) r) at (a .on k l f);
       })
 
   -- a text that stood before
@@ -120,8 +92,8 @@ module _ {t : ℕ → Text} {j : ℕ} {hs ns : List ℕ} (a : Chains t j hs ns) 
         chains =
             rw add-one
             (record {
-              buckets = a .buckets;
-              room = a .room;
+              some = a .some;
+              most = a .most;
               heads = λ b. link-more (a .heads b);
               links = record { at = λ k l i. a .links .at k (less k l i) i };
               on = λ k l i. a .on k (less k l i) i;
@@ -132,15 +104,9 @@ module _ {t : ℕ → Text} {j : ℕ} {hs ns : List ℕ} (a : Chains t j hs ns) 
       less k = at-or-not (λ (k : ℕ). k < suc j → First t k k → k < j) k j (λ l i. absurd (o (first-once t e i))) (λ n l i. omega (arith, n))
 
   -- a new text, put in front on its bucket's chain
-  module _ {f h : ℕ} {u : Text} (e : First t j f) (new : f ≡ j) (eu : h ≡ bucketOf u) (et : u ≡ t j) (hh : h < 4096) (hj : j < 4096) where
-    eh : h ≡ bucketOf (t j)
-    eh = eu ∙ ap bucketOf et
-
-    lh : h < length hs
-    lh = omega (arith, a .buckets)
-
-    ln : j < length ns
-    ln = omega (arith, a .room)
+  module _ {f h : ℕ} {u : Text} (e : First t j f) (new : f ≡ j) (eu : h ≡ bucketOf (length hs) 0 u) (et : u ≡ t j) (lh : h < length hs) (ln : j < length ns) where
+    eh : h ≡ bucketOf (length hs) 0 (t j)
+    eh = eu ∙ ap (bucketOf (length hs) 0) et
 
     own : First t j j
     own = rw new at e
@@ -164,8 +130,8 @@ module _ {t : ℕ → Text} {j : ℕ} {hs ns : List ℕ} (a : Chains t j hs ns) 
     on-old : (b k : ℕ) → On ns′ (getD hs b 0) k → On ns′ (getD hs′ b 0) k
     on-old b k = at-or-not (λ (b : ℕ). On ns′ (getD hs b 0) k → On ns′ (getD hs′ b 0) k) b h (λ o. rw (getD-set-same hs h (suc j) 0 lh) (next j k (rw (getD-set-same ns j (getD hs h 0) 0 ln) o))) (λ n o. rw (getD-set-other hs h b (suc j) 0 n) o)
 
-    on-more : (k : ℕ) → k < suc j → First t k k → On ns′ (getD hs′ (bucketOf (t k)) 0) k
-    on-more k = at-or-not (λ (k : ℕ). k < suc j → First t k k → On ns′ (getD hs′ (bucketOf (t k)) 0) k) k j (λ l i. rw (← eh, getD-set-same hs h (suc j) 0 lh) here) (λ n l i. on-old (bucketOf (t k)) k (on-set t j ns (getD hs h 0) (a .links) (a .heads (bucketOf (t k))) (a .on k (omega (arith, n)) i)))
+    on-more : (k : ℕ) → k < suc j → First t k k → On ns′ (getD hs′ (bucketOf (length hs′) 0 (t k)) 0) k
+    on-more k = rw length-set (at-or-not (λ (k : ℕ). k < suc j → First t k k → On ns′ (getD hs′ (bucketOf (length hs) 0 (t k)) 0) k) k j (λ l i. rw (← eh, getD-set-same hs h (suc j) 0 lh) here) (λ n l i. on-old (bucketOf (length hs) 0 (t k)) k (on-set t j ns (getD hs h 0) (a .links) (a .heads (bucketOf (length hs) 0 (t k))) (a .on k (omega (arith, n)) i))))
 
     pub found-new : Found t j (set hs h (j + 1)) (set ns j (getD hs h 0)) j
     found-new =
@@ -174,8 +140,8 @@ module _ {t : ℕ → Text} {j : ℕ} {hs ns : List ℕ} (a : Chains t j hs ns) 
           chains =
               rw add-one
               (record {
-                buckets = simp length-set (a .buckets);
-                room = simp length-set (a .room);
+                some = simp length-set (a .some);
+                most = simp length-set (a .most);
                 heads = heads-more;
                 links = links-more;
                 on = on-more;
@@ -188,14 +154,14 @@ getD-zeros zero i = refl
 getD-zeros (suc n) zero = refl
 getD-zeros (suc n) (suc i) = getD-zeros n i
 
-pub chains-none : (t : ℕ → Text) → Chains t 0 (replicate 4096 0) (replicate 4096 0)
-chains-none t =
+pub chains-none : (t : ℕ → Text) {hs ns : List ℕ} → hs ≡ replicate (length hs) 0 → 0 < length hs → length hs ≤ 4096 → Chains t 0 hs ns
+chains-none t {hs} z h m =
     record {
-      buckets = length-replicate {A = ℕ} 4096 0;
-      room = length-replicate {A = ℕ} 4096 0;
-      heads = λ b. rw (getD-zeros 4096 b) (record { within = omega arith; first = λ k q. absurd (omega arith) });
+      some = h;
+      most = m;
+      heads = λ b. rw (z, getD-zeros (length hs) b) (record { within = omega arith; first = λ k q. absurd (omega arith) });
       links = record { at = λ k l. absurd (omega arith) };
       on = λ k l. absurd (omega arith);
     }
 
-pub ruleset chaining = (mix-first, mix-again, mix-done, bucket-short, bucket-long, walk-here, walk-less, walk-again, walk-none, chain-ahead, found-old, found-new, chains-none)
+pub ruleset chaining = (walk-here, walk-less, walk-again, walk-none, chain-ahead, found-old, found-new, chains-none)

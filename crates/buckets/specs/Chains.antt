@@ -1,22 +1,11 @@
--- Buckets of texts, and of each bucket the chain of the strings that are the first of their text. Assumes nothing.
-use Prim.Native.Nat.{ℕ, suc, _+_, _-_, _*_, _%_, _≤_, _<_}
+-- Of each bucket of texts the chain of the strings that are the first of their text. Assumes nothing.
+use Prim.Native.Nat.{ℕ, suc, _+_, _≤_, _<_}
 use mathlib.Core.Path.{_≡_}
-use mathlib.Core.Bool.{cond}
-use mathlib.Core.List.{List, [], _∷_}
+use mathlib.Core.List.{List}
 use lib.ListN.{length, getD}
-use lib.Dec.{leb}
-use Rattle.draft.specs.Bytes.{part}
 use Rattle.draft.specs.Strings.{Text}
+use Rattle.spread.specs.Buckets.{bucketOf}
 use Rattle.buckets.specs.Numbered.{First}
-
--- bytes mixed into a number below 4,096
-unfoldable pub mixed : ℕ → List ℕ → ℕ
-mixed h [] = h
-mixed h (b ∷ s) = mixed ((h * 101 + b) % 4096) s
-
--- a text's bucket: of its bytes, if they are at most 64, else of the first and the last 32
-unfoldable pub bucketOf : Text → ℕ
-bucketOf t = cond (leb (length t) 64) (mixed 0 t) (mixed (mixed 0 (part t 0 32)) (part t (length t - 32) 32))
 
 -- string k is on the chain from c on: k + 1 stands for string k, behind which comes its link; 0 is the end
 pub data On (ns : List ℕ) : ℕ → ℕ → Type 0 where
@@ -34,11 +23,11 @@ pub record Linked (t : ℕ → Text) (n : ℕ) (ns : List ℕ) : Type 0 where
 
 -- the chains, by their heads and links: each first string below n is on the chain of its text's bucket
 pub record Chains (t : ℕ → Text) (n : ℕ) (hs ns : List ℕ) : Type 0 where
-  pub buckets : length hs ≡ 4096
-  pub room : length ns ≡ 4096
+  pub some : 0 < length hs
+  pub most : length hs ≤ 4096
   pub heads : (b : ℕ) → Link t n (getD hs b 0)
   pub links : Linked t n ns
-  pub on : (k : ℕ) → k < n → First t k k → On ns (getD hs (bucketOf (t k)) 0) k
+  pub on : (k : ℕ) → k < n → First t k k → On ns (getD hs (bucketOf (length hs) 0 (t k)) 0) k
 
 -- the chain from c on has the first string of string j's text, if an earlier string has that text
 pub record Ahead (t : ℕ → Text) (j : ℕ) (ns : List ℕ) (c : ℕ) : Type 0 where

@@ -2,16 +2,33 @@
 use Prim.Native.Nat.{ℕ, zero, suc, _+_, _-_, _*_, _≤_, _<_}
 use mathlib.Core.Path.{_≡_}
 use mathlib.Core.List.{List, [], _∷_}
-use lib.ListN.{getD}
+use lib.ListN.{length, getD}
 use lib.Dec.{ltb}
 use Rattle.text.specs.Texts.{among}
-use Rattle.draft.specs.Bytes.{part}
+use Rattle.draft.specs.declared.Row.{Row}
+use Rattle.draft.specs.Read.{textOf}
 use Rattle.draft.specs.Table.{from}
 use Rattle.draft.specs.Strings.{Text}
 
--- the text of string j
-unfoldable pub textAt : List ℕ → List ℕ → ℕ → Text
-textAt W s j = part s (getD W (j * 2) 0) (getD W (j * 2 + 1) 0)
+-- the text of string j, whose row the words have
+unfoldable pub textAt : (ℕ → Row) → List ℕ → List ℕ → ℕ → Text
+textAt row W s j = textOf s (row (getD W j 0))
+
+-- of n strings the words have the rows, which a table of so many words has
+pub record Strings (room words n : ℕ) (W : List ℕ) : Type 0 where
+  pub table : room * 4 ≤ words
+  pub most : room ≤ 4096
+  pub few : n ≤ 4096
+  pub there : n ≤ length W
+  pub rows : (k : ℕ) → k < n → getD W k 0 < room
+
+-- the same of string j and those before it
+pub record Through (room words j : ℕ) (W : List ℕ) : Type 0 where
+  pub table : room * 4 ≤ words
+  pub most : room ≤ 4096
+  pub few : j < 4096
+  pub there : j < length W
+  pub rows : (k : ℕ) → k ≤ j → getD W k 0 < room
 
 -- the texts before string j, the newest first
 unfoldable pub before : (ℕ → Text) → ℕ → List Text

@@ -5,7 +5,9 @@ use mathlib.Core.Bool.{Bool, true, false, _&&_, _||_, not}
 use mathlib.Core.Option.{Option, some, none}
 use mathlib.Core.List.{List, [], _∷_}
 use native.Mathlib.Omega.{arith}
-use lib.ListN.{length}
+use mir.Syntax.{w64}
+use mir.Val.{Fits}
+use lib.ListN.{length, replicate}
 use lib.Dec.{eqb, leb}
 use borrow.Author.Tests.{eqb-true, eq-eqb, ne-eqb, leb-true, leb-false, le-leb, lt-leb}
 use Rattle.text.specs.Texts.{same, among}
@@ -16,7 +18,7 @@ use Rattle.draft.specs.Grammar.{Sent, regular, recorded, recalled, Recording, t
 use Rattle.draft.specs.Strings.{Text, textsOf, cost, costs}
 use Rattle.draft.specs.Writable.{writable, writableWithin}
 use Rattle.draft.specs.Written.{rowsOf}
-use Rattle.buckets.specs.Numbered.{textAt, Firsts}
+use Rattle.buckets.specs.Numbered.{textAt, Strings, Firsts}
 use Rattle.texts.specs.Contract.{newCost, news, Scanned}
 use Rattle.sending.specs.Contract.{Collected}
 use Rattle.plans.specs.Plans.{formAt, positionAt, sentBy, sentAt, sentsFrom, valued, holdsText, maySend, takenFrom, taken}
@@ -24,7 +26,7 @@ use Rattle.plans.proofs.Judging.{from-length, taken-long}
 use Rattle.prices.specs.Prices.{total, bound}
 use Rattle.prices.specs.Contract.{Priced}
 use Rattle.certificate.specs.Certificate.{proving, certifiedTexts, certified}
-use Rattle.certificate.specs.Contract.{Reaches, Judged}
+use Rattle.certificate.specs.Contract.{Heads, Reaches, Judged}
 
 -- the new texts cost no more than the strings of a plan that is taken: what is recorded was seen
 record Seen (seen : List Text) (R : List Recording) : Type 0 where
@@ -81,14 +83,26 @@ news-taken plan ts e =
     news-from plan [] 0 [] ts (record { at = λ p u q. let z : _≡_ {A = ℕ} 0 1 = cc in absurd (omega arith) }) (h .1)
 
 -- the bound
-pub firsts-known : {t : ℕ → Text} {n : ℕ} {fs tw : List ℕ} {cheap : Bool} → Scanned t n fs tw cheap → cheap ≡ true → Firsts t n fs
+pub firsts-known : {t : ℕ → Text} {n : ℕ} {fs : List ℕ} {cheap : Bool} → Scanned t n fs cheap → cheap ≡ true → Firsts t n fs
 firsts-known g q = g .firsts q
 
 module _ {t : ℕ → Text} {ys : List ℕ} {n least prices : ℕ} (p : Priced t ys n least prices) where
+  pub prices-fit : n ≤ 4096 → Fits w64 (256 * prices)
+  prices-fit h = omega (arith, p .few)
+
+  pub sum-fits : {paid : ℕ} → n ≤ 4096 → paid ≤ 65536 → Fits w64 (paid + 256 * prices)
+  sum-fits h k = omega (arith, p .few)
+
   pub reaches : (paid : ℕ) → Reaches t n ys paid (leb (paid + 256 * prices) least)
   reaches paid = record { says = λ h. rw (p .prices-is, p .least-is) }
 
-pub too-many : {t : ℕ → Text} {n : ℕ} {fs tw : List ℕ} {cheap : Bool} (ys : List ℕ) (paid : ℕ) → Scanned t n fs tw cheap → cheap ≡ false → Reaches t n ys paid false
+pub few-strings : {room words n : ℕ} {W : List ℕ} → Strings room words n W → n ≤ 4096
+few-strings h = h .few
+
+pub zero-heads : Heads (replicate 2048 0)
+zero-heads = record { clear = refl; some = omega arith; most = omega arith }
+
+pub too-many : {t : ℕ → Text} {n : ℕ} {fs : List ℕ} {cheap : Bool} (ys : List ℕ) (paid : ℕ) → Scanned t n fs cheap → cheap ≡ false → Reaches t n ys paid false
 too-many {t} {n} ys paid g q =
     let k : 65536 < news [] (from t 0 n) = leb-false (news [] (from t 0 n)) 65536 (sym (g .says) ∙ q) in
     record { says = λ h. absurd (omega arith) }
@@ -123,7 +137,7 @@ pub plan-long : (t : ℕ → Text) (plan : List ℕ) (n : ℕ) {b : Bool} → b 
 plan-long t plan n e f = omega (arith, taken-long t plan n (sym e ∙ f))
 
 -- rows
-pub of-strings : {row : ℕ → Row} {rows : ℕ} (s plan prices : List ℕ) {W : List ℕ} {n : ℕ} {b : Bool} → Collected row rows W n → b ≡ certifiedTexts plan prices (from (textAt W s) 0 n) → Judged s (from row 0 rows) plan prices b
+pub of-strings : {row : ℕ → Row} {rows : ℕ} (s plan prices : List ℕ) {W : List ℕ} {n : ℕ} {b : Bool} → Collected row rows W n → b ≡ certifiedTexts plan prices (from (textAt row W s) 0 n) → Judged s (from row 0 rows) plan prices b
 of-strings s plan prices c h = record { is = h ∙ ap (certifiedTexts plan prices) (sym (c .texts s)) }
 
 -- the whole table

@@ -1,12 +1,12 @@
 // Whether a plan and prices prove that no message with a table's meaning is shorter than the plan's. Any table, plan and prices may be given.
 ghost use mathlib.Core.Path.{_≡_};
-ghost use Prim.Native.Nat.{_*_, _≤_};
+ghost use Prim.Native.Nat.{_≤_};
 ghost use lib.ListN.{length};
 ghost use Rattle.draft.specs.Table.{rowAt, from};
 ghost use Rattle.extents.specs.Asked.{Ready};
-ghost use Rattle.buckets.specs.Numbered.{textAt};
+ghost use Rattle.buckets.specs.Numbered.{textAt, Strings};
 ghost use Rattle.certificate.specs.Certificate.{certifiedTexts, certified};
-ghost use Rattle.certificate.specs.Contract.{Reaches, Judged};
+ghost use Rattle.certificate.specs.Contract.{Heads, Reaches, Judged};
 
 // The most bytes that a message may have.
 pub const MOST_BYTES: usize = 65536;
@@ -15,21 +15,26 @@ pub const MOST_BYTES: usize = 65536;
 const POSITIONS: usize = 256;
 
 // Whether the prices prove that the first `count` strings cost no less than `cost` with 256 positions; no if the different texts alone take
-// over 65,536 bytes. It uses the lent arrays, which have a word for each string.
+// over 65,536 bytes. It uses the lent arrays: chains of
+// texts, whose heads are zeros, and a word for each string.
 fn bound_reaches(
-    strings: &[u32],
+    table: &[u32],
+    room: usize,
+    strings: &[u16],
     count: usize,
     text: &[u8],
     prices: &[u32],
     cost: usize,
-    firsts: &mut [usize],
+    firsts: &mut [u16],
+    heads: &mut [u16],
+    nexts: &mut [u16],
     marks: &mut [usize],
 ) -> bool
-    requires { ⌜ (count ≤ 4096) × (count * 2 ≤ length (now strings)) × (length (now text) ≤ 65536) × (length (now prices) ≡ count) × (cost ≤ 65536) × (count ≤ length (now firsts)) × (count ≤ length (now marks)) ⌝ }
-    ensures { λ b. ⌜ Reaches (textAt (now (strings .entry)) (now (text .entry))) count (now (prices .entry)) cost b ⌝ }
+    requires { ⌜ Strings room (length (now table)) count (now strings) × (length (now text) ≤ 65536) × (length (now prices) ≡ count) × (cost ≤ 65536) × (count ≤ length (now firsts)) × Heads (now heads) × (count ≤ length (now nexts)) × (count ≤ length (now marks)) ⌝ }
+    ensures { λ b. ⌜ Reaches (textAt (rowAt room (now (table .entry))) (now (strings .entry)) (now (text .entry))) count (now (prices .entry)) cost b ⌝ }
 {
-    if texts::scan(strings, count, text, firsts, marks) {
-        let bound = prices::price(strings, count, text, &firsts[..], prices, marks);
+    if texts::scan(table, room, strings, count, text, firsts, heads, nexts) {
+        let bound = prices::price(table, room, strings, count, text, &firsts[..], prices, marks);
         return cost + POSITIONS * bound.prices <= bound.least;
     }
     false
@@ -37,31 +42,35 @@ fn bound_reaches(
 
 // Of the first `count` strings.
 fn judge_strings(
-    strings: &[u32],
+    table: &[u32],
+    room: usize,
+    strings: &[u16],
     count: usize,
     text: &[u8],
     plan: &[u8],
     prices: &[u32],
-    firsts: &mut [usize],
+    firsts: &mut [u16],
+    heads: &mut [u16],
+    nexts: &mut [u16],
     marks: &mut [usize],
 ) -> bool
-    requires { ⌜ (count ≤ 4096) × (count * 2 ≤ length (now strings)) × (length (now text) ≤ 65536) × (count ≤ length (now firsts)) × (count ≤ length (now marks)) ⌝ }
-    ensures { λ b. ⌜ b ≡ certifiedTexts (now (plan .entry)) (now (prices .entry)) (from (textAt (now (strings .entry)) (now (text .entry))) 0 count) ⌝ }
+    requires { ⌜ Strings room (length (now table)) count (now strings) × (length (now text) ≤ 65536) × (count ≤ length (now firsts)) × Heads (now heads) × (count ≤ length (now nexts)) × (count ≤ length (now marks)) ⌝ }
+    ensures { λ b. ⌜ b ≡ certifiedTexts (now (plan .entry)) (now (prices .entry)) (from (textAt (rowAt room (now (table .entry))) (now (strings .entry)) (now (text .entry))) 0 count) ⌝ }
 {
-    if plans::taken(strings, count, text, plan) {
+    if plans::taken(table, room, strings, count, text, plan) {
         if prices.len() != count {
             return false;
         }
-        let cost = plans::cost(strings, count, text, plan);
+        let cost = plans::cost(table, room, strings, count, text, plan);
         if MOST_BYTES < cost {
             return false;
         }
-        return bound_reaches(strings, count, text, prices, cost, firsts, marks);
+        return bound_reaches(table, room, strings, count, text, prices, cost, firsts, heads, nexts, marks);
     }
     false
 }
 
-// Of the rows of a writable table, with lent arrays for their strings, the first string of each text, and a mark for each string.
+// Of the rows of a writable table, with lent arrays.
 fn judge_rows(
     table: &[u32],
     room: usize,
@@ -69,15 +78,17 @@ fn judge_rows(
     text: &[u8],
     plan: &[u8],
     prices: &[u32],
-    strings: &mut [u32],
-    firsts: &mut [usize],
+    strings: &mut [u16],
+    firsts: &mut [u16],
+    heads: &mut [u16],
+    nexts: &mut [u16],
     marks: &mut [usize],
 ) -> bool
-    requires { ⌜ Ready rows room (length (now table)) × (length (now text) ≤ 65536) × (rows * 2 ≤ length (now strings)) × (rows ≤ length (now firsts)) × (rows ≤ length (now marks)) ⌝ }
+    requires { ⌜ Ready rows room (length (now table)) × (length (now text) ≤ 65536) × (rows ≤ length (now strings)) × (rows ≤ length (now firsts)) × Heads (now heads) × (rows ≤ length (now nexts)) × (rows ≤ length (now marks)) ⌝ }
     ensures { λ b. ⌜ Judged (now (text .entry)) (from (rowAt room (now (table .entry))) 0 rows) (now (plan .entry)) (now (prices .entry)) b ⌝ }
 {
     let count = sending::collect(table, room, rows, strings);
-    judge_strings(&strings[..], count, text, plan, prices, firsts, marks)
+    judge_strings(table, room, &strings[..], count, text, plan, prices, firsts, heads, nexts, marks)
 }
 
 // The same, with arrays for as many rows as a table may have.
@@ -85,8 +96,10 @@ fn judge(table: &[u32], room: usize, rows: usize, text: &[u8], plan: &[u8], pric
     requires { ⌜ Ready rows room (length (now table)) × (length (now text) ≤ 65536) ⌝ }
     ensures { λ b. ⌜ Judged (now (text .entry)) (from (rowAt room (now (table .entry))) 0 rows) (now (plan .entry)) (now (prices .entry)) b ⌝ }
 {
-    let mut words = [0u32; 8192];
-    let mut firsts = [0usize; 4096];
+    let mut words = [0u16; 4096];
+    let mut firsts = [0u16; 4096];
+    let mut heads = [0u16; 2048];
+    let mut nexts = [0u16; 4096];
     let mut marks = [0usize; 4096];
     judge_rows(
         table,
@@ -97,6 +110,8 @@ fn judge(table: &[u32], room: usize, rows: usize, text: &[u8], plan: &[u8], pric
         prices,
         &mut words,
         &mut firsts,
+        &mut heads,
+        &mut nexts,
         &mut marks,
     )
 }

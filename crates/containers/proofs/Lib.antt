@@ -1,3 +1,3 @@
 pub mod Turns
 pub mod Nesting
-pub mod Keys
+pub mod Items

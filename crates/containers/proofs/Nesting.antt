@@ -1,23 +1,40 @@
--- What answers each return of the functions that walk items that hold others, by what they hold. Assumes nothing.
-use mathlib.Core.Path.{_≡_, refl, _∙_}
-use mathlib.Core.List.{List, []}
+-- What answers each return of the functions that walk Others, scalars and containers, by what they hold. Assumes nothing.
+use mathlib.Core.Path.{_≡_, refl, sym, _∙_}
+use mathlib.Core.Bool.{Bool, true, false, _||_}
+use mathlib.Core.List.{List}
 use Prim.Native.Nat.{ℕ, zero, suc, _+_, _-_, _≤_, _<_}
+use native.Mathlib.Omega.{arith}
 use native.Mathlib.Numerals.{sub-one}
-use borrow.Author.Tests.{lt-ltb, le-ltb}
+use lib.Dec.{eqb}
+use borrow.Author.Tests.{lt-ltb, le-ltb, eq-eqb, ne-eqb, eqb-true, eqb-false}
 use Rattle.draft.specs.declared.Refusal.{Refusal}
 use Rattle.draft.specs.declared.Verdict.{Verdict}
 use Rattle.draft.specs.declared.Verdict.the-variants.{Fine, Bad}
-use Rattle.draft.specs.declared.Content.the-variants.{Text}
+use Rattle.draft.specs.declared.Content.the-variants.{Double, DateTime, Binary, Text}
 use Rattle.draft.specs.declared.Item.{Item}
+use Rattle.draft.specs.declared.Item.the-variants.{
+  Call,
+  Response,
+  Fault,
+  Integer,
+  Boolean,
+  Content,
+  Array,
+  Struct,
+  Other,
+  Unknown,
+}
 use Rattle.draft.specs.declared.Extent.{Extent}
 use Rattle.draft.specs.declared.Extent.the-variants.{Until, Unfit}
 use Rattle.draft.specs.declared.Row.{Row}
-use Rattle.draft.specs.Rows.{itemOf}
+use Rattle.draft.specs.Rows.{pickItem, itemOf}
 use Rattle.draft.specs.Content.{nameRule}
 use Rattle.draft.specs.Bytes.{part}
 use Rattle.draft.specs.Read.{textOf}
-use Rattle.draft.specs.Writable.{Walk, over, contentItem, string, stringBy, name, pair, items, alike, nothing, member, keeping, arrayItem, structItem, item, value, nested, under}
-use Rattle.extents.proofs.Walking.{walking, only-there}
+use Rattle.draft.specs.Writable.{Walk, Nest, floor, under, over, contentItem, string, stringBy, name, pair, arrayItem, structItem, item, value, nested}
+use Rattle.extents.specs.Ends.{extentOf}
+use Rattle.extents.proofs.Walking.{walking, none-found, some-found, only-there}
+use Rattle.containers.specs.Items.{holdsItems, entries}
 
 pub pair-no : (f g : Walk) (r : ℕ) {o : Extent} → o ≡ f r → o ≡ Unfit → Unfit ≡ pair f g r
 unfolding pair
@@ -31,38 +48,116 @@ pair-on f g r h i j = j ∙ rw (← h, i)
 pub row-text-is : (s : List ℕ) {x y : Row} {t : List ℕ} → t ≡ part s (x .a) (x .b) → x ≡ y → t ≡ textOf s y
 row-text-is s e f = e ∙ rw f
 
+-- the kind of an Array or a Struct, or of neither
+pub holds-array : {k : ℕ} → k ≡ 9 → true ≡ holdsItems k
+unfolding holdsItems
+holds-array e = rw (eq-eqb _ _ e)
+
+pub holds-struct : {k : ℕ} → (k ≡ 9 → ⊥) → eqb k 10 ≡ holdsItems k
+unfolding holdsItems
+holds-struct n = rw (ne-eqb _ _ n)
+
+pub array-holds : {k : ℕ} → k ≡ 9 → holdsItems k ≡ true
+array-holds e = sym (holds-array e)
+
+pub struct-holds : {k : ℕ} → k ≡ 10 → holdsItems k ≡ true
+unfolding holdsItems
+struct-holds e = rw e
+
+abbrev Flat : Item → Type 0
+Flat Call = Unit {0}
+Flat Response = Unit {0}
+Flat Fault = Unit {0}
+Flat Integer = Unit {0}
+Flat Boolean = Unit {0}
+Flat (Content c) = Unit {0}
+Flat Array = ⊥
+Flat Struct = ⊥
+Flat Other = Unit {0}
+Flat Unknown = Unit {0}
+
+neither : (a b : Bool) → (a || b) ≡ false → (a ≡ false) × (b ≡ false)
+neither true b e = let z : _≡_ {A = ℕ} 0 1 = cc in absurd (omega arith)
+neither false b e = (refl, e)
+
+flat-kind : (k : ℕ) → holdsItems k ≡ false → Flat (itemOf k)
+unfolding itemOf holdsItems
+flat-kind k h =
+    let n = neither (eqb k 9) (eqb k 10) h in
+    chosen (eqb k 1) Call _ tt (chosen (eqb k 2) Response _ tt (chosen (eqb k 3) Fault _ tt (chosen (eqb k 4) Integer _ tt (chosen (eqb k 5) Boolean _ tt (chosen (eqb k 6) (Content Double) _ tt (chosen (eqb k 7) (Content DateTime) _ tt (chosen (eqb k 8) (Content Binary) _ tt (rw (n .0, n .1) (chosen (eqb k 11) (Content Text) _ tt (chosen (eqb k 12) Other Unknown tt tt))))))))))
+  where
+    chosen : (x : Bool) (i j : Item) → Flat i → Flat j → Flat (pickItem x i j)
+    chosen true i j f g = f
+    chosen false i j f g = g
+
+-- the item of a kind that holds items
+item-struct : {k : ℕ} → k ≡ 10 → itemOf k ≡ Struct
+unfolding itemOf
+item-struct e = rw e
+
+item-array : {k : ℕ} → k ≡ 9 → itemOf k ≡ Array
+unfolding itemOf
+item-array e = rw e
+
+array-kind : (k : ℕ) → holdsItems k ≡ true → eqb k 10 ≡ false → k ≡ 9
+unfolding holdsItems
+array-kind k h n = eqb-true k 9 (go (eqb k 9) (rw n at h))
+  where
+    go : (a : Bool) → (a || false) ≡ true → a ≡ true
+    go true e = refl
+    go false e = e
+
 -- the rows of a table, and the text bytes
 module _ (row : ℕ → Row) (rows : ℕ) (s : List ℕ) where
   -- an Other's name
-  module _ (r : ℕ) {o : Extent} (h : o ≡ string row rows s r) where
-    pub name-no : o ≡ Unfit → Unfit ≡ name row rows s r
+  module _ (r : ℕ) {n : ℕ} (h : extentOf n ≡ string row rows s r) where
+    pub name-no : n ≡ 0 → Unfit ≡ name row rows s r
     unfolding stringBy
-    name-no i = rw (← h, i)
+    name-no i = rw (← h, none-found i)
 
-    module _ {k : ℕ} (i : o ≡ Until k) where
+    module _ (i : n ≡ 0 → ⊥) where
       pub string-there : r < rows
       unfolding string
-      string-there = only-there row rows s 11 (contentItem s Text) r h i
+      string-there = only-there row rows s 11 (contentItem s Text) r h (some-found i)
 
       module _ {t : List ℕ} {v : Verdict} (e : t ≡ textOf s (row r)) (j : v ≡ nameRule t) where
         pub name-bad : {m : Refusal} → v ≡ Bad m → Unfit ≡ name row rows s r
         unfolding stringBy
-        name-bad l = rw (← h, i, ← e, ← j, l)
+        name-bad l = rw (← h, some-found i, ← e, ← j, l)
 
-        pub name-fine : v ≡ Fine → Until k ≡ name row rows s r
+        pub name-fine : v ≡ Fine → extentOf n ≡ name row rows s r
         unfolding stringBy
-        name-fine l = rw (← h, i, ← e, ← j, l)
+        name-fine l = some-found i ∙ rw (← h, some-found i, ← e, ← j, l)
 
-  -- a Value, by its item
+  -- a Value that holds no others, by its item
+  pub scalar-is : (k r : ℕ) (x : Row) {i j : Item} {e : Extent} → i ≡ itemOf k → i ≡ j → e ≡ item row rows s j floor x r → e ≡ item row rows s (itemOf k) floor x r
+  scalar-is k r x g h l = l ∙ rw (← g, h)
+
+  any-nest : (i : Item) → Flat i → (n m : Nest) (x : Row) (r : ℕ) → item row rows s i n x r ≡ item row rows s i m x r
+  any-nest Call f n m x r = refl
+  any-nest Response f n m x r = refl
+  any-nest Fault f n m x r = refl
+  any-nest Integer f n m x r = refl
+  any-nest Boolean f n m x r = refl
+  any-nest (Content c) f n m x r = refl
+  any-nest Array f n m x r = absurd f
+  any-nest Struct f n m x r = absurd f
+  any-nest Other f n m x r = refl
+  any-nest Unknown f n m x r = refl
+
+  -- a Value, by what was fetched of its row
   pub value-past : (deep r : ℕ) → rows ≤ r → Unfit ≡ value row rows s deep r
   unfolding value
   value-past zero r h = rw (le-ltb r rows h)
   value-past (suc deep) r h = rw (le-ltb r rows h)
 
-  pub value-is : (deep r : ℕ) {x : Row} {i j : Item} {e : Extent} → r < rows → x ≡ row r → i ≡ itemOf (x .kind) → i ≡ j → e ≡ item row rows s j (nested row rows s deep) x r → e ≡ value row rows s deep r
+  pub value-is : (deep r : ℕ) {x : Row} {e : Extent} → r < rows → x ≡ row r → e ≡ item row rows s (itemOf (x .kind)) (nested row rows s deep) x r → e ≡ value row rows s deep r
   unfolding value nested
-  value-is zero r h f g k l = l ∙ rw (lt-ltb r rows h, ← f, ← g, k)
-  value-is (suc deep) r h f g k l = l ∙ rw (lt-ltb r rows h, ← f, ← g, k)
+  value-is zero r h f l = l ∙ rw (lt-ltb r rows h, ← f)
+  value-is (suc deep) r h f l = l ∙ rw (lt-ltb r rows h, ← f)
+
+  pub value-scalar : (deep r : ℕ) {x : Row} {e : Extent} → r < rows → x ≡ row r → holdsItems (x .kind) ≡ false → e ≡ item row rows s (itemOf (x .kind)) floor x r → e ≡ value row rows s deep r
+  value-scalar deep r {x} h f n l = value-is deep r h f (l ∙ any-nest (itemOf (x .kind)) (flat-kind (x .kind) n) floor (nested row rows s deep) x r)
 
   -- what may nest: nothing more, or a level less
   nested-less : (deep : ℕ) → (deep ≡ 0 → ⊥) → nested row rows s deep ≡ under (value row rows s (deep - 1))
@@ -70,20 +165,25 @@ module _ (row : ℕ → Row) (rows : ℕ) (s : List ℕ) where
   nested-less zero n = absurd (n refl)
   nested-less (suc deep) n = rw sub-one
 
-  module _ (deep : ℕ) (x : Row) (r : ℕ) where
-    pub array-deep : deep ≡ 0 → Unfit ≡ arrayItem (nested row rows s deep) x r
+  -- an Array or a Struct, by its kind
+  module _ (k : ℕ) (h : holdsItems k ≡ true) (deep : ℕ) (x : Row) (r : ℕ) where
+    pub contents-deep : deep ≡ 0 → Unfit ≡ item row rows s (itemOf k) (nested row rows s deep) x r
     unfolding nested
-    array-deep e = rw e
+    contents-deep z = go (eqb k 10) refl
+      where
+        go : (b : Bool) → eqb k 10 ≡ b → Unfit ≡ item row rows s (itemOf k) (nested row rows s deep) x r
+        go true e = rw (item-struct (eqb-true k 10 e), z)
+        go false e = rw (item-array (array-kind k h e), z)
 
-    pub struct-deep : deep ≡ 0 → Unfit ≡ structItem row rows s (nested row rows s deep) x r
-    unfolding nested
-    struct-deep e = rw e
+    pub contents-less : (deep ≡ 0 → ⊥) → {o e : Extent} (b : Bool) → eqb k 10 ≡ b → o ≡ entries row rows s b (value row rows s (deep - 1)) (x .b) (r + 1) → e ≡ over x o → e ≡ item row rows s (itemOf k) (nested row rows s deep) x r
+    unfolding entries
+    contents-less z true e i j = j ∙ rw (item-struct (eqb-true k 10 e), nested-less deep z, i)
+    contents-less z false e i j = j ∙ rw (item-array (array-kind k h e), nested-less deep z, i)
 
-    module _ (d : deep ≡ 0 → ⊥) {n : ℕ} {o e : Extent} (f : n ≡ x .b) where
-      pub array-less : o ≡ items (alike (value row rows s (deep - 1))) nothing n [] (r + 1) → e ≡ over x o → e ≡ arrayItem (nested row rows s deep) x r
-      array-less h i = i ∙ rw (nested-less deep d, h, f)
+  pub array-here : (k : ℕ) (nest : Nest) (x : Row) (r : ℕ) {e : Extent} → k ≡ 9 → e ≡ item row rows s (itemOf k) nest x r → e ≡ arrayItem nest x r
+  array-here k nest x r h i = rw (item-array h) at i
 
-      pub struct-less : o ≡ items (member row rows s (value row rows s (deep - 1))) (keeping row rows s) n [] (r + 1) → e ≡ over x o → e ≡ structItem row rows s (nested row rows s deep) x r
-      struct-less h i = i ∙ rw (nested-less deep d, h, f)
+  pub struct-here : (k : ℕ) (nest : Nest) (x : Row) (r : ℕ) {e : Extent} → k ≡ 10 → e ≡ item row rows s (itemOf k) nest x r → e ≡ structItem row rows s nest x r
+  struct-here k nest x r h i = rw (item-struct h) at i
 
-pub ruleset nesting = (walking, pair-no, pair-on, row-text-is, string-there, name-no, name-bad, name-fine, value-past, value-is, array-deep, struct-deep, array-less, struct-less)
+pub ruleset nesting = (walking, pair-no, pair-on, row-text-is, holds-array, holds-struct, array-holds, struct-holds, string-there, name-no, name-bad, name-fine, scalar-is)

@@ -1,22 +1,26 @@
-// The rows of items that hold others: Others, Arrays and Structs. Values, Arrays and Structs are walked in a cycle of calls, in which
-// `deep`, the nesting left, falls at each Array and Struct. The keys of all Structs are noted in the lent words `notes`.
+// The rows of items that hold others: Others, Arrays and Structs. `walk_items` walks the values of an Array or the pairs of a Struct, and
+// `walk_contents` what one of them holds; they call one another in a cycle, in which `deep`, the nesting left, falls at each Array and
+// Struct. The keys of all Structs are noted in the lent words `notes`. Items that hold no others are walked in the loop, by the only call
+// of `walk_scalar`: a function of a cycle is never inlined, and one that is called once always is.
 use draft::Content;
-use draft::Extent;
 use draft::Item;
 use draft::Row;
 use draft::Verdict;
 ghost use mathlib.Core.Path.{_≡_};
-ghost use mathlib.Core.List.{[]};
-ghost use Prim.Native.Nat.{_+_, _≤_, _<_};
+ghost use mathlib.Core.Bool.{true};
+ghost use Prim.Native.Nat.{_+_, _<_};
 ghost use lib.ListN.{length};
+ghost use Rattle.draft.specs.Rows.{itemOf};
 ghost use Rattle.draft.specs.Table.{rowAt};
 ghost use Rattle.draft.specs.Read.{textOf};
-ghost use Rattle.draft.specs.Writable.{contentItem, only, name, otherItem, arrayItem, structItem, value, nested, pair, items, alike, nothing, member, keeping};
+ghost use Rattle.draft.specs.Writable.{contentItem, only, name, otherItem, item, value, nested, floor, pair, arrayItem, structItem};
 ghost use Rattle.extents.specs.Asked.{Ready};
-ghost use Rattle.keys.specs.Notes.{named, keysOf, Noted};
-ghost use Rattle.key_rows.specs.Contract.{Entries, Walked, Joined};
+ghost use Rattle.extents.specs.Ends.{extentOf};
+ghost use Rattle.keys.specs.Notes.{named};
+ghost use Rattle.key_rows.specs.Contract.{Prepared, Done};
+ghost use Rattle.containers.specs.Items.{holdsItems as holdsItemsBy, entries};
 
-// The text of row r, or as much of it as lies in the text bytes; none where there is no such row.
+// The text of row r, or as much of it as lies in the text bytes.
 fn row_text<'a>(table: &[u32], room: usize, rows: usize, text: &'a [u8], r: usize) -> &'a [u8]
     requires { ⌜ Ready rows room (length (now table)) × (r < rows) ⌝ }
     ensures { λ t. ⌜ now t ≡ textOf (now (text .entry)) (rowAt room (now (table .entry)) r) ⌝ }
@@ -26,43 +30,140 @@ fn row_text<'a>(table: &[u32], room: usize, rows: usize, text: &'a [u8], r: usiz
 }
 
 // An Other's name.
-fn walk_name(table: &[u32], room: usize, rows: usize, text: &[u8], r: usize) -> Extent
+fn walk_name(table: &[u32], room: usize, rows: usize, text: &[u8], r: usize) -> usize
     requires { ⌜ Ready rows room (length (now table)) ⌝ }
-    ensures { λ e. ⌜ e ≡ name (rowAt room (now (table .entry))) rows (now (text .entry)) r ⌝ }
+    ensures { λ e. ⌜ extentOf e ≡ name (rowAt room (now (table .entry))) rows (now (text .entry)) r ⌝ }
 {
-    let extent = extents::walk_string(table, room, rows, text, r);
-    match extent {
-        Extent::Unfit => Extent::Unfit,
-        Extent::Until(next) => {
-            let verdict = content::judge_name(row_text(table, room, rows, text, r));
-            match verdict {
-                Verdict::Fine => Extent::Until(next),
-                Verdict::Bad(_) => Extent::Unfit,
-            }
-        }
+    let next = extents::walk_string(table, room, rows, text, r);
+    if next == 0 {
+        return 0;
+    }
+    let verdict = content::judge_name(row_text(table, room, rows, text, r));
+    match verdict {
+        Verdict::Fine => next,
+        Verdict::Bad(_) => 0,
     }
 }
 
 // An Other's name and its Binary.
-fn walk_name_and_binary(table: &[u32], room: usize, rows: usize, text: &[u8], r: usize) -> Extent
+fn walk_name_and_binary(table: &[u32], room: usize, rows: usize, text: &[u8], r: usize) -> usize
     requires { ⌜ Ready rows room (length (now table)) ⌝ }
-    ensures { λ e. ⌜ e ≡ pair (name (rowAt room (now (table .entry))) rows (now (text .entry))) (only (rowAt room (now (table .entry))) rows (now (text .entry)) 8 (contentItem (now (text .entry)) Content.Binary)) r ⌝ }
+    ensures { λ e. ⌜ extentOf e ≡ pair (name (rowAt room (now (table .entry))) rows (now (text .entry))) (only (rowAt room (now (table .entry))) rows (now (text .entry)) 8 (contentItem (now (text .entry)) Content.Binary)) r ⌝ }
 {
-    let extent = walk_name(table, room, rows, text, r);
-    match extent {
-        Extent::Unfit => Extent::Unfit,
-        Extent::Until(next) => extents::walk_only(table, room, rows, text, Content::Binary, next),
+    let next = walk_name(table, room, rows, text, r);
+    if next == 0 {
+        return 0;
+    }
+    extents::walk_only(table, room, rows, text, Content::Binary, next)
+}
+
+fn walk_other(table: &[u32], room: usize, rows: usize, text: &[u8], row: Row, r: usize) -> usize
+    requires { ⌜ Ready rows room (length (now table)) × (r < 4096) ⌝ }
+    ensures { λ e. ⌜ extentOf e ≡ otherItem (rowAt room (now (table .entry))) rows (now (text .entry)) row r ⌝ }
+{
+    let next = walk_name_and_binary(table, room, rows, text, r + 1);
+    extents::close_holding(2, row, next)
+}
+
+// A Value that holds no others.
+fn walk_scalar(table: &[u32], room: usize, rows: usize, text: &[u8], row: Row, r: usize) -> usize
+    requires { ⌜ Ready rows room (length (now table)) × (r < 4096) ⌝ }
+    ensures { λ e. ⌜ extentOf e ≡ item (rowAt room (now (table .entry))) rows (now (text .entry)) (itemOf (row .kind)) floor row r ⌝ }
+{
+    let item = draft::item_of(row.kind);
+    match item {
+        Item::Integer => extents::walk_integer(row, r),
+        Item::Boolean => extents::walk_boolean(row, r),
+        Item::Content(content) => extents::walk_content(text, content, row, r),
+        Item::Other => walk_other(table, room, rows, text, row, r),
+        Item::Array => 0,
+        Item::Struct => 0,
+        Item::Call => 0,
+        Item::Response => 0,
+        Item::Fault => 0,
+        Item::Unknown => 0,
     }
 }
 
-fn walk_other(table: &[u32], room: usize, rows: usize, text: &[u8], row: Row, r: usize) -> Extent
-    requires { ⌜ Ready rows room (length (now table)) × (r < 4096) ⌝ }
-    ensures { λ e. ⌜ e ≡ otherItem (rowAt room (now (table .entry))) rows (now (text .entry)) row r ⌝ }
+// Whether a kind is an Array's or a Struct's.
+fn holds_items(kind: u32) -> bool
+    ensures { λ b. ⌜ b ≡ holdsItemsBy kind ⌝ }
 {
-    let extent = walk_name_and_binary(table, room, rows, text, r + 1);
-    extents::close_holding(2, row, extent)
+    if kind == 9 {
+        return true;
+    }
+    kind == 10
 }
 
+// The Array or the Struct of row r.
+fn walk_contents(
+    table: &[u32],
+    room: usize,
+    rows: usize,
+    text: &[u8],
+    deep: usize,
+    row: Row,
+    r: usize,
+    notes: &mut [u16],
+) -> usize
+    requires { ⌜ (holdsItemsBy (row .kind) ≡ true) × (r < 4096) × Prepared (now text) room rows (now table) r (now notes) ⌝ }
+    ensures { λ e. ⌜ Done (item (rowAt room (now (table .entry))) rows (now (text .entry)) (itemOf (row .kind)) (nested (rowAt room (now (table .entry))) rows (now (text .entry)) deep) row r) (named (now (text .entry)) room (now (table .entry))) (now (notes .entry)) (now (notes .exit)) r e ⌝ }
+{
+    if deep == 0 {
+        return 0;
+    }
+    let keyed = row.kind == 10;
+    let n = row.b as usize;
+    let next = walk_items(table, room, rows, text, deep - 1, n, keyed, r + 1, notes);
+    extents::close_over(row, next)
+}
+
+// n items, one after the other, each behind its key if they have keys. Their Struct is known to the notes by the row where they begin.
+fn walk_items(
+    table: &[u32],
+    room: usize,
+    rows: usize,
+    text: &[u8],
+    deep: usize,
+    n: usize,
+    keyed: bool,
+    first: usize,
+    notes: &mut [u16],
+) -> usize
+    requires { ⌜ Prepared (now text) room rows (now table) first (now notes) ⌝ }
+    ensures { λ e. ⌜ Done (entries (rowAt room (now (table .entry))) rows (now (text .entry)) keyed (value (rowAt room (now (table .entry))) rows (now (text .entry)) deep) n first) (named (now (text .entry)) room (now (table .entry))) (now (notes .entry)) (now (notes .exit)) first e ⌝ }
+{
+    let mut left = n;
+    let mut here = first;
+    while 0 < left {
+        let at = key_rows::walk_key_if(keyed, table, room, rows, text, here, notes, first);
+        if at == 0 {
+            return 0;
+        }
+        if rows <= at {
+            return 0;
+        }
+        let row = table::get_row(table, room, at);
+        if holds_items(row.kind) {
+            let next = walk_contents(table, room, rows, text, deep, row, at, notes);
+            if next == 0 {
+                return 0;
+            }
+            here = next;
+            left -= 1;
+        } else {
+            let next = walk_scalar(table, room, rows, text, row, at);
+            if next == 0 {
+                return 0;
+            }
+            here = next;
+            left -= 1;
+        }
+    }
+    here
+}
+
+// The Value of row r: one item without a key.
 pub fn walk_value(
     table: &[u32],
     room: usize,
@@ -71,157 +172,15 @@ pub fn walk_value(
     deep: usize,
     r: usize,
     notes: &mut [u16],
-) -> Extent
-    requires { ⌜ Ready rows room (length (now table)) × Entries rows (length (now notes)) × Noted (named (now text) room (now table)) (now notes) r ⌝ }
-    ensures { λ e. ⌜ (e ≡ value (rowAt room (now (table .entry))) rows (now (text .entry)) deep r) × Walked (named (now (text .entry)) room (now (table .entry))) (now (notes .entry)) (now (notes .exit)) r e ⌝ }
+) -> usize
+    requires { ⌜ Prepared (now text) room rows (now table) r (now notes) ⌝ }
+    ensures { λ e. ⌜ extentOf e ≡ value (rowAt room (now (table .entry))) rows (now (text .entry)) deep r ⌝ }
 {
-    if rows <= r {
-        return Extent::Unfit;
-    }
-    let row = table::get_row(table, room, r);
-    let item = draft::item_of(row.kind);
-    match item {
-        Item::Integer => extents::walk_integer(row, r),
-        Item::Boolean => extents::walk_boolean(row, r),
-        Item::Content(content) => extents::walk_content(text, content, row, r),
-        Item::Array => walk_array(table, room, rows, text, deep, row, r, notes),
-        Item::Struct => walk_struct(table, room, rows, text, deep, row, r, notes),
-        Item::Other => walk_other(table, room, rows, text, row, r),
-        Item::Call => Extent::Unfit,
-        Item::Response => Extent::Unfit,
-        Item::Fault => Extent::Unfit,
-        Item::Unknown => Extent::Unfit,
-    }
-}
-
-// The Array of row r.
-fn walk_array(
-    table: &[u32],
-    room: usize,
-    rows: usize,
-    text: &[u8],
-    deep: usize,
-    row: Row,
-    r: usize,
-    notes: &mut [u16],
-) -> Extent
-    requires { ⌜ Ready rows room (length (now table)) × Entries rows (length (now notes)) × Noted (named (now text) room (now table)) (now notes) r × (r < 4096) ⌝ }
-    ensures { λ e. ⌜ (e ≡ arrayItem (nested (rowAt room (now (table .entry))) rows (now (text .entry)) deep) row r) × Walked (named (now (text .entry)) room (now (table .entry))) (now (notes .entry)) (now (notes .exit)) r e ⌝ }
-{
-    if deep == 0 {
-        return Extent::Unfit;
-    }
-    let n = row.b as usize;
-    let extent = walk_values(table, room, rows, text, deep - 1, n, r + 1, notes);
-    extents::close_over(row, extent)
-}
-
-fn walk_values(
-    table: &[u32],
-    room: usize,
-    rows: usize,
-    text: &[u8],
-    deep: usize,
-    n: usize,
-    first: usize,
-    notes: &mut [u16],
-) -> Extent
-    requires { ⌜ Ready rows room (length (now table)) × Entries rows (length (now notes)) × Noted (named (now text) room (now table)) (now notes) first ⌝ }
-    ensures { λ e. ⌜ (e ≡ items (alike (value (rowAt room (now (table .entry))) rows (now (text .entry)) deep)) nothing n [] first) × Walked (named (now (text .entry)) room (now (table .entry))) (now (notes .entry)) (now (notes .exit)) first e ⌝ }
-{
-    let mut left = n;
-    let mut here = first;
-    while 0 < left {
-        let extent = walk_value(table, room, rows, text, deep, here, notes);
-        match extent {
-            Extent::Unfit => {
-                return Extent::Unfit;
-            }
-            Extent::Until(next) => {
-                here = next;
-            }
-        }
-        left -= 1;
-    }
-    Extent::Until(here)
-}
-
-// The Struct of row r.
-fn walk_struct(
-    table: &[u32],
-    room: usize,
-    rows: usize,
-    text: &[u8],
-    deep: usize,
-    row: Row,
-    r: usize,
-    notes: &mut [u16],
-) -> Extent
-    requires { ⌜ Ready rows room (length (now table)) × Entries rows (length (now notes)) × Noted (named (now text) room (now table)) (now notes) r × (r < 4096) ⌝ }
-    ensures { λ e. ⌜ (e ≡ structItem (rowAt room (now (table .entry))) rows (now (text .entry)) (nested (rowAt room (now (table .entry))) rows (now (text .entry)) deep) row r) × Walked (named (now (text .entry)) room (now (table .entry))) (now (notes .entry)) (now (notes .exit)) r e ⌝ }
-{
-    if deep == 0 {
-        return Extent::Unfit;
-    }
-    let n = row.b as usize;
-    let extent = walk_pairs(table, room, rows, text, deep - 1, n, r + 1, notes);
-    extents::close_over(row, extent)
-}
-
-// A Struct's pairs. The Struct is known to the notes by the row where they begin.
-fn walk_pairs(
-    table: &[u32],
-    room: usize,
-    rows: usize,
-    text: &[u8],
-    deep: usize,
-    n: usize,
-    first: usize,
-    notes: &mut [u16],
-) -> Extent
-    requires { ⌜ (0 < first) × Ready rows room (length (now table)) × Entries rows (length (now notes)) × Noted (named (now text) room (now table)) (now notes) first ⌝ }
-    ensures { λ e. ⌜ (e ≡ items (member (rowAt room (now (table .entry))) rows (now (text .entry)) (value (rowAt room (now (table .entry))) rows (now (text .entry)) deep)) (keeping (rowAt room (now (table .entry))) rows (now (text .entry))) n [] first) × Walked (named (now (text .entry)) room (now (table .entry))) (now (notes .entry)) (now (notes .exit)) first e ⌝ }
-{
-    let mut left = n;
-    let mut here = first;
-    while 0 < left {
-        let extent = walk_pair(table, room, rows, text, deep, here, notes, first);
-        match extent {
-            Extent::Unfit => {
-                return Extent::Unfit;
-            }
-            Extent::Until(next) => {
-                here = next;
-            }
-        }
-        left -= 1;
-    }
-    Extent::Until(here)
-}
-
-// A key and its value.
-fn walk_pair(
-    table: &[u32],
-    room: usize,
-    rows: usize,
-    text: &[u8],
-    deep: usize,
-    r: usize,
-    notes: &mut [u16],
-    owner: usize,
-) -> Extent
-    requires { ⌜ (0 < owner) × (owner ≤ r) × Ready rows room (length (now table)) × Entries rows (length (now notes)) × Noted (named (now text) room (now table)) (now notes) r ⌝ }
-    ensures { λ e. ⌜ (e ≡ member (rowAt room (now (table .entry))) rows (now (text .entry)) (value (rowAt room (now (table .entry))) rows (now (text .entry)) deep) (keysOf (named (now (text .entry)) room (now (table .entry))) (now (notes .entry)) owner r) r) × Joined (named (now (text .entry)) room (now (table .entry))) (now (notes .entry)) (now (notes .exit)) owner r e ⌝ }
-{
-    let extent = key_rows::walk_key(table, room, rows, text, r, notes, owner);
-    match extent {
-        Extent::Unfit => Extent::Unfit,
-        Extent::Until(next) => walk_value(table, room, rows, text, deep, next, notes),
-    }
+    walk_items(table, room, rows, text, deep, 1, false, r, notes)
 }
 
 // An Array, where nothing else is allowed.
-pub fn walk_array_only(
+pub fn walk_array(
     table: &[u32],
     room: usize,
     rows: usize,
@@ -229,23 +188,23 @@ pub fn walk_array_only(
     deep: usize,
     r: usize,
     notes: &mut [u16],
-) -> Extent
-    requires { ⌜ Ready rows room (length (now table)) × Entries rows (length (now notes)) × Noted (named (now text) room (now table)) (now notes) r ⌝ }
-    ensures { λ e. ⌜ e ≡ only (rowAt room (now (table .entry))) rows (now (text .entry)) 9 (arrayItem (nested (rowAt room (now (table .entry))) rows (now (text .entry)) deep)) r ⌝ }
+) -> usize
+    requires { ⌜ Prepared (now text) room rows (now table) r (now notes) ⌝ }
+    ensures { λ e. ⌜ extentOf e ≡ only (rowAt room (now (table .entry))) rows (now (text .entry)) 9 (arrayItem (nested (rowAt room (now (table .entry))) rows (now (text .entry)) deep)) r ⌝ }
 {
     if rows <= r {
-        return Extent::Unfit;
+        return 0;
     }
     let row = table::get_row(table, room, r);
     if row.kind == 9 {
-        walk_array(table, room, rows, text, deep, row, r, notes)
+        walk_contents(table, room, rows, text, deep, row, r, notes)
     } else {
-        Extent::Unfit
+        0
     }
 }
 
 // A Struct, where nothing else is allowed.
-pub fn walk_struct_only(
+pub fn walk_struct(
     table: &[u32],
     room: usize,
     rows: usize,
@@ -253,17 +212,17 @@ pub fn walk_struct_only(
     deep: usize,
     r: usize,
     notes: &mut [u16],
-) -> Extent
-    requires { ⌜ Ready rows room (length (now table)) × Entries rows (length (now notes)) × Noted (named (now text) room (now table)) (now notes) r ⌝ }
-    ensures { λ e. ⌜ e ≡ only (rowAt room (now (table .entry))) rows (now (text .entry)) 10 (structItem (rowAt room (now (table .entry))) rows (now (text .entry)) (nested (rowAt room (now (table .entry))) rows (now (text .entry)) deep)) r ⌝ }
+) -> usize
+    requires { ⌜ Prepared (now text) room rows (now table) r (now notes) ⌝ }
+    ensures { λ e. ⌜ extentOf e ≡ only (rowAt room (now (table .entry))) rows (now (text .entry)) 10 (structItem (rowAt room (now (table .entry))) rows (now (text .entry)) (nested (rowAt room (now (table .entry))) rows (now (text .entry)) deep)) r ⌝ }
 {
     if rows <= r {
-        return Extent::Unfit;
+        return 0;
     }
     let row = table::get_row(table, room, r);
     if row.kind == 10 {
-        walk_struct(table, room, rows, text, deep, row, r, notes)
+        walk_contents(table, room, rows, text, deep, row, r, notes)
     } else {
-        Extent::Unfit
+        0
     }
 }

@@ -2,7 +2,7 @@
 use mathlib.Core.Path.{_≡_, refl, sym, _∙_}
 use mathlib.Core.Bool.{Bool, true, false}
 use mathlib.Core.List.{List}
-use Prim.Native.Nat.{ℕ, _≤_, _<_}
+use Prim.Native.Nat.{ℕ, zero, suc, _+_, _≤_, _<_}
 use native.Mathlib.Omega.{arith}
 use lib.Dec.{ltb, leb, eqb}
 use borrow.Author.Tests.{lt-ltb, le-ltb, le-leb, lt-leb, eq-eqb, ne-eqb, ltb-true}
@@ -17,6 +17,7 @@ use Rattle.draft.specs.declared.Row.{Row}
 use Rattle.draft.specs.Content.{verdict}
 use Rattle.draft.specs.Writable.{fit, Walk, closed, leaf, holding, sized, contentItem, only, string, item}
 use Rattle.extents.specs.Asked.{Ready}
+use Rattle.extents.specs.Ends.{extentOf}
 
 -- a test that was made
 module _ (a b : ℕ) (o : Extent) where
@@ -32,18 +33,33 @@ module _ (a b : ℕ) (o : Extent) where
   pub fit-gt : b < a → Unfit ≡ fit (leb a b) o
   fit-gt h = rw (lt-leb a b h)
 
--- where an item's row says that it ends
-module _ (x : Row) {o : Extent} {r : ℕ} (e : o ≡ Until r) where
-  pub closed-there : x .end ≡ r → Until r ≡ closed x o
-  closed-there h = rw (e, eq-eqb (x .end) r h)
+-- an extent, by its number
+pub none-found : {n : ℕ} → n ≡ 0 → extentOf n ≡ Unfit
+none-found h = rw h
 
-  pub closed-else : (x .end ≡ r → ⊥) → Unfit ≡ closed x o
-  closed-else h = rw (e, ne-eqb (x .end) r h)
+pub some-found : {n : ℕ} → (n ≡ 0 → ⊥) → extentOf n ≡ Until n
+some-found {n = zero} h = absurd (h refl)
+some-found {n = suc n} h = refl
+
+pub next-found : (r : ℕ) → extentOf (r + 1) ≡ Until (r + 1)
+next-found r = some-found (λ e. omega arith)
+
+-- where an item's row says that it ends
+module _ (x : Row) where
+  pub closed-there : (n : ℕ) → x .end ≡ n → extentOf n ≡ closed x (extentOf n)
+  closed-there zero h = refl
+  closed-there (suc n) h = rw (eq-eqb (x .end) (suc n) h)
+
+  pub closed-else : (n : ℕ) → (x .end ≡ n → ⊥) → Unfit ≡ closed x (extentOf n)
+  closed-else zero h = refl
+  closed-else (suc n) h = rw (ne-eqb (x .end) (suc n) h)
+
+  pub leaf-is : (r : ℕ) {e : Extent} → e ≡ closed x (extentOf (r + 1)) → e ≡ leaf x r
+  leaf-is r h = h ∙ rw (next-found r)
 
 -- what an item holds, as it was walked
-module _ (x : Row) {o p e : Extent} (h : o ≡ p) where
-  pub holding-on : (b : ℕ) → e ≡ holding b x o → e ≡ holding b x p
-  holding-on b i = i ∙ rw h
+pub holding-on : (x : Row) {o p e : Extent} → o ≡ p → (b : ℕ) → e ≡ holding b x o → e ≡ holding b x p
+holding-on x h b i = i ∙ rw h
 
 -- content
 module _ {c : ContentOf} (n : ℕ) where
@@ -115,4 +131,4 @@ row-few h l = omega (arith, h .stated, h .most)
 pub row-room : {r rows room words : ℕ} → Ready rows room words → r < rows → r < room
 row-room h l = omega (arith, h .stated)
 
-pub ruleset walking = (fit-eq, fit-ne, fit-le, fit-gt, closed-there, closed-else, holding-on, sized-double, sized-date, sized-binary, sized-text, content-large, content-bad, content-fine, only-past, only-not, only-else, only-here, only-there, string-is, row-few, row-room)
+pub ruleset walking = (fit-eq, fit-ne, fit-le, fit-gt, none-found, some-found, closed-there, closed-else, leaf-is, holding-on, sized-double, sized-date, sized-binary, sized-text, content-large, content-bad, content-fine, only-past, only-not, only-else, only-here, only-there, string-is, row-few, row-room)

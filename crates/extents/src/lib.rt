@@ -1,7 +1,7 @@
 // The rows of items that hold no others: what each row must say, and that it ends where the next row begins. Here is also what a
-// row that holds others must say, once they are walked.
+// row that holds others must say, once they are walked. A walk answers with the row behind what it walked, or 0 where that does not fit:
+// a number stays in a register where an enum would lie in memory.
 use draft::Content;
-use draft::Extent;
 use draft::Row;
 use draft::Verdict;
 ghost use mathlib.Core.Path.{_≡_};
@@ -11,72 +11,48 @@ ghost use Rattle.draft.specs.Rows.{kindOf};
 ghost use Rattle.draft.specs.Table.{rowAt};
 ghost use Rattle.draft.specs.Writable.{closed, leaf, over, holding, integerItem, booleanItem, sized as sizedBy, contentItem, only, string};
 ghost use Rattle.extents.specs.Asked.{Ready};
+ghost use Rattle.extents.specs.Ends.{extentOf};
 
 // What an item's row says of where it ends, against where what it holds does.
-fn close(row: Row, extent: Extent) -> Extent
-    ensures { λ e. ⌜ e ≡ closed row extent ⌝ }
+fn close(row: Row, next: usize) -> usize
+    ensures { λ e. ⌜ extentOf e ≡ closed row (extentOf next) ⌝ }
 {
-    match extent {
-        Extent::Unfit => Extent::Unfit,
-        Extent::Until(r) => {
-            let end = row.end as usize;
-            if end == r {
-                Extent::Until(r)
-            } else {
-                Extent::Unfit
-            }
-        }
-    }
+    let end = row.end as usize;
+    if end == next { next } else { 0 }
 }
 
-pub fn close_over(row: Row, extent: Extent) -> Extent
-    ensures { λ e. ⌜ e ≡ over row extent ⌝ }
+pub fn close_over(row: Row, next: usize) -> usize
+    ensures { λ e. ⌜ extentOf e ≡ over row (extentOf next) ⌝ }
 {
-    if row.a == 0 {
-        close(row, extent)
-    } else {
-        Extent::Unfit
-    }
+    if row.a == 0 { close(row, next) } else { 0 }
 }
 
-pub fn close_holding(b: u32, row: Row, extent: Extent) -> Extent
-    ensures { λ e. ⌜ e ≡ holding b row extent ⌝ }
+pub fn close_holding(b: u32, row: Row, next: usize) -> usize
+    ensures { λ e. ⌜ extentOf e ≡ holding b row (extentOf next) ⌝ }
 {
-    if row.b == b {
-        close_over(row, extent)
-    } else {
-        Extent::Unfit
-    }
+    if row.b == b { close_over(row, next) } else { 0 }
 }
 
 // An item with nothing below it.
-fn walk_leaf(row: Row, r: usize) -> Extent
+fn walk_leaf(row: Row, r: usize) -> usize
     requires { ⌜ r < 4096 ⌝ }
-    ensures { λ e. ⌜ e ≡ leaf row r ⌝ }
+    ensures { λ e. ⌜ extentOf e ≡ leaf row r ⌝ }
 {
-    close(row, Extent::Until(r + 1))
+    close(row, r + 1)
 }
 
-pub fn walk_integer(row: Row, r: usize) -> Extent
+pub fn walk_integer(row: Row, r: usize) -> usize
     requires { ⌜ r < 4096 ⌝ }
-    ensures { λ e. ⌜ e ≡ integerItem row r ⌝ }
+    ensures { λ e. ⌜ extentOf e ≡ integerItem row r ⌝ }
 {
-    if row.b == 0 {
-        walk_leaf(row, r)
-    } else {
-        Extent::Unfit
-    }
+    if row.b == 0 { walk_leaf(row, r) } else { 0 }
 }
 
-pub fn walk_boolean(row: Row, r: usize) -> Extent
+pub fn walk_boolean(row: Row, r: usize) -> usize
     requires { ⌜ r < 4096 ⌝ }
-    ensures { λ e. ⌜ e ≡ booleanItem row r ⌝ }
+    ensures { λ e. ⌜ extentOf e ≡ booleanItem row r ⌝ }
 {
-    if row.a <= 1 {
-        walk_integer(row, r)
-    } else {
-        Extent::Unfit
-    }
+    if row.a <= 1 { walk_integer(row, r) } else { 0 }
 }
 
 // Whether a length goes into the item's field for it.
@@ -92,18 +68,18 @@ fn sized(content: Content, n: u32) -> bool
 }
 
 // Content that lies inside the text bytes and keeps its rule.
-pub fn walk_content(text: &[u8], content: Content, row: Row, r: usize) -> Extent
+pub fn walk_content(text: &[u8], content: Content, row: Row, r: usize) -> usize
     requires { ⌜ r < 4096 ⌝ }
-    ensures { λ e. ⌜ e ≡ contentItem (now (text .entry)) content row r ⌝ }
+    ensures { λ e. ⌜ extentOf e ≡ contentItem (now (text .entry)) content row r ⌝ }
 {
     if sized(content, row.b) {
         let verdict = content::inspect(content, text, row.a as usize, row.b as usize);
         match verdict {
             Verdict::Fine => walk_leaf(row, r),
-            Verdict::Bad(_) => Extent::Unfit,
+            Verdict::Bad(_) => 0,
         }
     } else {
-        Extent::Unfit
+        0
     }
 }
 
@@ -115,24 +91,24 @@ pub fn walk_only(
     text: &[u8],
     content: Content,
     r: usize,
-) -> Extent
+) -> usize
     requires { ⌜ Ready rows room (length (now table)) ⌝ }
-    ensures { λ e. ⌜ e ≡ only (rowAt room (now (table .entry))) rows (now (text .entry)) (kindOf content) (contentItem (now (text .entry)) content) r ⌝ }
+    ensures { λ e. ⌜ extentOf e ≡ only (rowAt room (now (table .entry))) rows (now (text .entry)) (kindOf content) (contentItem (now (text .entry)) content) r ⌝ }
 {
     if rows <= r {
-        return Extent::Unfit;
+        return 0;
     }
     let row = table::get_row(table, room, r);
     if row.kind == draft::kind(content) {
         walk_content(text, content, row, r)
     } else {
-        Extent::Unfit
+        0
     }
 }
 
-pub fn walk_string(table: &[u32], room: usize, rows: usize, text: &[u8], r: usize) -> Extent
+pub fn walk_string(table: &[u32], room: usize, rows: usize, text: &[u8], r: usize) -> usize
     requires { ⌜ Ready rows room (length (now table)) ⌝ }
-    ensures { λ e. ⌜ e ≡ string (rowAt room (now (table .entry))) rows (now (text .entry)) r ⌝ }
+    ensures { λ e. ⌜ extentOf e ≡ string (rowAt room (now (table .entry))) rows (now (text .entry)) r ⌝ }
 {
     walk_only(table, room, rows, text, Content::Text, r)
 }

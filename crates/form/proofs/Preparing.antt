@@ -19,7 +19,7 @@ use Rattle.texts.specs.Contract.{newCost, news, Scanned}
 use Rattle.positions.specs.Contract.{Placed}
 use Rattle.sending.specs.Contract.{Collected}
 use Rattle.message.specs.Filled.{Filled}
-use Rattle.form.specs.Contract.{Prepared}
+use Rattle.form.specs.Contract.{Settled, Prepared}
 use Rattle.message.specs.Contract.{planned, Known}
 use Rattle.sending.proofs.Sending.{string-cost}
 use Rattle.message.proofs.Writing.{written-is}
@@ -59,35 +59,52 @@ news-written s xs =
     omega (arith, news-least (kept (textsOf s xs)) [] (textsOf s xs), costs-least s xs (plan (textsOf s xs)) (omega (arith, sents-many (kept (textsOf s xs)) [] (textsOf s xs))), ap length (written-is s xs) ∙ length-append prefix (planned s xs))
 
 -- what is known of the strings after they were scanned
-module _ {row : ℕ → Row} {rows : ℕ} {s W fs tw sp : List ℕ} {n : ℕ} {b : Bool} (c : Collected row rows W n) (d : Scanned (textAt W s) n fs tw b) where
-  pub prepared-known : b ≡ true → Placed n fs tw sp → length s ≤ 65536 → Prepared row rows s W fs sp true
-  prepared-known e p h =
+module _ {t : ℕ → Text} {n : ℕ} {fs sp : List ℕ} {b : Bool} (d : Scanned t n fs b) where
+  pub settled-known : b ≡ true → Placed n fs sp → Settled t n fs sp true
+  settled-known e p =
       record {
-        known =
-            λ f.
-            record {
-              count = n;
-              strings = c;
-              firsts = d .firsts e;
-              slots = rw (c .texts s) (p .at (textAt W s) (d .firsts e) (d .marks e));
-              room = d .room e;
-              room-spots = p .room;
-              short = h;
-            };
-        dear = λ f. clash refl f;
+        says = sym e ∙ d .says;
+        firsts = λ f. d .firsts e;
+        slots = λ f. p .at t (d .firsts e);
+        room = λ f. d .room e;
+        room-spots = λ f. p .room;
       }
 
-  pub prepared-dear : b ≡ false → Prepared row rows s W fs sp false
-  prepared-dear e =
-      let w : 65536 < news [] (from (textAt W s) 0 n) = leb-false (news [] (from (textAt W s) 0 n)) 65536 (sym (d .says) ∙ e) in
-      let q : news [] (textsOf s (from row 0 rows)) ≡ news [] (from (textAt W s) 0 n) = ap (news []) (c .texts s) in
-      record { known = λ f. clash f refl; dear = λ f. omega (arith, news-written s (from row 0 rows)) }
+  pub settled-dear : b ≡ false → Settled t n fs sp false
+  settled-dear e =
+      record {
+        says = sym e ∙ d .says;
+        firsts = λ f. clash f refl;
+        slots = λ f. clash f refl;
+        room = λ f. clash f refl;
+        room-spots = λ f. clash f refl;
+      }
+
+pub prepared-settled : {row : ℕ → Row} {rows : ℕ} {s W fs sp : List ℕ} {n : ℕ} {b : Bool} → Collected row rows W n → Settled (textAt row W s) n fs sp b → length s ≤ 65536 → Prepared row rows s W fs sp b
+prepared-settled {row} {rows} {s} {W} {n = n} {b = b} c d h =
+    record {
+      known =
+          λ e.
+          record {
+            count = n;
+            strings = c;
+            firsts = d .firsts e;
+            slots = rw (c .texts s) (d .slots e);
+            room = d .room e;
+            room-spots = d .room-spots e;
+            short = h;
+          };
+      dear = λ e.
+          let w : 65536 < news [] (from (textAt row W s) 0 n) = leb-false (news [] (from (textAt row W s) 0 n)) 65536 (sym (d .says) ∙ e) in
+          let q : news [] (textsOf s (from row 0 rows)) ≡ news [] (from (textAt row W s) 0 n) = ap (news []) (c .texts s) in
+          omega (arith, news-written s (from row 0 rows));
+    }
 
 module _ {row : ℕ → Row} {rows : ℕ} {s W fs sp : List ℕ} {b : Bool} (p : Prepared row rows s W fs sp b) where
   pub strings-known : b ≡ true → Known row rows s W fs sp
   strings-known e = p .known e
 
   pub too-dear : {o o′ : List ℕ} → b ≡ false → o′ ≡ replicate (length o) 0 → Filled (written s (from row 0 rows)) o o′ 65537
-  too-dear e z = too-long (written s (from row 0 rows)) refl (p .dear e) z
+  too-dear e z = too-long (written s (from row 0 rows)) (p .dear e) z
 
-pub ruleset preparing = (prepared-known, prepared-dear, strings-known, too-dear)
+pub ruleset preparing = (settled-known, settled-dear, prepared-settled, strings-known, too-dear)

@@ -1,12 +1,36 @@
 // The written form of a writable table's rows, into a lent output: how each string is sent is found first, in arrays that lie in the frame
 // of one of three functions and are lent to all the others.
-ghost use Prim.Native.Nat.{_*_, _≤_};
-ghost use lib.ListN.{length};
+ghost use mathlib.Core.Path.{_≡_};
+ghost use Prim.Native.Nat.{_≤_, _<_};
+ghost use lib.ListN.{length, replicate};
 ghost use Rattle.draft.specs.Table.{rowAt, from};
 ghost use Rattle.draft.specs.Written.{written};
 ghost use Rattle.extents.specs.Asked.{Ready};
+ghost use Rattle.buckets.specs.Numbered.{textAt, Strings};
 ghost use Rattle.message.specs.Filled.{Filled};
-ghost use Rattle.form.specs.Contract.{Prepared};
+ghost use Rattle.form.specs.Contract.{Settled, Prepared};
+
+// Finds the first string of each text and the texts' positions, or that the texts alone make the form too long. The heads of the chains
+// are lent as zeros; their links lie where the positions go when all first strings are found.
+fn settle(
+    table: &[u32],
+    room: usize,
+    strings: &[u16],
+    count: usize,
+    text: &[u8],
+    firsts: &mut [u16],
+    heads: &mut [u16],
+    spots: &mut [u16],
+) -> bool
+    requires { ⌜ Strings room (length (now table)) count (now strings) × (length (now text) ≤ 65536) × (count ≤ length (now firsts)) × (count ≤ length (now spots)) × (now heads ≡ replicate (length (now heads)) 0) × (0 < length (now heads)) × (length (now heads) ≤ 4096) ⌝ }
+    ensures { λ b. ⌜ Settled (textAt (rowAt room (now (table .entry))) (now (strings .entry)) (now (text .entry))) count (now (firsts .exit)) (now (spots .exit)) b ⌝ }
+{
+    if texts::scan(table, room, strings, count, text, firsts, heads, spots) {
+        positions::place(count, &firsts[..], spots);
+        return true;
+    }
+    false
+}
 
 // Finds how each string is sent, in lent arrays that have room for as many strings as there are rows; or that the texts alone make the form
 // too long.
@@ -15,20 +39,16 @@ fn prepare(
     room: usize,
     rows: usize,
     text: &[u8],
-    strings: &mut [u32],
-    firsts: &mut [usize],
-    again: &mut [usize],
-    spots: &mut [usize],
+    strings: &mut [u16],
+    firsts: &mut [u16],
+    heads: &mut [u16],
+    spots: &mut [u16],
 ) -> bool
-    requires { ⌜ Ready rows room (length (now table)) × (length (now text) ≤ 65536) × (rows * 2 ≤ length (now strings)) × (rows ≤ length (now firsts)) × (rows ≤ length (now again)) × (rows ≤ length (now spots)) ⌝ }
+    requires { ⌜ Ready rows room (length (now table)) × (length (now text) ≤ 65536) × (rows ≤ length (now strings)) × (rows ≤ length (now firsts)) × (rows ≤ length (now spots)) × (now heads ≡ replicate (length (now heads)) 0) × (0 < length (now heads)) × (length (now heads) ≤ 4096) ⌝ }
     ensures { λ b. ⌜ Prepared (rowAt room (now (table .entry))) rows (now (text .entry)) (now (strings .exit)) (now (firsts .exit)) (now (spots .exit)) b ⌝ }
 {
     let count = sending::collect(table, room, rows, strings);
-    if texts::scan(&strings[..], count, text, firsts, again) {
-        positions::place(count, &firsts[..], &again[..], spots);
-        return true;
-    }
-    false
+    settle(table, room, &strings[..], count, text, firsts, heads, spots)
 }
 
 // The written form of rows whose strings were prepared, and what was found then.
@@ -37,9 +57,9 @@ fn fill_prepared(
     room: usize,
     rows: usize,
     text: &[u8],
-    strings: &[u32],
-    firsts: &[usize],
-    spots: &[usize],
+    strings: &[u16],
+    firsts: &[u16],
+    spots: &[u16],
     known: bool,
     output: &mut [u8],
 ) -> usize
@@ -59,10 +79,10 @@ fn fill_few(table: &[u32], room: usize, rows: usize, text: &[u8], output: &mut [
     requires { ⌜ Ready rows room (length (now table)) × (length (now text) ≤ 65536) × (rows ≤ 64) ⌝ }
     ensures { λ n. ⌜ Filled (written (now (text .entry)) (from (rowAt room (now (table .entry))) 0 rows)) (now (output .entry)) (now (output .exit)) n ⌝ }
 {
-    let mut strings = [0u32; 128];
-    let mut firsts = [0usize; 64];
-    let mut again = [0usize; 64];
-    let mut spots = [0usize; 64];
+    let mut strings = [0u16; 64];
+    let mut firsts = [0u16; 64];
+    let mut heads = [0u16; 32];
+    let mut spots = [0u16; 64];
     let known = prepare(
         table,
         room,
@@ -70,7 +90,7 @@ fn fill_few(table: &[u32], room: usize, rows: usize, text: &[u8], output: &mut [
         text,
         &mut strings,
         &mut firsts,
-        &mut again,
+        &mut heads,
         &mut spots,
     );
     fill_prepared(
@@ -86,15 +106,15 @@ fn fill_few(table: &[u32], room: usize, rows: usize, text: &[u8], output: &mut [
     )
 }
 
-// Arrays for up to 512 rows.
+// Arrays for up to 1,024 rows.
 fn fill_some(table: &[u32], room: usize, rows: usize, text: &[u8], output: &mut [u8]) -> usize
-    requires { ⌜ Ready rows room (length (now table)) × (length (now text) ≤ 65536) × (rows ≤ 512) ⌝ }
+    requires { ⌜ Ready rows room (length (now table)) × (length (now text) ≤ 65536) × (rows ≤ 1024) ⌝ }
     ensures { λ n. ⌜ Filled (written (now (text .entry)) (from (rowAt room (now (table .entry))) 0 rows)) (now (output .entry)) (now (output .exit)) n ⌝ }
 {
-    let mut strings = [0u32; 1024];
-    let mut firsts = [0usize; 512];
-    let mut again = [0usize; 512];
-    let mut spots = [0usize; 512];
+    let mut strings = [0u16; 1024];
+    let mut firsts = [0u16; 1024];
+    let mut heads = [0u16; 512];
+    let mut spots = [0u16; 1024];
     let known = prepare(
         table,
         room,
@@ -102,7 +122,7 @@ fn fill_some(table: &[u32], room: usize, rows: usize, text: &[u8], output: &mut 
         text,
         &mut strings,
         &mut firsts,
-        &mut again,
+        &mut heads,
         &mut spots,
     );
     fill_prepared(
@@ -123,10 +143,10 @@ fn fill_many(table: &[u32], room: usize, rows: usize, text: &[u8], output: &mut 
     requires { ⌜ Ready rows room (length (now table)) × (length (now text) ≤ 65536) ⌝ }
     ensures { λ n. ⌜ Filled (written (now (text .entry)) (from (rowAt room (now (table .entry))) 0 rows)) (now (output .entry)) (now (output .exit)) n ⌝ }
 {
-    let mut strings = [0u32; 8192];
-    let mut firsts = [0usize; 4096];
-    let mut again = [0usize; 4096];
-    let mut spots = [0usize; 4096];
+    let mut strings = [0u16; 4096];
+    let mut firsts = [0u16; 4096];
+    let mut heads = [0u16; 2048];
+    let mut spots = [0u16; 4096];
     let known = prepare(
         table,
         room,
@@ -134,7 +154,7 @@ fn fill_many(table: &[u32], room: usize, rows: usize, text: &[u8], output: &mut 
         text,
         &mut strings,
         &mut firsts,
-        &mut again,
+        &mut heads,
         &mut spots,
     );
     fill_prepared(
@@ -159,7 +179,7 @@ pub fn fill(table: &[u32], room: usize, rows: usize, text: &[u8], output: &mut [
     if rows <= 64 {
         return fill_few(table, room, rows, text, output);
     }
-    if rows <= 512 {
+    if rows <= 1024 {
         return fill_some(table, room, rows, text, output);
     }
     fill_many(table, room, rows, text, output)

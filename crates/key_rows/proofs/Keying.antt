@@ -21,9 +21,10 @@ use Rattle.draft.specs.Table.{rowAt}
 use Rattle.draft.specs.Read.{textOf}
 use Rattle.draft.specs.Writable.{fit, ruled, closed, leaf, Walk, sized, contentItem, only, string, stringBy}
 use Rattle.extents.specs.Asked.{Ready}
-use Rattle.extents.proofs.Walking.{only-there}
+use Rattle.extents.specs.Ends.{extentOf}
+use Rattle.extents.proofs.Walking.{none-found, some-found, only-there}
 use Rattle.keys.specs.Notes.{named, keysOf, Noted, Rows, Entry, Added, Noting, Joins}
-use Rattle.key_rows.specs.Contract.{Entries, Joined}
+use Rattle.key_rows.specs.Contract.{Entries, Prepared, Joined, KeyDone, KeyIf}
 
 -- an end that was found
 pub until-one : {m n : ℕ} → Until m ≡ Until n → m ≡ n
@@ -72,35 +73,56 @@ module _ (row : ℕ → Row) (rows : ℕ) (s : List ℕ) where
 pub joined-none : {t : ℕ → Text} {N N′ : List ℕ} {owner first : ℕ} → Joined t N N′ owner first Unfit
 joined-none = record { joins = λ next e. absurd (no-end e) }
 
-module _ (s : List ℕ) (room rows : ℕ) (T : List ℕ) (r : ℕ) {o : Extent} (h : o ≡ string (rowAt room T) rows s r) where
-  pub key-no : (seen : List Text) → o ≡ Unfit → Unfit ≡ stringBy (rowAt room T) rows s (keyRule seen) r
-  key-no seen i = by-no (rowAt room T) rows s (keyRule seen) r h i
+-- a key's row, walked as a String
+module _ (s : List ℕ) {room rows : ℕ} (T : List ℕ) {r : ℕ} {N : List ℕ} (p : Prepared s room rows T r N) {n : ℕ} (h : extentOf n ≡ string (rowAt room T) rows s r) where
+  pub key-no : {owner : ℕ} {N′ : List ℕ} → n ≡ 0 → KeyDone s room rows T owner r N N′ 0
+  key-no {owner} i = record { says = by-no (rowAt room T) rows s (keyRule (keysOf (named s room T) N owner r)) r h (none-found i); joined = joined-none }
 
-  module _ {n : ℕ} (i : o ≡ Until n) where
-    pub key-rows : {words : ℕ} → Ready rows room words → Rows r room words
-    key-rows a = record { inside = omega (arith, a .stated, string-in (rowAt room T) rows s r h i); most = a .most; table = a .table }
+  module _ (i : n ≡ 0 → ⊥) where
+    there : r < rows
+    there = string-in (rowAt room T) rows s r h (some-found i)
 
-    pub key-entry : {owner words : ℕ} → Entries rows words → 0 < owner → owner ≤ r → Entry owner r words
-    key-entry a k l = record { some = k; before = l; inside = omega (arith, a .enough, string-in (rowAt room T) rows s r h i); most = a .most }
+    pub key-rows : Rows r room (length T)
+    key-rows = record { inside = omega (arith, p .ready .stated, there); most = p .ready .most; table = p .ready .table }
 
-    module _ {N N′ : List ℕ} {owner : ℕ} {b : Bool} (c : Noting (named s room T) N N′ owner r b) where
+    pub key-entry : {owner : ℕ} → 0 < owner → owner ≤ r → Entry owner r (length N)
+    key-entry k l = record { some = k; before = l; inside = omega (arith, p .entries .enough, there); most = p .entries .most }
+
+    module _ {N′ : List ℕ} {owner : ℕ} {b : Bool} (c : Noting (named s room T) N N′ owner r b) where
       rule-is : {b′ : Bool} → b ≡ b′ → badIf b′ RepeatedKey ≡ keyRule (keysOf (named s room T) N owner r) (textOf s (rowAt room T r))
       unfolding keyRule named
       rule-is q = rw (← q, c .says)
 
-      pub key-again : b ≡ true → Unfit ≡ stringBy (rowAt room T) rows s (keyRule (keysOf (named s room T) N owner r)) r
-      key-again q = by-on (rowAt room T) rows s (keyRule (keysOf (named s room T) N owner r)) r h i (rule-is q)
+      pub key-again : b ≡ true → KeyDone s room rows T owner r N N′ 0
+      key-again q = record { says = by-on (rowAt room T) rows s (keyRule (keysOf (named s room T) N owner r)) r h (some-found i) (rule-is q); joined = joined-none }
 
       module _ (q : b ≡ false) where
-        pub key-new : Until n ≡ stringBy (rowAt room T) rows s (keyRule (keysOf (named s room T) N owner r)) r
-        key-new = by-on (rowAt room T) rows s (keyRule (keysOf (named s room T) N owner r)) r h i (rule-is q)
-
         joins : Added (named s room T) N N′ owner r → Joins (named s room T) (named s room T) N N′ owner r (r + 1)
         joins z = record { on = omega arith; noted = z .noted; owners = z .owners; mine = z .mine; others = λ o p m k. z .others o k }
 
-        pub key-joined : Joined (named s room T) N N′ owner r (Until n)
-        key-joined =
-            let e : n ≡ r + 1 = string-end (rowAt room T) rows s r (sym h ∙ i) in
-            record { joins = λ next f. rw (sym (until-one f) ∙ e) (joins (c .added q)) }
+        pub key-new : KeyDone s room rows T owner r N N′ n
+        key-new =
+            let e : n ≡ r + 1 = string-end (rowAt room T) rows s r (sym h ∙ some-found i) in
+            record {
+              says = some-found i ∙ by-on (rowAt room T) rows s (keyRule (keysOf (named s room T) N owner r)) r h (some-found i) (rule-is q);
+              joined = record { joins = λ next f. rw (sym (until-one (sym (some-found i) ∙ f)) ∙ e) (joins (c .added q)) };
+            }
 
-pub ruleset keying = (joined-none, key-no, key-rows, key-entry, key-again, key-new, key-joined)
+-- where there are keys, and where there are none
+module _ {s : List ℕ} {room rows : ℕ} {T : List ℕ} {keyed : Bool} {owner r : ℕ} {N : List ℕ} where
+  pub keyed-some : {N′ : List ℕ} {n : ℕ} → keyed ≡ true → KeyDone s room rows T owner r N N′ n → KeyIf s room rows T keyed owner r N N′ n
+  keyed-some e d = record { some = λ _. d; none = λ f. other e f }
+    where
+      other : {A : Type 0} → keyed ≡ true → keyed ≡ false → A
+      other e f = let z : _≡_ {A = Bool} true false = sym e ∙ f in let y : _≡_ {A = ℕ} 0 1 = cc in absurd (omega arith)
+
+  pub keyed-none : keyed ≡ false → KeyIf s room rows T keyed owner r N N r
+  keyed-none e = record { some = λ f. other e f; none = λ _. record { says = refl; notes = refl } }
+    where
+      other : {A : Type 0} → keyed ≡ false → keyed ≡ true → A
+      other e f = let z : _≡_ {A = Bool} false true = sym e ∙ f in let y : _≡_ {A = ℕ} 0 1 = cc in absurd (omega arith)
+
+pub key-owner : {keyed : Bool} {owner : ℕ} → (keyed ≡ true → 0 < owner) → keyed ≡ true → 0 < owner
+key-owner h e = h e
+
+pub ruleset keying = (key-owner, key-no, key-rows, key-entry, key-again, key-new, keyed-some, keyed-none)

@@ -1,18 +1,12 @@
 // The row of a Struct's key, as the writer walks it: a String, noted with those of its Struct before it.
 // Assumes that the notes have an entry for each of the stated rows.
-use draft::Extent;
 ghost use mathlib.Core.Path.{_≡_};
+ghost use mathlib.Core.Bool.{true};
 ghost use Prim.Native.Nat.{_≤_, _<_};
-ghost use lib.ListN.{length};
-ghost use Rattle.draft.specs.Content.{keyRule};
-ghost use Rattle.draft.specs.Table.{rowAt};
-ghost use Rattle.draft.specs.Writable.{stringBy};
-ghost use Rattle.extents.specs.Asked.{Ready};
-ghost use Rattle.keys.specs.Notes.{named, keysOf, Noted};
-ghost use Rattle.key_rows.specs.Contract.{Entries, Joined};
+ghost use Rattle.key_rows.specs.Contract.{Prepared, KeyDone, KeyIf};
 
 // The key of row r, for the Struct whose first key has the row `owner`. One that came before in its Struct does not fit.
-pub fn walk_key(
+fn walk_key(
     table: &[u32],
     room: usize,
     rows: usize,
@@ -20,19 +14,38 @@ pub fn walk_key(
     r: usize,
     notes: &mut [u16],
     owner: usize,
-) -> Extent
-    requires { ⌜ (0 < owner) × (owner ≤ r) × Ready rows room (length (now table)) × Entries rows (length (now notes)) × Noted (named (now text) room (now table)) (now notes) r ⌝ }
-    ensures { λ e. ⌜ (e ≡ stringBy (rowAt room (now (table .entry))) rows (now (text .entry)) (keyRule (keysOf (named (now (text .entry)) room (now (table .entry))) (now (notes .entry)) owner r)) r) × Joined (named (now (text .entry)) room (now (table .entry))) (now (notes .entry)) (now (notes .exit)) owner r e ⌝ }
+) -> usize
+    requires { ⌜ (0 < owner) × (owner ≤ r) × Prepared (now text) room rows (now table) r (now notes) ⌝ }
+    ensures { λ e. ⌜ KeyDone (now (text .entry)) room rows (now (table .entry)) owner r (now (notes .entry)) (now (notes .exit)) e ⌝ }
 {
-    let extent = extents::walk_string(table, room, rows, text, r);
-    match extent {
-        Extent::Unfit => Extent::Unfit,
-        Extent::Until(next) => {
-            if keys::note(text, table, room, notes, owner, r) {
-                Extent::Unfit
-            } else {
-                Extent::Until(next)
-            }
-        }
+    let next = extents::walk_string(table, room, rows, text, r);
+    if next == 0 {
+        return 0;
+    }
+    if keys::note(text, table, room, notes, owner, r) {
+        0
+    } else {
+        next
+    }
+}
+
+// The key of row r where items have keys, or nothing.
+pub fn walk_key_if(
+    keyed: bool,
+    table: &[u32],
+    room: usize,
+    rows: usize,
+    text: &[u8],
+    r: usize,
+    notes: &mut [u16],
+    owner: usize,
+) -> usize
+    requires { ⌜ (keyed ≡ true → 0 < owner) × (owner ≤ r) × Prepared (now text) room rows (now table) r (now notes) ⌝ }
+    ensures { λ e. ⌜ KeyIf (now (text .entry)) room rows (now (table .entry)) keyed owner r (now (notes .entry)) (now (notes .exit)) e ⌝ }
+{
+    if keyed {
+        walk_key(table, room, rows, text, r, notes, owner)
+    } else {
+        r
     }
 }

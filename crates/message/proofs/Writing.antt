@@ -1,16 +1,17 @@
--- What answers the returns and turns of the functions that measure and put all items. Assumes nothing.
+-- What answers the returns and turns of the functions that measure and put a row's item, and all items. Assumes nothing.
 use Prim.Native.Nat.{ℕ, zero, suc, _+_, _-_, _*_, _≤_, _<_}
 use mathlib.Core.Path.{_≡_, refl, sym, ap, _∙_}
-use mathlib.Core.Bool.{Bool, true, false}
+use mathlib.Core.Bool.{Bool, true, false, cond}
 use mathlib.Core.List.{List, [], _∷_, _++_, append-assoc, append-nil}
 use native.Mathlib.Omega.{arith}
 use native.Mathlib.Nat.{zero-add, sub-zero}
 use native.Mathlib.Numerals.{add-one}
 use mir.Syntax.{w64}
 use mir.Val.{Fits}
-use lib.ListN.{length, getD, take, drop, length-append, length-take, length-drop}
-use lib.Dec.{eqb, ltb, leb}
-use borrow.Author.Tests.{eq-eqb, ne-eqb, leb-true, leb-false}
+use lib.ListN.{length, getD, take, drop, length-append, length-take, length-drop, take-append-drop}
+use lib.Seq.{length-take-le, drop-drop}
+use lib.Dec.{ltb, leb}
+use borrow.Author.Tests.{eq-eqb, ne-eqb, eqb-true, eqb-false, leb-true, leb-false}
 use Rattle.draft.specs.declared.Item.{Item}
 use Rattle.draft.specs.declared.Item.the-variants as item
 use Rattle.draft.specs.declared.Content.the-variants as content
@@ -20,19 +21,20 @@ use Rattle.draft.specs.Bytes.{part}
 use Rattle.draft.specs.Read.{prefix, textOf}
 use Rattle.draft.specs.Table.{from}
 use Rattle.draft.specs.Grammar.{Sent, regular, recorded, recalled}
-use Rattle.draft.specs.Strings.{Text, textsOf, kept, choose, sentOf, sents, plan, cost}
+use Rattle.draft.specs.Strings.{Text, isString, textsOf, kept, choose, sentOf, sents, plan, cost}
 use Rattle.draft.specs.Written.{counted, lsb, stringBytes, bytesOf, itemBytes, itemsOf, messageOf, written}
 use Rattle.extents.specs.Asked.{Ready}
-use Rattle.buckets.specs.Numbered.{textAt, before}
+use Rattle.buckets.specs.Numbered.{textAt, Through, before}
 use Rattle.positions.specs.Contract.{told, Ready as Told}
 use Rattle.buckets.proofs.Numbered.{from-step, from-none}
-use Rattle.buckets.proofs.Comparing.{text-short}
+use Rattle.buckets.proofs.Comparing.{text-short, through}
 use Rattle.positions.proofs.Choosing.{told-is}
-use Rattle.output.specs.Contract.{Front, Put}
-use Rattle.output.proofs.Putting.{front-on, front-long, lsb-four, counted-length}
+use Rattle.output.specs.Contract.{Front, Put, Tried}
+use Rattle.output.proofs.Putting.{front-on, front-long, front-drop, front-take, lsb-four, counted-length}
 use Rattle.sending.specs.Contract.{Collected, Takes}
-use Rattle.message.specs.Contract.{planned, Known}
-use Rattle.sending.proofs.Collecting.{texts-string, texts-other}
+use Rattle.message.specs.Contract.{planned, Known, rowBytes, nextString, Asked, Long, Fitted}
+use Rattle.message.specs.Filled.{Most}
+use Rattle.sending.proofs.Collecting.{texts-string, texts-other, strings-there}
 use Rattle.sending.proofs.Sending.{string-cost}
 
 -- the most that an item takes
@@ -64,19 +66,19 @@ cost-most true true p t = omega arith
 cost-most true false p t = omega arith
 cost-most false y p t = omega arith
 
-string-most : (W s fs sp : List ℕ) (j : ℕ) → length (stringBytes (told fs sp j (textAt W s j))) ≤ 6 + length s
+string-most : (row : ℕ → Row) (W s fs sp : List ℕ) (j : ℕ) → length (stringBytes (told fs sp j (textAt row W s j))) ≤ 6 + length s
 unfolding told
-string-most W s fs sp j =
-    omega (arith, string-cost (told fs sp j (textAt W s j)), cost-most (ltb (getD sp (getD fs j 0) 0) 256) (ltb (getD fs j 0) j) (getD sp (getD fs j 0) 0) (textAt W s j), text-short W s j)
+string-most row W s fs sp j =
+    omega (arith, string-cost (told fs sp j (textAt row W s j)), cost-most (ltb (getD sp (getD fs j 0) 0) 256) (ltb (getD fs j 0) j) (getD sp (getD fs j 0) 0) (textAt row W s j), text-short row W s j)
 
 -- the items from row r on, where the next string is string j of n
 abbrev rest : (ℕ → Row) → ℕ → List ℕ → List ℕ → ℕ → ℕ → ℕ → List ℕ
 rest row rows s W n r j =
-    itemsOf s (from row r (rows - r)) (sents (kept (textsOf s (from row 0 rows))) (before (textAt W s) j) (from (textAt W s) j (n - j)))
+    itemsOf s (from row r (rows - r)) (sents (kept (textsOf s (from row 0 rows))) (before (textAt row W s) j) (from (textAt row W s) j (n - j)))
 
 -- the strings from row r on are those from string j on
 pub record Stands (row : ℕ → Row) (rows : ℕ) (s W : List ℕ) (n r j : ℕ) : Type 0 where
-  pub left : textsOf s (from row r (rows - r)) ≡ from (textAt W s) j (n - j)
+  pub left : textsOf s (from row r (rows - r)) ≡ from (textAt row W s) j (n - j)
   pub within : r ≤ rows
   pub strings : j ≤ n
 
@@ -85,7 +87,7 @@ stands-first s c = record { left = rw (sub-zero, sub-zero) (c .texts s); within 
 
 module _ {row : ℕ → Row} {rows : ℕ} {s W : List ℕ} {n r j : ℕ} (i : Stands row rows s W n r j) (h : r < rows) {x : Row} (e : x ≡ row r) where
   module _ (k : x .kind ≡ 11) where
-    here : textOf s x ∷ textsOf s (from row (suc r) (rows - suc r)) ≡ from (textAt W s) j (n - j)
+    here : textOf s x ∷ textsOf s (from row (suc r) (rows - suc r)) ≡ from (textAt row W s) j (n - j)
     here = sym (texts-string row rows r h e s k) ∙ i .left
 
     pub string-there : j < n
@@ -94,7 +96,7 @@ module _ {row : ℕ → Row} {rows : ℕ} {s W : List ℕ} {n r j : ℕ} (i : St
         go : (b : Bool) → leb n j ≡ b → j < n
         go false f = leb-false n j f
         go true f =
-            let z : from (textAt W s) j (n - j) ≡ [] = from-none (textAt W s) j n (leb-true n j f) in
+            let z : from (textAt row W s) j (n - j) ≡ [] = from-none (textAt row W s) j n (leb-true n j f) in
             let g : _≡_ {A = ℕ} 0 1 = no (here ∙ z) in
             absurd (omega arith)
           where
@@ -102,14 +104,14 @@ module _ {row : ℕ → Row} {rows : ℕ} {s W : List ℕ} {n r j : ℕ} (i : St
             no q = cc
 
     pub next-string : Stands row rows s W n (suc r) (suc j)
-    next-string = record { left = tails (here ∙ from-step (textAt W s) j n string-there); within = h; strings = string-there }
+    next-string = record { left = tails (here ∙ from-step (textAt row W s) j n string-there); within = h; strings = string-there }
       where
         tails : {t u : Text} {ts us : List Text} → t ∷ ts ≡ u ∷ us → ts ≡ us
         tails q = cc
 
-    rest-string : rest row rows s W n r j ≡ stringBytes (sentOf (kept (textsOf s (from row 0 rows))) (before (textAt W s) j) (textAt W s j)) ++ rest row rows s W n (suc r) (suc j)
+    rest-string : rest row rows s W n r j ≡ stringBytes (sentOf (kept (textsOf s (from row 0 rows))) (before (textAt row W s) j) (textAt row W s j)) ++ rest row rows s W n (suc r) (suc j)
     unfolding itemsOf sents before
-    rest-string = rw (from-step row r rows h, ← e, eq-eqb _ _ k, from-step (textAt W s) j n string-there)
+    rest-string = rw (from-step row r rows h, ← e, eq-eqb _ _ k, from-step (textAt row W s) j n string-there)
 
   module _ (k : x .kind ≡ 11 → ⊥) where
     pub next-other : Stands row rows s W n (suc r) j
@@ -133,6 +135,90 @@ pub written-is : (s : List ℕ) (xs : List Row) → written s xs ≡ prefix ++ p
 unfolding written messageOf planned
 written-is s xs = refl
 
+-- a string that is next
+module _ {row : ℕ → Row} {rows : ℕ} {s W fs sp : List ℕ} {r j : ℕ} {x : Row} (k : Known row rows s W fs sp) (i : Stands row rows s W (k .count) r j) (h : r < rows) (e : x ≡ row r) where
+  told-there : x .kind ≡ 11 → Told fs sp j
+  told-there f =
+      let l = string-there i h e f in
+      record { first = omega (arith, k .room); spot = omega (arith, k .room-spots); earlier = (k .firsts .at j l) .within }
+
+  rest-told : x .kind ≡ 11 → rest row rows s W (k .count) r j ≡ stringBytes (told fs sp j (textAt row W s j)) ++ rest row rows s W (k .count) (suc r) (suc j)
+  rest-told f =
+      rest-string i h e f
+      ∙ ap (λ (u : Sent). stringBytes u ++ rest row rows s W (k .count) (suc r) (suc j)) (sym (told-is (kept (textsOf s (from row 0 rows))) (textAt row W s) j (k .firsts) (k .slots) (string-there i h e f)))
+
+  asked-there : {room words : ℕ} → Ready rows room words → Asked room words s W fs sp j x
+  asked-there y = record { told = told-there; there = λ f. through (strings-there y (k .strings)) (string-there i h e f); short = k .short }
+
+  -- what row r adds, and what comes behind it
+  stands-row : Stands row rows s W (k .count) (suc r) (nextString j x)
+  unfolding nextString
+  stands-row = go (isString x) refl
+    where
+      go : (b : Bool) → isString x ≡ b → Stands row rows s W (k .count) (suc r) (cond b (suc j) j)
+      go true q = next-string i h e (eqb-true (x .kind) 11 q)
+      go false q = next-other i h e (eqb-false (x .kind) 11 q)
+
+  rest-row : rest row rows s W (k .count) r j ≡ rowBytes row s W fs sp j x ++ rest row rows s W (k .count) (suc r) (nextString j x)
+  unfolding rowBytes nextString
+  rest-row = go (isString x) refl
+    where
+      go : (b : Bool) → isString x ≡ b → rest row rows s W (k .count) r j ≡ cond b (stringBytes (told fs sp j (textAt row W s j))) (itemBytes s x) ++ rest row rows s W (k .count) (suc r) (cond b (suc j) j)
+      go true q = rest-told (eqb-true (x .kind) 11 q)
+      go false q = rest-other i h e (eqb-false (x .kind) 11 q)
+
+  few-strings : {room words : ℕ} → Ready rows room words → j ≤ 4096
+  few-strings y = omega (arith, i .strings, k .strings .few, y .stated, y .most)
+
+-- a row's item, by whether the row is a string's
+module _ (row : ℕ → Row) (s W fs sp : List ℕ) (j : ℕ) (x : Row) where
+  string-bytes : x .kind ≡ 11 → rowBytes row s W fs sp j x ≡ stringBytes (told fs sp j (textAt row W s j))
+  unfolding rowBytes
+  string-bytes f = rw (eq-eqb (x .kind) 11 f)
+
+  item-bytes : (x .kind ≡ 11 → ⊥) → rowBytes row s W fs sp j x ≡ itemBytes s x
+  unfolding rowBytes
+  item-bytes f = rw (ne-eqb (x .kind) 11 f)
+
+  module _ {room words : ℕ} (a : Asked room words s W fs sp j x) where
+    module _ (f : x .kind ≡ 11) where
+      pub asked-told : Told fs sp j
+      asked-told = a .told f
+
+      pub asked-words : Through room words j W
+      asked-words = a .there f
+
+      pub string-long : {n : ℕ} → Takes row s W fs sp j n → Long (rowBytes row s W fs sp j x) n
+      string-long t = record { is = t .is ∙ rw (string-bytes f); few = omega (arith, t .is, string-most row W s fs sp j, a .short) }
+
+    pub item-long : {n : ℕ} → (x .kind ≡ 11 → ⊥) → n ≡ length (itemBytes s x) → Long (rowBytes row s W fs sp j x) n
+    item-long f e = record { is = e ∙ rw (item-bytes f); few = omega (arith, item-most s x, a .short) }
+
+    -- the most that it takes
+    row-most : length (rowBytes row s W fs sp j x) ≤ 65542
+    unfolding rowBytes
+    row-most = go (isString x)
+      where
+        go : (b : Bool) → length (cond b (stringBytes (told fs sp j (textAt row W s j))) (itemBytes s x)) ≤ 65542
+        go true = omega (arith, string-most row W s fs sp j, a .short)
+        go false = omega (arith, item-most s x, a .short)
+
+  pub string-tried : {m n : ℕ} {o o′ : List ℕ} → x .kind ≡ 11 → Tried (stringBytes (told fs sp j (textAt row W s j))) m o o′ n → Tried (rowBytes row s W fs sp j x) m o o′ n
+  string-tried f p = rw (string-bytes f) p
+
+  pub item-tried : {m n : ℕ} {o o′ : List ℕ} → (x .kind ≡ 11 → ⊥) → Tried (itemBytes s x) m o o′ n → Tried (rowBytes row s W fs sp j x) m o o′ n
+  item-tried f p = rw (item-bytes f) p
+
+pub next-yes : (j : ℕ) (x : Row) → x .kind ≡ 11 → j + 1 ≡ nextString j x
+unfolding nextString
+next-yes j x f = add-one j ∙ rw (eq-eqb (x .kind) 11 f)
+
+pub next-no : (j : ℕ) (x : Row) → (x .kind ≡ 11 → ⊥) → j ≡ nextString j x
+unfolding nextString
+next-no j x f = rw (ne-eqb (x .kind) 11 f)
+
+pub ruleset rowwise = (asked-told, asked-words, string-long, item-long, string-tried, item-tried, next-yes, next-no)
+
 -- where the measuring stands
 pub record Measuring (row : ℕ → Row) (rows : ℕ) (s W fs sp : List ℕ) (r j sum : ℕ) : Type 0 where
   pub known : Known row rows s W fs sp
@@ -140,204 +226,165 @@ pub record Measuring (row : ℕ → Row) (rows : ℕ) (s W fs sp : List ℕ) (r 
   pub so-far : sum + length (rest row rows s W (known .count) r j) ≡ length (written s (from row 0 rows))
   pub small : sum ≤ 12 + r * 65542
 
+module _ (s : List ℕ) (xs : List Row) where
+  written-long : length (written s xs) ≡ 12 + length (planned s xs)
+  written-long = ap length (written-is s xs) ∙ length-append prefix (planned s xs)
+
 pub measure-first : {row : ℕ → Row} {rows : ℕ} {s W fs sp : List ℕ} → Known row rows s W fs sp → Measuring row rows s W fs sp 0 0 12
 measure-first {row} {rows} {s} {W} k =
     let e : planned s (from row 0 rows) ≡ rest row rows s W (k .count) 0 0 = rest-first s (k .strings) in
     record {
       known = k;
       stands = stands-first s (k .strings);
-      so-far = omega (arith, ap length (written-is s (from row 0 rows)) ∙ length-append prefix (planned s (from row 0 rows)), ap length e);
+      so-far = omega (arith, written-long s (from row 0 rows), ap length e);
       small = omega arith;
     }
-
--- a string that is next
-told-there : {row : ℕ → Row} {rows room words : ℕ} {s W fs sp : List ℕ} {r j : ℕ} {x : Row} (k : Known row rows s W fs sp) → Ready rows room words → Stands row rows s W (k .count) r j → r < rows → x ≡ row r → x .kind ≡ 11 → Told fs sp j
-told-there {j = j} k y i h e f =
-    let l = string-there i h e f in
-    record { first = omega (arith, k .room); spot = omega (arith, k .room-spots); earlier = (k .firsts .at j l) .within; few = omega (arith, k .strings .few, y .stated, y .most) }
-
-words-there : {row : ℕ → Row} {rows : ℕ} {s W fs sp : List ℕ} {r j : ℕ} {x : Row} (k : Known row rows s W fs sp) → Stands row rows s W (k .count) r j → r < rows → x ≡ row r → x .kind ≡ 11 → j * 2 + 1 < length W
-words-there k i h e f = let l = string-there i h e f in omega (arith, k .strings .room)
-
-rest-told : {row : ℕ → Row} {rows : ℕ} {s W fs sp : List ℕ} {r j : ℕ} {x : Row} (k : Known row rows s W fs sp) (i : Stands row rows s W (k .count) r j) → r < rows → x ≡ row r → x .kind ≡ 11 → rest row rows s W (k .count) r j ≡ stringBytes (told fs sp j (textAt W s j)) ++ rest row rows s W (k .count) (suc r) (suc j)
-rest-told {row} {rows} {s} {W} {r = r} {j = j} k i h e f =
-    rest-string i h e f
-    ∙ ap (λ (u : Sent). stringBytes u ++ rest row rows s W (k .count) (suc r) (suc j)) (sym (told-is (kept (textsOf s (from row 0 rows))) (textAt W s) j (k .firsts) (k .slots) (string-there i h e f)))
 
 module _ {row : ℕ → Row} {rows : ℕ} {s W fs sp : List ℕ} {r j sum : ℕ} (i : Measuring row rows s W fs sp r j sum) where
   pub measure-done : rows ≤ r → sum ≡ length (written s (from row 0 rows))
   measure-done h = omega (arith, i .so-far, ap length (rest-none row rows s W (i .known .count) r j h))
 
   module _ {x : Row} (e : x ≡ row r) (h : r < rows) where
-    module _ (k : x .kind ≡ 11) where
-      pub measure-words : j * 2 + 1 < length W
-      measure-words = words-there (i .known) (i .stands) h e k
-
-      pub measure-string : {m : ℕ} → Takes s W fs sp j m → Measuring row rows s W fs sp (r + 1) (j + 1) (sum + m)
-      measure-string {m} l =
-          rw (add-one r, add-one j)
-          (record {
-            known = i .known;
-            stands = next-string (i .stands) h e k;
-            so-far = omega (arith, i .so-far, l .is, ap length (rest-told (i .known) (i .stands) h e k) ∙ length-append (stringBytes (told fs sp j (textAt W s j))) (rest row rows s W (i .known .count) (suc r) (suc j)));
-            small = omega (arith, i .small, l .is, string-most W s fs sp j, i .known .short);
-          })
-
-      module _ {room words : ℕ} (y : Ready rows room words) where
-        pub measure-told : Told fs sp j
-        measure-told = told-there (i .known) y (i .stands) h e k
-
-        pub measure-count : Fits w64 (j + 1)
-        measure-count = omega (arith, string-there (i .stands) h e k, i .known .strings .few, y .stated, y .most)
-
-    pub measure-other : {m : ℕ} → (x .kind ≡ 11 → ⊥) → m ≡ length (itemBytes s x) → Measuring row rows s W fs sp (r + 1) j (sum + m)
-    measure-other {m} k l =
-        rw add-one
+    pub measure-again : {m k : ℕ} → Long (rowBytes row s W fs sp j x) m → k ≡ nextString j x → Measuring row rows s W fs sp (r + 1) k (sum + m)
+    measure-again {m} l q =
+        rw (add-one r, q)
         (record {
           known = i .known;
-          stands = next-other (i .stands) h e k;
-          so-far = omega (arith, i .so-far, ap length (rest-other (i .stands) h e k) ∙ length-append (itemBytes s x) (rest row rows s W (i .known .count) (suc r) j));
-          small = omega (arith, i .small, item-most s x, i .known .short);
+          stands = stands-row (i .known) (i .stands) h e;
+          so-far = omega (arith, i .so-far, l .is, ap length (rest-row (i .known) (i .stands) h e) ∙ length-append (rowBytes row s W fs sp j x) (rest row rows s W (i .known .count) (suc r) (nextString j x)));
+          small = omega (arith, i .small, l .few);
         })
 
-  module _ {room words : ℕ} (y : Ready rows room words) (h : r < rows) where
-    pub measure-fits : {m : ℕ} → Takes s W fs sp j m → Fits w64 (sum + m)
-    measure-fits l = omega (arith, l .is, string-most W s fs sp j, i .known .short, i .small, y .stated, y .most)
+    module _ {room words : ℕ} (y : Ready rows room words) where
+      pub measure-asked : Asked room words s W fs sp j x
+      measure-asked = asked-there (i .known) (i .stands) h e y
 
-    pub measure-item-fits : {m : ℕ} (x : Row) → m ≡ length (itemBytes s x) → Fits w64 (sum + m)
-    measure-item-fits x l = omega (arith, item-most s x, i .known .short, i .small, y .stated, y .most)
+      pub measure-few : j ≤ 4096
+      measure-few = few-strings (i .known) (i .stands) h e y
 
-pub known-short : {row : ℕ → Row} {rows : ℕ} {s W fs sp : List ℕ} → Known row rows s W fs sp → length s ≤ 65536
-known-short k = k .short
+      pub measure-fits : {m : ℕ} → Long (rowBytes row s W fs sp j x) m → Fits w64 (sum + m)
+      measure-fits l = omega (arith, l .few, i .small, y .stated, y .most)
 
 pub row-room : {r rows room words : ℕ} → Ready rows room words → r < rows → r < room
 row-room h l = omega (arith, h .stated)
 
-pub ruleset measuring = (measure-first, measure-done, measure-told, measure-words, measure-count, measure-fits, measure-string, measure-item-fits, measure-other, known-short, row-room)
+pub ruleset measuring = (measure-first, measure-done, measure-asked, measure-few, measure-fits, measure-again, row-room)
 
--- where the writing stands
-pub record Writing (row : ℕ → Row) (rows : ℕ) (s W fs sp o : List ℕ) (r j at : ℕ) (out : List ℕ) : Type 0 where
+-- where the writing stands: `at` bytes of the output are put, `most` at the most; it was o, and its first 12 bytes stay
+pub record Writing (row : ℕ → Row) (rows : ℕ) (s W fs sp : List ℕ) (most : ℕ) (o : List ℕ) (r j at : ℕ) (out : List ℕ) : Type 0 where
   pub known : Known row rows s W fs sp
   pub stands : Stands row rows s W (known .count) r j
   pub done : List ℕ
-  pub split : planned s (from row 0 rows) ≡ done ++ rest row rows s W (known .count) r j
+  pub split : take 12 o ++ planned s (from row 0 rows) ≡ done ++ rest row rows s W (known .count) r j
   pub front : Front done o out
   pub place : at ≡ length done
+  pub within : at ≤ most
   pub long : length out ≡ length o
-  pub room : length (planned s (from row 0 rows)) ≤ length o
-  pub fits : Fits w64 (length o)
+  pub room : Most (length o) most
 
-pub write-first : {row : ℕ → Row} {rows : ℕ} {s W fs sp o : List ℕ} → Known row rows s W fs sp → length (planned s (from row 0 rows)) ≤ length o → Fits w64 (length o) → Writing row rows s W fs sp o 0 0 0 o
-write-first {s = s} k h f = record { known = k; stands = stands-first s (k .strings); done = []; split = rest-first s (k .strings); front = record { is = refl }; place = refl; long = refl; room = h; fits = f }
+pub write-first : {row : ℕ → Row} {rows : ℕ} {s W fs sp : List ℕ} {most : ℕ} {o : List ℕ} → Known row rows s W fs sp → Most (length o) most → 12 ≤ most → Writing row rows s W fs sp most o 0 0 12 o
+write-first {row} {rows} {s} {W} {most = most} {o = o} k m h =
+    let l : length (take 12 o) ≡ 12 = length-take-le 12 o (omega (arith, m .within)) in
+    record {
+      known = k;
+      stands = stands-first s (k .strings);
+      done = take 12 o;
+      split = ap (λ (w : List ℕ). take 12 o ++ w) (rest-first s (k .strings));
+      front = record { is = rw l (sym (take-append-drop 12 o)) };
+      place = sym l;
+      within = h;
+      long = refl;
+      room = m;
+    }
 
-module _ {row : ℕ → Row} {rows : ℕ} {s W fs sp o : List ℕ} {r j at : ℕ} {out : List ℕ} (i : Writing row rows s W fs sp o r j at out) where
-  left-long : length (planned s (from row 0 rows)) ≡ at + length (rest row rows s W (i .known .count) r j)
-  left-long = ap length (i .split) ∙ length-append (i .done) _ ∙ omega (arith, i .place)
+module _ {row : ℕ → Row} {rows : ℕ} {s W fs sp : List ℕ} {most : ℕ} {o : List ℕ} {r j at : ℕ} {out : List ℕ} (i : Writing row rows s W fs sp most o r j at out) where
+  pub write-left : at ≤ most
+  write-left = i .within
 
-  pub write-start : at ≤ length out
-  write-start = omega (arith, left-long, i .long, i .room)
+  pub write-part : at ≤ length out
+  write-part = omega (arith, i .within, i .long, i .room .within)
 
-  pub write-done : rows ≤ r → Put (planned s (from row 0 rows)) o out at
+  pub write-room : most - at ≤ length (take (length out - at) (drop at out))
+  write-room = simp (length-take, length-drop) (omega (arith, i .long, i .room .within))
+
+  pub write-done : rows ≤ r → Fitted (take 12 o ++ planned s (from row 0 rows)) most o out at
   write-done h =
-      let q : planned s (from row 0 rows) ≡ i .done = i .split ∙ rw (rest-none row rows s W (i .known .count) r j h) (append-nil (i .done)) in
-      record { front = rw q (i .front); long = i .place ∙ ap length (sym q) }
-
-  -- an item xs put behind what is there
-  module _ (xs more : List ℕ) (e : rest row rows s W (i .known .count) r j ≡ xs ++ more) where
-    fits-here : at + length xs ≤ length o
-    fits-here = omega (arith, left-long, i .room, ap length e ∙ length-append xs more)
-
-    room-here : length xs ≤ length (take (length out - at) (drop at out))
-    room-here = simp (length-take, length-drop) (omega (arith, fits-here, i .long))
-
-    front-here : {ys : List ℕ} {m : ℕ} → Put xs (take (length out - at) (drop at out)) ys m → Front (i .done ++ xs) o (take at out ++ (ys ++ drop (length out - at) (drop at out)))
-    front-here p = front-on (i .front) at (sym (i .place)) (omega (arith, fits-here)) (p .front)
-
-    place-here : {ys : List ℕ} {m : ℕ} → Put xs (take (length out - at) (drop at out)) ys m → at + m ≡ length (i .done ++ xs)
-    place-here p = sym (length-append (i .done) xs ∙ omega (arith, i .place, p .long))
+      let q : take 12 o ++ planned s (from row 0 rows) ≡ i .done = i .split ∙ rw (rest-none row rows s W (i .known .count) r j h) (append-nil (i .done)) in
+      record { put = λ k. record { front = rw q (i .front); long = i .place ∙ ap length (sym q) }; over = λ k. absurd (omega (arith, i .within)) }
 
   module _ {x : Row} (e : x ≡ row r) (h : r < rows) where
-    module _ (k : x .kind ≡ 11) where
-      pub write-told : {room words : ℕ} → Ready rows room words → Told fs sp j
-      write-told y = told-there (i .known) y (i .stands) h e k
+    module _ {room words : ℕ} (y : Ready rows room words) where
+      pub write-asked : Asked room words s W fs sp j x
+      write-asked = asked-there (i .known) (i .stands) h e y
 
-      pub write-words : j * 2 + 1 < length W
-      write-words = words-there (i .known) (i .stands) h e k
+      pub write-few : j ≤ 4096
+      write-few = few-strings (i .known) (i .stands) h e y
 
-      pub write-count : {room words : ℕ} → Ready rows room words → Fits w64 (j + 1)
-      write-count y = omega (arith, string-there (i .stands) h e k, i .known .strings .few, y .stated, y .most)
+    module _ {m : ℕ} {ys : List ℕ} (p : Tried (rowBytes row s W fs sp j x) (most - at) (take (length out - at) (drop at out)) ys m) where
+      pub write-fits : {room words : ℕ} → Ready rows room words → Fits w64 (at + m)
+      write-fits y = omega (arith, p .long, row-most row s W fs sp j x (asked-there (i .known) (i .stands) h e y), i .within, i .room .few)
 
-      pub write-room : length (stringBytes (told fs sp j (textAt W s j))) ≤ length (take (length out - at) (drop at out))
-      write-room = room-here (stringBytes (told fs sp j (textAt W s j))) (rest row rows s W (i .known .count) (suc r) (suc j)) (rest-told (i .known) (i .stands) h e k)
+      split : take 12 o ++ planned s (from row 0 rows) ≡ i .done ++ (rowBytes row s W fs sp j x ++ rest row rows s W (i .known .count) (suc r) (nextString j x))
+      split = i .split ∙ ap (λ (w : List ℕ). i .done ++ w) (rest-row (i .known) (i .stands) h e)
 
-      module _ {m : ℕ} {ys : List ℕ} (p : Put (stringBytes (told fs sp j (textAt W s j))) (take (length out - at) (drop at out)) ys m) where
-        pub write-fits : Fits w64 (at + m)
-        write-fits = omega (arith, i .fits, fits-here (stringBytes (told fs sp j (textAt W s j))) (rest row rows s W (i .known .count) (suc r) (suc j)) (rest-told (i .known) (i .stands) h e k), p .long)
-
-        pub write-string : Writing row rows s W fs sp o (r + 1) (j + 1) (at + m) (take at out ++ (ys ++ drop (length out - at) (drop at out)))
-        write-string =
-            let q = rest-told (i .known) (i .stands) h e k in
-            rw (add-one r, add-one j)
-            (record {
-              known = i .known;
-              stands = next-string (i .stands) h e k;
-              done = i .done ++ stringBytes (told fs sp j (textAt W s j));
-              split = i .split ∙ ap (λ (w : List ℕ). i .done ++ w) q ∙ sym (append-assoc (i .done) (stringBytes (told fs sp j (textAt W s j))) _);
-              front = front-here (stringBytes (told fs sp j (textAt W s j))) (rest row rows s W (i .known .count) (suc r) (suc j)) q p;
-              place = place-here (stringBytes (told fs sp j (textAt W s j))) (rest row rows s W (i .known .count) (suc r) (suc j)) q p;
-              long = front-long (front-here (stringBytes (told fs sp j (textAt W s j))) (rest row rows s W (i .known .count) (suc r) (suc j)) q p) (at + m) (sym (place-here (stringBytes (told fs sp j (textAt W s j))) (rest row rows s W (i .known .count) (suc r) (suc j)) q p)) (omega (arith, fits-here (stringBytes (told fs sp j (textAt W s j))) (rest row rows s W (i .known .count) (suc r) (suc j)) q, p .long));
-              room = i .room;
-              fits = i .fits;
-            })
-
-    module _ (k : x .kind ≡ 11 → ⊥) where
-      pub write-item-room : length (itemBytes s x) ≤ length (take (length out - at) (drop at out))
-      write-item-room = room-here (itemBytes s x) (rest row rows s W (i .known .count) (suc r) j) (rest-other (i .stands) h e k)
-
-      module _ {m : ℕ} {ys : List ℕ} (p : Put (itemBytes s x) (take (length out - at) (drop at out)) ys m) where
-        pub write-item-fits : Fits w64 (at + m)
-        write-item-fits = omega (arith, i .fits, fits-here (itemBytes s x) (rest row rows s W (i .known .count) (suc r) j) (rest-other (i .stands) h e k), p .long)
-
-        pub write-item : Writing row rows s W fs sp o (r + 1) j (at + m) (take at out ++ (ys ++ drop (length out - at) (drop at out)))
-        write-item =
-            let q = rest-other (i .stands) h e k in
-            rw add-one
-            (record {
-              known = i .known;
-              stands = next-other (i .stands) h e k;
-              done = i .done ++ itemBytes s x;
-              split = i .split ∙ ap (λ (w : List ℕ). i .done ++ w) q ∙ sym (append-assoc (i .done) (itemBytes s x) _);
-              front = front-here (itemBytes s x) (rest row rows s W (i .known .count) (suc r) j) q p;
-              place = place-here (itemBytes s x) (rest row rows s W (i .known .count) (suc r) j) q p;
-              long = front-long (front-here (itemBytes s x) (rest row rows s W (i .known .count) (suc r) j) q p) (at + m) (sym (place-here (itemBytes s x) (rest row rows s W (i .known .count) (suc r) j) q p)) (omega (arith, fits-here (itemBytes s x) (rest row rows s W (i .known .count) (suc r) j) q, p .long));
-              room = i .room;
-              fits = i .fits;
-            })
-
--- the first bytes, and the items behind them
-module _ (s : List ℕ) (xs : List Row) where
-  written-long : length (written s xs) ≡ 12 + length (planned s xs)
-  written-long = ap length (written-is s xs) ∙ length-append prefix (planned s xs)
-
-  pub message-start : (l : ℕ) → length (written s xs) ≤ l → 12 ≤ l
-  message-start l h = omega (arith, written-long)
-
-  module _ {o o₁ : List ℕ} (f : Front prefix o o₁) (h : length (written s xs) ≤ length o) where
-    pub message-on : 12 ≤ length o₁
-    message-on = omega (arith, front-long f 12 refl (message-start (length o) h), message-start (length o) h)
-
-    pub message-room : length (planned s xs) ≤ length (take (length o₁ - 12) (drop 12 o₁))
-    message-room = simp (length-take, length-drop) (omega (arith, written-long, front-long f 12 refl (message-start (length o) h)))
-
-    module _ {ys : List ℕ} {n : ℕ} (p : Put (planned s xs) (take (length o₁ - 12) (drop 12 o₁)) ys n) where
-      pub message-fits : length o < 18446744073709551616 → Fits w64 (12 + n)
-      message-fits l = omega (arith, written-long, p .long)
-
-      pub message-put : Put (written s xs) o (take 12 o₁ ++ (ys ++ drop (length o₁ - 12) (drop 12 o₁))) (12 + n)
-      message-put =
+      pub write-over : {out′ : List ℕ} → most < at + m → Fitted (take 12 o ++ planned s (from row 0 rows)) most o out′ (at + m)
+      write-over l =
           record {
-            front = rw (written-is s xs) (front-on f 12 refl (message-start (length o) h) (p .front));
-            long = omega (arith, written-long, p .long);
+            put = λ k. absurd (omega arith);
+            over = λ k. omega (arith, i .place, p .long, ap length split ∙ length-append (i .done) _, length-append (rowBytes row s W fs sp j x) (rest row rows s W (i .known .count) (suc r) (nextString j x)));
           }
 
-pub ruleset writing = (write-first, write-start, write-done, write-told, write-words, write-count, write-room, write-fits, write-string, write-item-room, write-item-fits, write-item, row-room, message-start, message-on, message-room, message-fits, message-put)
+      module _ (l : at + m ≤ most) where
+        front-here : Front (i .done ++ rowBytes row s W fs sp j x) o (take at out ++ (ys ++ drop (length out - at) (drop at out)))
+        front-here = front-on (i .front) at (sym (i .place)) (omega (arith, i .within, i .room .within)) (p .front (omega arith))
+
+        place-here : at + m ≡ length (i .done ++ rowBytes row s W fs sp j x)
+        place-here = sym (length-append (i .done) (rowBytes row s W fs sp j x) ∙ omega (arith, i .place, p .long))
+
+        pub write-again : {k : ℕ} → k ≡ nextString j x → Writing row rows s W fs sp most o (r + 1) k (at + m) (take at out ++ (ys ++ drop (length out - at) (drop at out)))
+        write-again q =
+            rw (add-one r, q)
+            (record {
+              known = i .known;
+              stands = stands-row (i .known) (i .stands) h e;
+              done = i .done ++ rowBytes row s W fs sp j x;
+              split = split ∙ sym (append-assoc (i .done) (rowBytes row s W fs sp j x) _);
+              front = front-here;
+              place = place-here;
+              within = l;
+              long = front-long front-here (at + m) (sym place-here) (omega (arith, i .room .within));
+              room = i .room;
+            })
+
+pub ruleset writing = (write-first, write-left, write-part, write-room, write-done, write-asked, write-few, write-fits, write-over, write-again, row-room)
+
+-- the first bytes, and the items behind them
+pub message-start : {most n : ℕ} → Most n most → 12 ≤ most → 12 ≤ n
+message-start m h = omega (arith, m .within)
+
+pub message-most : {most a : ℕ} {o o₁ : List ℕ} → Most (length o) most → 12 ≤ most → Put prefix o o₁ a → Most (length o₁) most
+message-most m h p = rw (front-long (p .front) 12 refl (message-start m h)) m
+
+module _ (s : List ℕ) (xs : List Row) {most : ℕ} {o : List ℕ} where
+  pub message-none : most < 12 → Fitted (written s xs) most o o 12
+  message-none h = record { put = λ k. absurd (omega arith); over = λ k. omega (arith, written-long s xs) }
+
+  module _ (m : Most (length o) most) (h : 12 ≤ most) where
+    module _ {o₁ : List ℕ} {a : ℕ} (p : Put prefix o o₁ a) where
+      pub message-fitted : {o₂ : List ℕ} {n : ℕ} → Fitted (take 12 o₁ ++ planned s xs) most o₁ o₂ n → Fitted (written s xs) most o o₂ n
+      message-fitted {o₂} {n} f =
+          let q : take 12 o₁ ++ planned s xs ≡ written s xs = rw (front-take (p .front) 12 refl (message-start m h)) (sym (written-is s xs)) in
+          record {
+            put = λ k.
+                let g = rw q at (f .put k) in
+                let d : drop (length (written s xs)) o₁ ≡ drop (length (written s xs)) o = past (length (written s xs)) (omega (arith, written-long s xs)) in
+                record { front = record { is = g .front .is ∙ rw d }; long = g .long };
+            over = λ k. rw q at (f .over k);
+          }
+        where
+          past : (i : ℕ) → 12 ≤ i → drop i o₁ ≡ drop i o
+          past i l =
+              let e : 12 + (i - 12) ≡ i = omega arith in
+              sym (drop-drop (i - 12) 12 o₁ ∙ ap (λ (k : ℕ). drop k o₁) e) ∙ rw (front-drop (p .front) 12 refl (message-start m h)) (drop-drop (i - 12) 12 o ∙ ap (λ (k : ℕ). drop k o) e)
+
+pub ruleset whole = (message-none, message-start, message-most, message-fitted)

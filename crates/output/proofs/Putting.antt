@@ -8,7 +8,7 @@ use lib.ListN.{length, getD, set, take, drop, replicate, length-set, length-appe
 use lib.Seq.{take-all, take-suc, drop-cons, set-at, drop-drop, take-at, drop-at, length-take-le}
 use borrow.Author.Fill.{fill-more}
 use Rattle.draft.specs.Written.{lsb, counted}
-use Rattle.output.specs.Contract.{Front, Put}
+use Rattle.output.specs.Contract.{Front, Put, Tried}
 
 -- i bytes of an output o are cleared
 pub record Clearing (o : List ℕ) (i : ℕ) (out : List ℕ) : Type 0 where
@@ -135,3 +135,32 @@ module _ {o o₁ ys : List ℕ} {k : ℕ} where
     put-recorded t l g = two-on (counted t) (6 + length t) l (omega (arith, counted-length t)) g
 
 pub ruleset putting = (clear-first, clear-again, clear-done, copy-first, copy-again, copy-done, front-four, front-counted, put-one, put-two, put-number, put-long, put-short, put-recorded)
+
+-- what was tried
+pub tried-put : {xs o o′ : List ℕ} {most n : ℕ} → Put xs o o′ n → Tried xs most o o′ n
+tried-put p = record { long = p .long; front = λ h. p .front }
+
+pub tried-over : {xs o : List ℕ} {most n : ℕ} → most < n → n ≡ length xs → Tried xs most o o n
+tried-over h e = record { long = e; front = λ k. absurd (omega arith) }
+
+module _ (b : ℕ) where
+  pub one-over : {o : List ℕ} {most : ℕ} → most < 1 → Tried (b ∷ []) most o o 1
+  one-over h = tried-over h refl
+
+  pub number-over : (n : ℕ) {o : List ℕ} {most : ℕ} → most < 5 → Tried (b ∷ lsb n) most o o 5
+  number-over n h = tried-over h (omega (arith, lsb-four n))
+
+  pub long-over : (t : List ℕ) {o : List ℕ} {most : ℕ} → most < 5 + length t → Tried (b ∷ counted t) most o o (5 + length t)
+  long-over t h = tried-over h (omega (arith, counted-length t))
+
+  module _ (c : ℕ) where
+    pub two-over : {o : List ℕ} {most : ℕ} → most < 2 → Tried (b ∷ c ∷ []) most o o 2
+    two-over h = tried-over h refl
+
+    pub short-over : (t : List ℕ) {o : List ℕ} {most : ℕ} → most < 2 + length t → Tried (b ∷ c ∷ t) most o o (2 + length t)
+    short-over t h = tried-over h (omega arith)
+
+    pub recorded-over : (t : List ℕ) {o : List ℕ} {most : ℕ} → most < 6 + length t → Tried (b ∷ c ∷ counted t) most o o (6 + length t)
+    recorded-over t h = tried-over h (omega (arith, counted-length t))
+
+pub ruleset trying = (tried-put, one-over, two-over, number-over, short-over, long-over, recorded-over)

@@ -1,5 +1,5 @@
 -- What stands in a lent output after a call. Assumes nothing.
-use Prim.Native.Nat.{ℕ}
+use Prim.Native.Nat.{ℕ, _≤_}
 use mathlib.Core.Path.{_≡_}
 use mathlib.Core.List.{List, _++_}
 use lib.ListN.{length, drop}
@@ -12,3 +12,8 @@ pub record Front (xs out out′ : List ℕ) : Type 0 where
 pub record Put (xs out out′ : List ℕ) (n : ℕ) : Type 0 where
   pub front : Front xs out out′
   pub long : n ≡ length xs
+
+-- xs has n bytes, and stands in front if they are at most so many
+pub record Tried (xs : List ℕ) (most : ℕ) (out out′ : List ℕ) (n : ℕ) : Type 0 where
+  pub long : n ≡ length xs
+  pub front : n ≤ most → Front xs out out′

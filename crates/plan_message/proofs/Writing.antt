@@ -15,11 +15,13 @@ use Rattle.draft.specs.Table.{from}
 use Rattle.draft.specs.Strings.{Text, textsOf, cost}
 use Rattle.draft.specs.Written.{stringBytes, itemBytes, itemsOf, messageOf}
 use Rattle.extents.specs.Asked.{Ready}
-use Rattle.buckets.specs.Numbered.{textAt}
+use Rattle.buckets.specs.Numbered.{textAt, Through}
 use Rattle.buckets.proofs.Numbered.{from-step, from-none}
+use Rattle.buckets.proofs.Comparing.{through}
 use Rattle.output.specs.Contract.{Front, Put}
 use Rattle.output.proofs.Putting.{front-on, front-long}
 use Rattle.sending.specs.Contract.{Collected}
+use Rattle.sending.proofs.Collecting.{strings-there}
 use Rattle.sending.proofs.Sending.{string-cost}
 use Rattle.message.proofs.Writing.{item-most, Stands, stands-first, string-there, next-string, next-other, row-room}
 use Rattle.plans.specs.Plans.{sentAt, sentsFrom, planned}
@@ -28,16 +30,16 @@ use Rattle.plan_message.specs.Contract.{plannedItems, Known}
 
 -- the items from row r on, where the next string is string j of n
 abbrev rest : (ℕ → Row) → ℕ → List ℕ → List ℕ → List ℕ → ℕ → ℕ → ℕ → List ℕ
-rest row rows s W plan n r j = itemsOf s (from row r (rows - r)) (sentsFrom plan j (from (textAt W s) j (n - j)))
+rest row rows s W plan n r j = itemsOf s (from row r (rows - r)) (sentsFrom plan j (from (textAt row W s) j (n - j)))
 
 -- string j, as it is sent
-abbrev bytesAt : List ℕ → List ℕ → List ℕ → ℕ → List ℕ
-bytesAt s W plan j = stringBytes (sentAt plan j (textAt W s j))
+abbrev bytesAt : (ℕ → Row) → List ℕ → List ℕ → List ℕ → ℕ → List ℕ
+bytesAt row s W plan j = stringBytes (sentAt plan j (textAt row W s j))
 
 module _ {row : ℕ → Row} {rows : ℕ} {s W : List ℕ} (plan : List ℕ) {n r j : ℕ} (i : Stands row rows s W n r j) (h : r < rows) {x : Row} (e : x ≡ row r) where
-  rest-string : x .kind ≡ 11 → rest row rows s W plan n r j ≡ bytesAt s W plan j ++ rest row rows s W plan n (suc r) (suc j)
+  rest-string : x .kind ≡ 11 → rest row rows s W plan n r j ≡ bytesAt row s W plan j ++ rest row rows s W plan n (suc r) (suc j)
   unfolding itemsOf sentsFrom
-  rest-string k = rw (from-step row r rows h, ← e, eq-eqb _ _ k, from-step (textAt W s) j n (string-there i h e k))
+  rest-string k = rw (from-step row r rows h, ← e, eq-eqb _ _ k, from-step (textAt row W s) j n (string-there i h e k))
 
   rest-other : (x .kind ≡ 11 → ⊥) → rest row rows s W plan n r j ≡ itemBytes s x ++ rest row rows s W plan n (suc r) j
   unfolding itemsOf
@@ -60,14 +62,11 @@ planned-long s xs plan = ap length (planned-is s xs plan) ∙ length-append pref
 
 -- a string that is next
 module _ {row : ℕ → Row} {rows : ℕ} {s W plan : List ℕ} {r j : ℕ} {x : Row} (k : Known row rows s W plan) (i : Stands row rows s W (k .count) r j) (h : r < rows) (e : x ≡ row r) (f : x .kind ≡ 11) where
-  words-there : j * 2 + 1 < length W
-  words-there = let l = string-there i h e f in omega (arith, k .strings .room)
+  through-there : {room words : ℕ} → Ready rows room words → Through room words j W
+  through-there y = through (strings-there y (k .strings)) (string-there i h e f)
 
   plan-there : j * 2 + 1 < length plan
   plan-there = let l = string-there i h e f in omega (arith, k .room)
-
-  few-there : {room words : ℕ} → Ready rows room words → j < 4096
-  few-there y = let l = string-there i h e f in omega (arith, k .strings .few, y .stated, y .most)
 
 -- where the measuring stands
 pub record Measuring (row : ℕ → Row) (rows : ℕ) (s W plan : List ℕ) (r j sum : ℕ) : Type 0 where
@@ -94,16 +93,16 @@ module _ {row : ℕ → Row} {rows : ℕ} {s W plan : List ℕ} {r j sum : ℕ} 
 
   module _ {x : Row} (e : x ≡ row r) (h : r < rows) where
     module _ (k : x .kind ≡ 11) where
-      pub measure-words : j * 2 + 1 < length W
-      measure-words = words-there (i .known) (i .stands) h e k
-
       pub measure-plan : j * 2 + 1 < length plan
       measure-plan = plan-there (i .known) (i .stands) h e k
 
-      pub measure-few : {room words : ℕ} → Ready rows room words → j < 4096
-      measure-few y = few-there (i .known) (i .stands) h e k y
+      pub measure-through : {room words : ℕ} → Ready rows room words → Through room words j W
+      measure-through y = through-there (i .known) (i .stands) h e k y
 
-      pub measure-string : {m : ℕ} → Takes plan j (textAt W s j) m → Measuring row rows s W plan (r + 1) (j + 1) (sum + m)
+      pub measure-count : {room words : ℕ} → Ready rows room words → Fits w64 (j + 1)
+      measure-count y = omega (arith, string-there (i .stands) h e k, i .known .strings .few, y .stated, y .most)
+
+      pub measure-string : {m : ℕ} → Takes plan j (textAt row W s j) m → Measuring row rows s W plan (r + 1) (j + 1) (sum + m)
       measure-string {m} l =
           rw (add-one r, add-one j)
           (record {
@@ -111,7 +110,7 @@ module _ {row : ℕ → Row} {rows : ℕ} {s W plan : List ℕ} {r j sum : ℕ} 
             stands = next-string (i .stands) h e k;
             so-far =
                 omega
-                (arith, i .so-far, l .is, string-cost (sentAt plan j (textAt W s j)), ap length (rest-string plan (i .stands) h e k) ∙ length-append (bytesAt s W plan j) (rest row rows s W plan (i .known .count) (suc r) (suc j)));
+                (arith, i .so-far, l .is, string-cost (sentAt plan j (textAt row W s j)), ap length (rest-string plan (i .stands) h e k) ∙ length-append (bytesAt row s W plan j) (rest row rows s W plan (i .known .count) (suc r) (suc j)));
             small = omega (arith, i .small, l .most);
           })
 
@@ -126,7 +125,7 @@ module _ {row : ℕ → Row} {rows : ℕ} {s W plan : List ℕ} {r j sum : ℕ} 
         })
 
   module _ {room words : ℕ} (y : Ready rows room words) (h : r < rows) where
-    pub measure-fits : {m : ℕ} → Takes plan j (textAt W s j) m → Fits w64 (sum + m)
+    pub measure-fits : {m : ℕ} → Takes plan j (textAt row W s j) m → Fits w64 (sum + m)
     measure-fits l = omega (arith, l .most, i .small, y .stated, y .most)
 
     pub measure-item-fits : {m : ℕ} (x : Row) → m ≡ length (itemBytes s x) → Fits w64 (sum + m)
@@ -164,6 +163,9 @@ module _ {row : ℕ → Row} {rows : ℕ} {s W plan o : List ℕ} {r j at : ℕ}
 
   pub write-start : at ≤ length out
   write-start = omega (arith, left-long, i .long, i .room)
+
+  pub write-short : length s ≤ 65536
+  write-short = i .known .short
 
   pub write-done : rows ≤ r → Put (plannedItems s (from row 0 rows) plan) o out at
   write-done h =
@@ -204,24 +206,24 @@ module _ {row : ℕ → Row} {rows : ℕ} {s W plan o : List ℕ} {r j at : ℕ}
 
   module _ {x : Row} (e : x ≡ row r) (h : r < rows) where
     module _ (k : x .kind ≡ 11) where
-      pub write-words : j * 2 + 1 < length W
-      write-words = words-there (i .known) (i .stands) h e k
-
       pub write-plan : j * 2 + 1 < length plan
       write-plan = plan-there (i .known) (i .stands) h e k
 
-      pub write-few : {room words : ℕ} → Ready rows room words → j < 4096
-      write-few y = few-there (i .known) (i .stands) h e k y
+      pub write-through : {room words : ℕ} → Ready rows room words → Through room words j W
+      write-through y = through-there (i .known) (i .stands) h e k y
 
-      pub write-room : length (stringBytes (sentAt plan j (textAt W s j))) ≤ length (take (length out - at) (drop at out))
-      write-room = room-here (bytesAt s W plan j) _ (rest-string plan (i .stands) h e k)
+      pub write-count : {room words : ℕ} → Ready rows room words → Fits w64 (j + 1)
+      write-count y = omega (arith, string-there (i .stands) h e k, i .known .strings .few, y .stated, y .most)
 
-      module _ {m : ℕ} {ys : List ℕ} (p : Put (stringBytes (sentAt plan j (textAt W s j))) (take (length out - at) (drop at out)) ys m) where
+      pub write-room : length (stringBytes (sentAt plan j (textAt row W s j))) ≤ length (take (length out - at) (drop at out))
+      write-room = room-here (bytesAt row s W plan j) _ (rest-string plan (i .stands) h e k)
+
+      module _ {m : ℕ} {ys : List ℕ} (p : Put (stringBytes (sentAt plan j (textAt row W s j))) (take (length out - at) (drop at out)) ys m) where
         pub write-fits : Fits w64 (at + m)
-        write-fits = count-here (bytesAt s W plan j) _ (rest-string plan (i .stands) h e k) p
+        write-fits = count-here (bytesAt row s W plan j) _ (rest-string plan (i .stands) h e k) p
 
         pub write-string : Writing row rows s W plan o (r + 1) (j + 1) (at + m) (take at out ++ (ys ++ drop (length out - at) (drop at out)))
-        write-string = rw (add-one r, add-one j) (put-here (bytesAt s W plan j) _ (rest-string plan (i .stands) h e k) p (next-string (i .stands) h e k) refl)
+        write-string = rw (add-one r, add-one j) (put-here (bytesAt row s W plan j) _ (rest-string plan (i .stands) h e k) p (next-string (i .stands) h e k) refl)
 
     module _ (k : x .kind ≡ 11 → ⊥) where
       pub write-item-room : length (itemBytes s x) ≤ length (take (length out - at) (drop at out))

@@ -1,13 +1,13 @@
 // The message of rows whose strings a plan sends: how many bytes it has, its bytes into a lent output, and an output filled with it and
-// with zeros behind it. Strings are numbered in row order; string j has two lent words, the offset and the length of its text within the
-// text bytes, and two bytes of the plan.
+// with zeros behind it. Strings are numbered in row order; of string j a lent word has the row, and the plan two bytes.
+use draft::Row;
 ghost use mathlib.Core.Path.{_≡_};
 ghost use Prim.Native.Nat.{_+_, _*_, _≤_, _<_};
 ghost use lib.ListN.{length};
 ghost use Rattle.draft.specs.Table.{rowAt, from};
-ghost use Rattle.draft.specs.Written.{stringBytes};
+ghost use Rattle.draft.specs.Written.{stringBytes, itemBytes};
 ghost use Rattle.extents.specs.Asked.{Ready};
-ghost use Rattle.buckets.specs.Numbered.{textAt};
+ghost use Rattle.buckets.specs.Numbered.{textAt, Through};
 ghost use Rattle.plans.specs.Plans.{sentAt, planned};
 ghost use Rattle.output.specs.Contract.{Put};
 ghost use Rattle.message.specs.Filled.{Filled};
@@ -19,7 +19,7 @@ pub fn measure(
     room: usize,
     rows: usize,
     text: &[u8],
-    strings: &[u32],
+    strings: &[u16],
     plan: &[u8],
 ) -> usize
     requires { ⌜ Ready rows room (length (now table)) × Known (rowAt room (now table)) rows (now text) (now strings) (now plan) ⌝ }
@@ -31,7 +31,7 @@ pub fn measure(
     while r < rows {
         let row = table::get_row(table, room, r);
         if row.kind == 11 {
-            sum += plans::string_length(strings, text, plan, j);
+            sum += plans::string_length(table, room, strings, text, plan, j);
             j += 1;
             r += 1;
         } else {
@@ -43,20 +43,38 @@ pub fn measure(
 }
 
 // String j, to the front of the output.
-fn put_string(out: &mut [u8], text: &[u8], strings: &[u32], plan: &[u8], j: usize) -> usize
-    requires { ⌜ (j < 4096) × (j * 2 + 1 < length (now strings)) × (j * 2 + 1 < length (now plan)) × (length (stringBytes (sentAt (now plan) j (textAt (now strings) (now text) j))) ≤ length (now out)) ⌝ }
-    ensures { λ n. ⌜ Put (stringBytes (sentAt (now (plan .entry)) j (textAt (now (strings .entry)) (now (text .entry)) j))) (now (out .entry)) (now (out .exit)) n ⌝ }
+fn put_string(
+    out: &mut [u8],
+    table: &[u32],
+    room: usize,
+    text: &[u8],
+    strings: &[u16],
+    plan: &[u8],
+    j: usize,
+) -> usize
+    requires { ⌜ Through room (length (now table)) j (now strings) × (j * 2 + 1 < length (now plan)) × (length (now text) ≤ 65536) × (length (stringBytes (sentAt (now plan) j (textAt (rowAt room (now table)) (now strings) (now text) j))) ≤ length (now out)) ⌝ }
+    ensures { λ n. ⌜ Put (stringBytes (sentAt (now (plan .entry)) j (textAt (rowAt room (now (table .entry))) (now (strings .entry)) (now (text .entry)) j))) (now (out .entry)) (now (out .exit)) n ⌝ }
 {
-    let t = buckets::text_of(strings, text, j);
+    let t = buckets::text_of(table, room, strings, text, j);
     let form = plans::byte(plan[j * 2]);
     let p = plan[j * 2 + 1];
+    let most = out.len();
     if form == 0 {
-        return output::put_long(out, b'U', t);
+        return output::try_long(out, most, b'U', t);
     }
     if form == 1 {
-        return output::put_recorded(out, p, t);
+        return output::try_recorded(out, most, p, t);
     }
-    output::put_two(out, b'<', p)
+    output::try_two(out, most, b'<', p)
+}
+
+// The item of a row that is no string's, likewise.
+fn put_item(out: &mut [u8], text: &[u8], row: Row) -> usize
+    requires { ⌜ (length (now text) ≤ 65536) × (length (itemBytes (now text) row) ≤ length (now out)) ⌝ }
+    ensures { λ n. ⌜ Put (itemBytes (now (text .entry)) row) (now (out .entry)) (now (out .exit)) n ⌝ }
+{
+    let most = out.len();
+    encoding::put_item(out, most, text, row)
 }
 
 // The items: each goes into the part of the output after the items already there.
@@ -65,7 +83,7 @@ fn put_items(
     room: usize,
     rows: usize,
     text: &[u8],
-    strings: &[u32],
+    strings: &[u16],
     plan: &[u8],
     output: &mut [u8],
 ) -> usize
@@ -78,11 +96,11 @@ fn put_items(
     while sent < rows {
         let row = table::get_row(table, room, sent);
         if row.kind == 11 {
-            at += put_string(&mut output[at..], text, strings, plan, j);
+            at += put_string(&mut output[at..], table, room, text, strings, plan, j);
             j += 1;
             sent += 1;
         } else {
-            at += encoding::put_item(&mut output[at..], text, row);
+            at += put_item(&mut output[at..], text, row);
             sent += 1;
         }
     }
@@ -95,7 +113,7 @@ fn put_message(
     room: usize,
     rows: usize,
     text: &[u8],
-    strings: &[u32],
+    strings: &[u16],
     plan: &[u8],
     output: &mut [u8],
 ) -> usize
@@ -112,7 +130,7 @@ pub fn fill(
     room: usize,
     rows: usize,
     text: &[u8],
-    strings: &[u32],
+    strings: &[u16],
     plan: &[u8],
     n: usize,
     output: &mut [u8],

@@ -117,12 +117,12 @@ module _ (form : List ℕ) (room : ℕ) where
       go false y = refl
 
 -- rows whose strings were collected
-module _ {row : ℕ → Row} {rows : ℕ} (s plan : List ℕ) {W : List ℕ} {n : ℕ} (c : Collected row rows W n) {b : Bool} (e : b ≡ taken plan (from (textAt W s) 0 n)) where
+module _ {row : ℕ → Row} {rows : ℕ} (s plan : List ℕ) {W : List ℕ} {n : ℕ} (c : Collected row rows W n) {b : Bool} (e : b ≡ taken plan (from (textAt row W s) 0 n)) where
   taken-is : taken plan (textsOf s (from row 0 rows)) ≡ b
   taken-is = ap (taken plan) (c .texts s) ∙ sym e
 
   pub by-known : b ≡ true → length s ≤ 65536 → Known row rows s W plan
-  by-known f h = record { count = n; strings = c; room = omega (arith, taken-long (textAt W s) plan n (sym e ∙ f)); short = h }
+  by-known f h = record { count = n; strings = c; room = omega (arith, taken-long (textAt row W s) plan n (sym e ∙ f)); short = h }
 
   pub by-written : {o o′ : List ℕ} {a : Answer} {k : ℕ} → b ≡ true → Filled (chosen s (from row 0 rows) plan) o o′ k → a ≡ answerFor k (length o) → DidBy s (from row 0 rows) plan o o′ a
   unfolding answerBy

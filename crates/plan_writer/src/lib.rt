@@ -2,7 +2,7 @@
 // document 01's form. Here are the refusals and their order, and which of the two is written.
 use draft::Refusal;
 ghost use mathlib.Core.Path.{_≡_};
-ghost use Prim.Native.Nat.{_*_, _≤_};
+ghost use Prim.Native.Nat.{_≤_};
 ghost use lib.ListN.{length};
 ghost use Rattle.draft.specs.Table.{rowAt, from};
 ghost use Rattle.extents.specs.Asked.{Ready};
@@ -48,7 +48,7 @@ fn fill_shorter(
     room: usize,
     rows: usize,
     text: &[u8],
-    strings: &[u32],
+    strings: &[u16],
     plan: &[u8],
     output: &mut [u8],
 ) -> usize
@@ -70,14 +70,14 @@ fn write_rows(
     rows: usize,
     text: &[u8],
     plan: &[u8],
-    strings: &mut [u32],
+    strings: &mut [u16],
     output: &mut [u8],
 ) -> Answer
-    requires { ⌜ Ready rows room (length (now table)) × (length (now text) ≤ 65536) × (rows * 2 ≤ length (now strings)) ⌝ }
+    requires { ⌜ Ready rows room (length (now table)) × (length (now text) ≤ 65536) × (rows ≤ length (now strings)) ⌝ }
     ensures { λ r. ⌜ DidBy (now (text .entry)) (from (rowAt room (now (table .entry))) 0 rows) (now (plan .entry)) (now (output .entry)) (now (output .exit)) r ⌝ }
 {
     let count = sending::collect(table, room, rows, strings);
-    if plans::taken(&strings[..], count, text, plan) {
+    if plans::taken(table, room, &strings[..], count, text, plan) {
         let size = output.len();
         let n = fill_shorter(table, room, rows, text, &strings[..], plan, output);
         return answer_for(n, size);
@@ -97,8 +97,8 @@ fn write_judged(
     requires { ⌜ Ready rows room (length (now table)) × (length (now text) ≤ 65536) ⌝ }
     ensures { λ r. ⌜ DidBy (now (text .entry)) (from (rowAt room (now (table .entry))) 0 rows) (now (plan .entry)) (now (output .entry)) (now (output .exit)) r ⌝ }
 {
-    let mut words = [0u32; 8192];
-    let strings: &mut [u32] = &mut words;
+    let mut words = [0u16; 4096];
+    let strings: &mut [u16] = &mut words;
     write_rows(table, room, rows, text, plan, strings, output)
 }
 

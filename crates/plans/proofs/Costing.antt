@@ -5,6 +5,7 @@ use mathlib.Core.List.{List, [], _∷_}
 use native.Mathlib.Omega.{arith}
 use native.Mathlib.Numerals.{add-one}
 use lib.ListN.{length, getD}
+use Rattle.draft.specs.declared.Row.{Row}
 use Rattle.draft.specs.Table.{from}
 use Rattle.draft.specs.Strings.{Text, cost, costs}
 use Rattle.buckets.specs.Numbered.{textAt}
@@ -14,23 +15,23 @@ use Rattle.plans.specs.Plans.{formAt, positionAt, sentBy, sentAt, sentsF
 use Rattle.plans.specs.Contract.{Takes}
 
 -- a string by its form
-module _ (W s plan : List ℕ) (j : ℕ) {t : Text} {form : ℕ} (g : t ≡ textAt W s j) (f : form ≡ formAt plan j) (h : length s ≤ 65536) where
+module _ (row : ℕ → Row) (W s plan : List ℕ) (j : ℕ) {t : Text} {form : ℕ} (g : t ≡ textAt row W s j) (f : form ≡ formAt plan j) (h : length s ≤ 65536) where
   few : length t ≤ 65536
-  few = rw g (omega (arith, text-short W s j))
+  few = rw g (omega (arith, text-short row W s j))
 
-  pub takes-regular : form ≡ 0 → Takes plan j (textAt W s j) (5 + length t)
+  pub takes-regular : form ≡ 0 → Takes plan j (textAt row W s j) (5 + length t)
   unfolding sentAt cost
   takes-regular e = record { is = rw (← f, e, g); most = omega (arith, few) }
 
-  pub takes-recorded : form ≡ 1 → Takes plan j (textAt W s j) (6 + length t)
+  pub takes-recorded : form ≡ 1 → Takes plan j (textAt row W s j) (6 + length t)
   unfolding sentAt cost
   takes-recorded e = record { is = rw (← f, e, g); most = omega (arith, few) }
 
-  pub takes-recalled : (form ≡ 0 → ⊥) → (form ≡ 1 → ⊥) → Takes plan j (textAt W s j) 2
+  pub takes-recalled : (form ≡ 0 → ⊥) → (form ≡ 1 → ⊥) → Takes plan j (textAt row W s j) 2
   unfolding sentAt cost
   takes-recalled a b = record { is = rw (← f) (two form a b); most = omega arith }
     where
-      two : (form : ℕ) → (form ≡ 0 → ⊥) → (form ≡ 1 → ⊥) → 2 ≡ cost (sentBy form (positionAt plan j) (textAt W s j))
+      two : (form : ℕ) → (form ≡ 0 → ⊥) → (form ≡ 1 → ⊥) → 2 ≡ cost (sentBy form (positionAt plan j) (textAt row W s j))
       two zero a b = absurd (a refl)
       two (suc zero) a b = absurd (b refl)
       two (suc (suc form)) a b = refl

@@ -15,7 +15,6 @@ use Rattle.text.proofs.Comparing.{clash, both}
 use Rattle.draft.specs.Table.{from}
 use Rattle.draft.specs.Grammar.{Recording, text-at, first, look, after}
 use Rattle.draft.specs.Strings.{Text}
-use Rattle.buckets.specs.Numbered.{textAt}
 use Rattle.buckets.proofs.Numbered.{from-step, from-none}
 use Rattle.plans.specs.Plans.{formAt, positionAt, sentBy, sentAt, valued, holdsText, maySend, takenFrom, taken}
 use Rattle.plans.specs.Contract.{Spot, unset, holds, Spots, Named, Sends}
@@ -79,12 +78,11 @@ module _ (t : ℕ → Text) (j p : ℕ) {book : List ℕ} (n : Named j book) whe
           named = named-on n;
         }
 
-    pub sends-recalled :
-        {u v : Text} {b : Bool} → (getD book p 0 ≡ 0 → ⊥) → u ≡ t (getD book p 0 - 1) → v ≡ t j → b ≡ same u v → Sends t j form p book book b
+    pub sends-recalled : {b : Bool} → (getD book p 0 ≡ 0 → ⊥) → b ≡ same (t (getD book p 0 - 1)) (t j) → Sends t j form p book book b
     unfolding valued maySend
-    sends-recalled z h i k =
+    sends-recalled z k =
         record {
-          says = λ R s. k ∙ rw (e, spot-held (s .at p) z, h, i);
+          says = λ R s. k ∙ rw (e, spot-held (s .at p) z);
           keeps = λ R s b. rw e s;
           named = named-on n;
         }
@@ -98,13 +96,10 @@ module _ (t : ℕ → Text) (j p : ℕ) {book : List ℕ} (n : Named j book) whe
         named = named-on n;
       }
 
-pub recalled-there : {j : ℕ} (p : ℕ) {book : List ℕ} → Named j book → j < 4096 → getD book p 0 - 1 < 4096
-recalled-there p n h = omega (arith, n .at p)
+pub recalled-before : {j : ℕ} (p : ℕ) {book : List ℕ} → Named j book → getD book p 0 - 1 ≤ j
+recalled-before p n = omega (arith, n .at p)
 
-pub recalled-words : {j : ℕ} (p : ℕ) {book : List ℕ} (W : List ℕ) → Named j book → j * 2 + 1 < length W → (getD book p 0 - 1) * 2 + 1 < length W
-recalled-words p W n h = omega (arith, n .at p)
-
-pub ruleset sending = (sends-regular, sends-recorded, sends-unset, sends-recalled, sends-other, recalled-there, recalled-words)
+pub ruleset sending = (sends-regular, sends-recorded, sends-unset, sends-recalled, sends-other, recalled-before)
 
 -- how far the judging is: the book is that of some recordings, with which what is left decides
 pub record Taking (t : ℕ → Text) (plan : List ℕ) (n : ℕ) (book : List ℕ) (j : ℕ) : Type 0 where

@@ -6,8 +6,6 @@ use mathlib.Core.List.{List}
 use native.Mathlib.Omega.{arith}
 use lib.ListN.{length, getD}
 use lib.Dec.{ltb}
-use mir.Syntax.{w64}
-use mir.Val.{Fits}
 use borrow.Author.Tests.{ltb-true, lt-ltb, le-ltb}
 use Rattle.text.specs.Texts.{among}
 use Rattle.draft.specs.Grammar.{Sent, regular, recorded, recalled}
@@ -17,24 +15,21 @@ use Rattle.buckets.specs.Numbered.{before, First, Firsts}
 use Rattle.positions.specs.Contract.{Slot, Slots, Ready, told, SentBy}
 use Rattle.buckets.proofs.Numbered.{seen-first, first-own}
 
-module _ {fs sp : List ℕ} {j : ℕ} where
-  pub sent-recalled : getD sp (getD fs j 0) 0 < 256 → getD fs j 0 < j → SentBy fs sp j (sending.Recalled (getD sp (getD fs j 0) 0))
+module _ {fs sp : List ℕ} {j f : ℕ} (e : f ≡ getD fs j 0) where
+  pub sent-recalled : getD sp f 0 < 256 → f < j → SentBy fs sp j (sending.Recalled (getD sp f 0))
   unfolding told
-  sent-recalled h k = record { is = λ t. rw (lt-ltb _ _ h, lt-ltb _ _ k) }
+  sent-recalled h k = record { is = λ t. rw (← e, lt-ltb _ _ h, lt-ltb _ _ k) }
 
-  pub sent-recorded : getD sp (getD fs j 0) 0 < 256 → j ≤ getD fs j 0 → SentBy fs sp j (sending.Recorded (getD sp (getD fs j 0) 0))
+  pub sent-recorded : getD sp f 0 < 256 → j ≤ f → SentBy fs sp j (sending.Recorded (getD sp f 0))
   unfolding told
-  sent-recorded h k = record { is = λ t. rw (lt-ltb _ _ h, le-ltb _ _ k) }
+  sent-recorded h k = record { is = λ t. rw (← e, lt-ltb _ _ h, le-ltb _ _ k) }
 
-  pub sent-regular : 256 ≤ getD sp (getD fs j 0) 0 → SentBy fs sp j sending.Regular
+  pub sent-regular : 256 ≤ getD sp f 0 → SentBy fs sp j sending.Regular
   unfolding told
-  sent-regular h = record { is = λ t. rw (le-ltb _ _ h) }
+  sent-regular h = record { is = λ t. rw (← e, le-ltb _ _ h) }
 
-  pub spot-there : Ready fs sp j → getD fs j 0 < length sp
+  pub spot-there : Ready fs sp j → f < length sp
   spot-there r = omega (arith, r .earlier, r .spot)
-
-  pub spot-fits : Ready fs sp j → Fits w64 (getD fs j 0)
-  spot-fits r = omega (arith, r .earlier, r .few)
 
 -- what the words tell is how the written form sends the string
 pub told-is : (P : List Text) (t : ℕ → Text) {n : ℕ} {fs sp : List ℕ} (j : ℕ) → Firsts t n fs → Slots P t n sp → j < n → told fs sp j (t j) ≡ sentOf P (before t j) (t j)
@@ -55,4 +50,4 @@ told-is P t {n} {fs} {sp} j f o h =
             let q : position P u ≡ p = ap (position P) (sym e) ∙ s .at (ltb-true p 256 f) in
             rw q
 
-pub ruleset choosing = (sent-recalled, sent-recorded, sent-regular, spot-there, spot-fits)
+pub ruleset choosing = (sent-recalled, sent-recorded, sent-regular, spot-there)

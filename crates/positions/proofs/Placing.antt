@@ -15,11 +15,11 @@ use Rattle.text.proofs.Comparing.{clash, same-self}
 use Rattle.draft.specs.Strings.{Text, repeats, repeated, kept, position}
 use Rattle.draft.specs.Table.{from}
 use Rattle.buckets.specs.Numbered.{before, First, Firsts, Marks}
-use Rattle.positions.specs.Contract.{Slot, Slots, Placed}
+use Rattle.positions.specs.Contract.{Slot, Slots, Marked, Numbered, Placed}
 use Rattle.occurring.specs.Occurring.{bit, times}
 use Rattle.occurring.proofs.Among.{at-or-not, and-false, or-true, or-no, among-append, among-times}
 use Rattle.occurring.proofs.Repeating.{times-repeats}
-use Rattle.buckets.proofs.Numbered.{from-step, seen-first, first-once}
+use Rattle.buckets.proofs.Numbered.{from-step, from-none, from-again, from-other, seen-first, first-once, first-of}
 
 among-take : (u : Text) (n : ℕ) (us : List Text) → among us u ≡ false → among (take n us) u ≡ false
 unfolding among
@@ -47,6 +47,55 @@ repeats-seen u seen ts e =
     let z : times u (repeats seen ts) ≡ 0 = times-repeats u seen ts ∙ ap (λ (b : Bool). bit (not b && leb 2 (times u ts))) e in
     among-times u (repeats seen ts) ∙ ap (ltb 0) z
 
+-- the marks of the texts that come again, string by string
+marks-more : (t : ℕ → Text) (r f : ℕ) (tw : List ℕ) → Marks t r tw → First t r f → r < length tw → Marks t (suc r) (set tw f (r - f))
+unfolding among
+marks-more t r f tw h e l = record { at = λ k. at-or-not P k r here (old k) }
+  where
+    P : ℕ → Type 0
+    P k = k < suc r → First t k k → ltb 0 (getD (set tw f (r - f)) k 0) ≡ among (from t (suc k) (suc r - suc k)) (t k)
+
+    here : P r
+    here m o =
+        let q : f ≡ r = first-once t e o in
+        let z : r - f ≡ 0 = omega arith in
+        ap (ltb 0) (ap (λ (i : ℕ). getD (set tw f (r - f)) i 0) (sym q) ∙ getD-set-same tw f (r - f) 0 (omega arith) ∙ z)
+        ∙ sym (ap (λ (us : List Text). among us (t r)) (from-none t (suc r) (suc r) (omega arith)))
+
+    old : (k : ℕ) → (k ≡ r → ⊥) → P k
+    old k n m =
+        at-or-not (λ (k : ℕ). k < r → First t k k → ltb 0 (getD (set tw f (r - f)) k 0) ≡ among (from t (suc k) (suc r - suc k)) (t k)) k f
+        (λ i o. ap (ltb 0) (getD-set-same tw f (r - f) 0 (omega arith)) ∙ lt-ltb 0 (r - f) (omega arith) ∙ sym (from-again t (t f) f r i (e .equal)))
+        (λ d i o. ap (ltb 0) (getD-set-other tw f k (r - f) 0 d) ∙ h .at k i o ∙ sym (from-other t (t k) k r i (λ q. d (first-once t (first-of t o (omega arith) q) e))))
+        (omega (arith, n))
+
+-- where the marking stands at string r, whatever the texts are
+pub record Marking (n : ℕ) (fs : List ℕ) (r : ℕ) (sp : List ℕ) : Type 0 where
+  pub within : r ≤ n
+  pub room : n ≤ length sp
+  pub at : (t : ℕ → Text) → Firsts t n fs → Marks t r sp
+
+pub mark-first : (n : ℕ) (fs sp : List ℕ) → n ≤ length sp → Marking n fs 0 sp
+mark-first n fs sp h = record { within = omega arith; room = h; at = λ t f. record { at = λ k l. absurd (omega arith) } }
+
+module _ {n r : ℕ} {fs sp : List ℕ} (i : Marking n fs r sp) where
+  pub mark-again : {f : ℕ} → r < n → f ≡ getD fs r 0 → Marking n fs (r + 1) (set sp f (r - f))
+  mark-again {f} h e =
+      rw add-one
+      (record {
+        within = h;
+        room = simp length-set (i .room);
+        at = λ t g. marks-more t r f sp (i .at t g) (rw (← e) at (g .at r h)) (omega (arith, i .room));
+      })
+
+  pub mark-never : {f : ℕ} → r < n → f ≡ getD fs r 0 → r < f → Marking n fs (r + 1) sp
+  mark-never h e l = rw add-one (record { within = h; room = i .room; at = λ t g. absurd (omega (arith, (g .at r h) .within)) })
+
+  pub mark-done : n ≤ r → Marked n fs sp
+  mark-done h = let q : r ≡ n = omega (arith, i .within) in record { at = λ t f. rw q at (i .at t f); room = i .room }
+
+pub ruleset marking = (mark-first, mark-again, mark-never, mark-done)
+
 -- where the positions stand at string r, for texts t
 pub record Listed (t : ℕ → Text) (n r next : ℕ) (sp : List ℕ) : Type 0 where
   pub acc : List Text
@@ -59,15 +108,17 @@ pub record Placing (n : ℕ) (fs tw : List ℕ) (r next : ℕ) (sp : List ℕ) :
   pub within : r ≤ n
   pub few : next ≤ r
   pub room : n ≤ length sp
+  pub later : (k : ℕ) → r ≤ k → getD sp k 0 ≡ getD tw k 0
   pub at : (t : ℕ → Text) → Firsts t n fs → Marks t n tw → Listed t n r next sp
 
-pub place-first : (n : ℕ) (fs tw sp : List ℕ) → n ≤ length sp → Placing n fs tw 0 0 sp
+pub place-first : (n : ℕ) (fs sp : List ℕ) → n ≤ length sp → Placing n fs sp 0 0 sp
 unfolding before among
-place-first n fs tw sp h =
+place-first n fs sp h =
     record {
       within = omega arith;
       few = omega arith;
       room = h;
+      later = λ k l. refl;
       at = λ t f m. record { acc = []; split = rw sub-zero; count = refl; old = λ u e. clash e refl; slots = record { at = λ k l. absurd (omega arith) } };
     }
 
@@ -170,43 +221,54 @@ module _ {t : ℕ → Text} {n r next : ℕ} {sp : List ℕ} (i : Listed t n r n
       }
 
 module _ {n r next : ℕ} {fs tw sp : List ℕ} (i : Placing n fs tw r next sp) (h : r < n) where
-  pub place-new : getD fs r 0 ≡ r → 0 < getD tw r 0 → Placing n fs tw (r + 1) (next + 1) (set sp r next)
-  place-new e y =
+  set-later : (v k : ℕ) → suc r ≤ k → getD (set sp r v) k 0 ≡ getD tw k 0
+  set-later v k l = getD-set-other sp r k v 0 (λ e. omega arith) ∙ i .later k (omega arith)
+
+  pub place-new : {f : ℕ} → f ≡ getD fs r 0 → f ≡ r → 0 < getD sp r 0 → Placing n fs tw (r + 1) (next + 1) (set sp r next)
+  place-new p q y =
+      let e : getD fs r 0 ≡ r = sym p ∙ q in
       rw (add-one r)
       (record {
         within = h;
         few = omega (arith, i .few);
         room = simp length-set (i .room);
+        later = set-later next;
         at = λ t f m.
             let o : First t r r = rw e at (f .at r h) in
-            listed-new (i .at t f m) h (omega (arith, i .room)) o (sym (m .at r h o) ∙ lt-ltb 0 (getD tw r 0) y);
+            listed-new (i .at t f m) h (omega (arith, i .room)) o (sym (m .at r h o) ∙ lt-ltb 0 (getD tw r 0) (omega (arith, i .later r (omega arith))));
       })
 
-  pub place-once : getD fs r 0 ≡ r → getD tw r 0 ≤ 0 → Placing n fs tw (r + 1) next (set sp r 4096)
-  place-once e y =
+  pub place-once : {f : ℕ} → f ≡ getD fs r 0 → f ≡ r → getD sp r 0 ≤ 0 → Placing n fs tw (r + 1) next (set sp r 4096)
+  place-once p q y =
+      let e : getD fs r 0 ≡ r = sym p ∙ q in
       rw add-one
       (record {
         within = h;
         few = omega (arith, i .few);
         room = simp length-set (i .room);
+        later = set-later 4096;
         at = λ t f m.
             let o : First t r r = rw e at (f .at r h) in
-            listed-once (i .at t f m) h (omega (arith, i .room)) o (sym (m .at r h o) ∙ le-ltb 0 (getD tw r 0) y);
+            listed-once (i .at t f m) h (omega (arith, i .room)) o (sym (m .at r h o) ∙ le-ltb 0 (getD tw r 0) (omega (arith, i .later r (omega arith))));
       })
 
-  pub place-old : (getD fs r 0 ≡ r → ⊥) → Placing n fs tw (r + 1) next sp
-  place-old e =
+  pub place-old : {f : ℕ} → f ≡ getD fs r 0 → (f ≡ r → ⊥) → Placing n fs tw (r + 1) next sp
+  place-old p e =
       rw add-one
       (record {
         within = h;
         few = omega (arith, i .few);
         room = i .room;
-        at = λ t f m. listed-old (i .at t f m) h (f .at r h) e;
+        later = λ k l. i .later k (omega arith);
+        at = λ t f m. listed-old (i .at t f m) h (f .at r h) (λ q. e (p ∙ q));
       })
 
-pub place-done : {n : ℕ} {fs tw : List ℕ} {r next : ℕ} {sp : List ℕ} → Placing n fs tw r next sp → n ≤ r → Placed n fs tw sp
+pub place-done : {n : ℕ} {fs tw : List ℕ} {r next : ℕ} {sp : List ℕ} → Placing n fs tw r next sp → n ≤ r → Numbered n fs tw sp
 place-done {n} {r = r} {next} {sp} i h =
     let q : r ≡ n = omega (arith, i .within) in
     record { at = λ t f m. rw q at ((i .at t f m) .slots); room = i .room }
 
-pub ruleset placing = (place-first, place-done, place-new, place-once, place-old)
+pub placed : {n : ℕ} {fs tw sp : List ℕ} → Marked n fs tw → Numbered n fs tw sp → Placed n fs sp
+placed m p = record { at = λ t f. p .at t f (m .at t f); room = p .room }
+
+pub ruleset placing = (place-first, place-done, place-new, place-once, place-old, placed)

@@ -21,9 +21,19 @@ pub record Slot (P : List Text) (t : Text) (v : ℕ) : Type 0 where
 pub record Slots (P : List Text) (t : ℕ → Text) (n : ℕ) (sp : List ℕ) : Type 0 where
   pub at : (k : ℕ) → k < n → First t k k → Slot P (t k) (getD sp k 0)
 
--- the positions that a call left, whatever the texts are of which the words tell the first strings and which come again
-pub record Placed (n : ℕ) (fs tw sp : List ℕ) : Type 0 where
+-- the marks that a call left, whatever the texts are of which the words tell the first strings
+pub record Marked (n : ℕ) (fs tw : List ℕ) : Type 0 where
+  pub at : (t : ℕ → Text) → Firsts t n fs → Marks t n tw
+  pub room : n ≤ length tw
+
+-- the positions that a call left where such marks were
+pub record Numbered (n : ℕ) (fs tw sp : List ℕ) : Type 0 where
   pub at : (t : ℕ → Text) → Firsts t n fs → Marks t n tw → Slots (kept (from t 0 n)) t n sp
+  pub room : n ≤ length sp
+
+-- and with no marks before it
+pub record Placed (n : ℕ) (fs sp : List ℕ) : Type 0 where
+  pub at : (t : ℕ → Text) → Firsts t n fs → Slots (kept (from t 0 n)) t n sp
   pub room : n ≤ length sp
 
 -- the words that tell how string j is sent are there
@@ -31,7 +41,6 @@ pub record Ready (fs sp : List ℕ) (j : ℕ) : Type 0 where
   pub first : j < length fs
   pub spot : j < length sp
   pub earlier : getD fs j 0 ≤ j
-  pub few : j < 4096
 
 -- a string of this text, sent so
 abbrev pub sent : Sending → Text → Sent

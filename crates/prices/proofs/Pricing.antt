@@ -13,6 +13,7 @@ use lib.Dec.{eqb, ltb}
 use borrow.Author.Tests.{ltb-true, ltb-false, lt-ltb, le-ltb, eqb-true, eqb-false}
 use Rattle.text.specs.Texts.{same}
 use Rattle.text.proofs.Comparing.{same-self, same-ne}
+use Rattle.draft.specs.declared.Row.{Row}
 use Rattle.draft.specs.Table.{from}
 use Rattle.draft.specs.Strings.{Text}
 use Rattle.buckets.specs.Numbered.{textAt, First, Firsts}
@@ -185,13 +186,16 @@ left-above n w l = rw (lt-ltb (3 + n) w l)
 pub left-below : (n w : ℕ) → w ≤ 3 + n → 0 ≡ left n w
 left-below n w l = rw (le-ltb (3 + n) w l)
 
-pub size-same : (W s : List ℕ) (j : ℕ) {t : Text} → t ≡ textAt W s j → length t ≡ length (textAt W s j)
-size-same W s j e = ap length e
+pub size-same : (row : ℕ → Row) (W s : List ℕ) (j : ℕ) {t : Text} → t ≡ textAt row W s j → length t ≡ length (textAt row W s j)
+size-same row W s j e = ap length e
 
-pub size-most : (W s : List ℕ) (j : ℕ) {t : Text} → t ≡ textAt W s j → length s ≤ 65536 → length t ≤ 65536
-size-most W s j e h = rw e (omega (arith, text-short W s j))
+pub size-most : (row : ℕ → Row) (W s : List ℕ) (j : ℕ) {t : Text} → t ≡ textAt row W s j → length s ≤ 65536 → length t ≤ 65536
+size-most row W s j e h = rw e (omega (arith, text-short row W s j))
 
-pub first-there : {t : ℕ → Text} {n : ℕ} (j : ℕ) {fs : List ℕ} → Firsts t n fs → j < n → getD fs j 0 ≤ j
-first-there j f h = f .at j h .within
+pub first-there : {t : ℕ → Text} {n j : ℕ} (fs : List ℕ) {f : ℕ} → Firsts t n fs → j < n → f ≡ getD fs j 0 → f ≤ j
+first-there {j = j} fs h l e = omega (arith, h .at j l .within)
+
+pub first-so : {t : ℕ → Text} {n j : ℕ} (fs : List ℕ) {f : ℕ} → Firsts t n fs → j < n → f ≡ getD fs j 0 → First t j f
+first-so {j = j} fs h l e = rw e (h .at j l)
 
 pub ruleset picking = (needs, share-above, share-below, left-above, left-below, size-same, size-most)

@@ -1,9 +1,10 @@
-// What prices prove that strings cost. Strings are numbered in row order; string j has two lent words, the offset and the length of its text
-// within the text bytes, a word that says which string is the first with its text, and the price of the gap after it.
+// What prices prove that strings cost. Strings are numbered in row order; of string j a lent word has the row, one says which string is the
+// first with its text, and one is the price of the gap after it.
 ghost use mathlib.Core.Path.{_≡_};
 ghost use Prim.Native.Nat.{_+_, _*_, _≤_, _<_};
 ghost use lib.ListN.{length};
-ghost use Rattle.buckets.specs.Numbered.{textAt, Firsts};
+ghost use Rattle.draft.specs.Table.{rowAt};
+ghost use Rattle.buckets.specs.Numbered.{textAt, Strings, Through, Firsts};
 ghost use Rattle.prices.specs.Prices.{share, left};
 ghost use Rattle.prices.specs.Contract.{Worth, Priced};
 
@@ -20,12 +21,19 @@ fn wide(x: u32) -> usize
     x as usize
 }
 
-// How many bytes the text of string j has.
-fn size_of(strings: &[u32], text: &[u8], j: usize) -> usize
-    requires { ⌜ (j < 4096) × (j * 2 + 1 < length (now strings)) × (length (now text) ≤ 65536) ⌝ }
-    ensures { λ r. ⌜ (r ≡ length (textAt (now (strings .entry)) (now (text .entry)) j)) × (r ≤ 65536) ⌝ }
+// A string's number, likewise.
+fn number(x: u16) -> usize
+    ensures { λ r. ⌜ r ≡ x ⌝ }
 {
-    let t = buckets::text_of(strings, text, j);
+    x as usize
+}
+
+// How many bytes the text of string j has.
+fn size_of(table: &[u32], room: usize, strings: &[u16], text: &[u8], j: usize) -> usize
+    requires { ⌜ Through room (length (now table)) j (now strings) × (length (now text) ≤ 65536) ⌝ }
+    ensures { λ r. ⌜ (r ≡ length (textAt (rowAt room (now (table .entry))) (now (strings .entry)) (now (text .entry)) j)) × (r ≤ 65536) ⌝ }
+{
+    let t = buckets::text_of(table, room, strings, text, j);
     t.len()
 }
 
@@ -64,22 +72,24 @@ fn left_of(size: usize, worth: usize) -> usize
 
 // What as many prices as there are strings prove that the strings cost. It uses the marks.
 pub fn price(
-    strings: &[u32],
+    table: &[u32],
+    room: usize,
+    strings: &[u16],
     count: usize,
     text: &[u8],
-    firsts: &[usize],
+    firsts: &[u16],
     prices: &[u32],
     marks: &mut [usize],
 ) -> Bound
-    requires { ⌜ (count ≤ 4096) × (count * 2 ≤ length (now strings)) × (length (now text) ≤ 65536) × (count ≤ length (now firsts)) × (length (now prices) ≡ count) × (count ≤ length (now marks)) × Firsts (textAt (now strings) (now text)) count (now firsts) ⌝ }
-    ensures { λ r. ⌜ Priced (textAt (now (strings .entry)) (now (text .entry))) (now (prices .entry)) count (r .least) (r .prices) ⌝ }
+    requires { ⌜ Strings room (length (now table)) count (now strings) × (length (now text) ≤ 65536) × (count ≤ length (now firsts)) × (length (now prices) ≡ count) × (count ≤ length (now marks)) × Firsts (textAt (rowAt room (now table)) (now strings) (now text)) count (now firsts) ⌝ }
+    ensures { λ r. ⌜ Priced (textAt (rowAt room (now (table .entry))) (now (strings .entry)) (now (text .entry))) (now (prices .entry)) count (r .least) (r .prices) ⌝ }
 {
     let mut j = 0;
     let mut least: usize = 0;
     let mut paid: usize = 1;
     while j < count {
-        let f = firsts[j];
-        let size = size_of(strings, text, j);
+        let f = number(firsts[j]);
+        let size = size_of(table, room, strings, text, j);
         let w = worth_of(marks, f, j, paid, size);
         least += share_of(size, w);
         marks[f] = paid - left_of(size, w);

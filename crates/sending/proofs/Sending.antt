@@ -5,6 +5,7 @@ use mathlib.Core.Bool.{Bool, true, false}
 use mathlib.Core.List.{List, [], _∷_}
 use native.Mathlib.Omega.{arith}
 use lib.ListN.{length}
+use Rattle.draft.specs.declared.Row.{Row}
 use Rattle.draft.specs.Grammar.{Sent}
 use Rattle.draft.specs.Strings.{Text, cost}
 use Rattle.draft.specs.Grammar as sent
@@ -14,7 +15,7 @@ use Rattle.positions.specs.declared.Sending.the-variants.{Regular, Recorded, Re
 use Rattle.buckets.specs.Numbered.{textAt}
 use Rattle.positions.specs.Contract.{sent, told, SentBy}
 use Rattle.buckets.proofs.Comparing.{text-short}
-use Rattle.output.specs.Contract.{Put}
+use Rattle.output.specs.Contract.{Tried}
 use Rattle.sending.specs.Contract.{Takes}
 use Rattle.output.proofs.Putting.{counted-length}
 
@@ -25,17 +26,14 @@ string-cost (sent.regular t) = omega (arith, counted-length t)
 string-cost (sent.recorded p t) = omega (arith, counted-length t)
 string-cost (sent.recalled p t) = refl
 
-module _ (W s fs sp : List ℕ) (j : ℕ) {r : Sending} (k : Sending) {t : List ℕ} (e : SentBy fs sp j r) (f : r ≡ k) (g : t ≡ textAt W s j) where
-  string-is : stringBytes (told fs sp j (textAt W s j)) ≡ stringBytes (sent k t)
-  string-is = rw (← e .is (textAt W s j), f, g)
+module _ (row : ℕ → Row) (W s fs sp : List ℕ) (j : ℕ) {r : Sending} (k : Sending) {t : List ℕ} (e : SentBy fs sp j r) (f : r ≡ k) (g : t ≡ textAt row W s j) where
+  string-is : stringBytes (told fs sp j (textAt row W s j)) ≡ stringBytes (sent k t)
+  string-is = rw (← e .is (textAt row W s j), f, g)
 
-  string-room : (l : ℕ) → length (stringBytes (told fs sp j (textAt W s j))) ≤ l → length (stringBytes (sent k t)) ≤ l
-  string-room l h = rw string-is at h
+  pub string-tried : {o o′ : List ℕ} {m n : ℕ} → Tried (stringBytes (sent k t)) m o o′ n → Tried (stringBytes (told fs sp j (textAt row W s j))) m o o′ n
+  string-tried p = rw string-is p
 
-  pub string-put : {o o′ : List ℕ} {n : ℕ} → Put (stringBytes (sent k t)) o o′ n → Put (stringBytes (told fs sp j (textAt W s j))) o o′ n
-  string-put p = rw string-is p
-
-  pub string-long : {n : ℕ} → n ≡ length (stringBytes (sent k t)) → Takes s W fs sp j n
+  pub string-long : {n : ℕ} → n ≡ length (stringBytes (sent k t)) → Takes row s W fs sp j n
   string-long h = record { is = h ∙ rw string-is }
 
 -- by how it is sent
@@ -44,40 +42,28 @@ module _ (t : List ℕ) where
   unfolding cost
   regular-long = sym (string-cost (sent.regular t))
 
-  pub regular-put : {o o′ : List ℕ} {n : ℕ} → Put (85 ∷ counted t) o o′ n → Put (stringBytes (sent.regular t)) o o′ n
+  pub regular-tried : {o o′ : List ℕ} {m n : ℕ} → Tried (85 ∷ counted t) m o o′ n → Tried (stringBytes (sent.regular t)) m o o′ n
   unfolding stringBytes
-  regular-put p = p
+  regular-tried q = q
 
   module _ (p : ℕ) where
     pub recorded-long : 6 + length t ≡ length (stringBytes (sent.recorded p t))
     unfolding cost
     recorded-long = sym (string-cost (sent.recorded p t))
 
-    pub recorded-put : {o o′ : List ℕ} {n : ℕ} → Put (62 ∷ p ∷ counted t) o o′ n → Put (stringBytes (sent.recorded p t)) o o′ n
+    pub recorded-tried : {o o′ : List ℕ} {m n : ℕ} → Tried (62 ∷ p ∷ counted t) m o o′ n → Tried (stringBytes (sent.recorded p t)) m o o′ n
     unfolding stringBytes
-    recorded-put h = h
+    recorded-tried q = q
 
     pub recalled-long : 2 ≡ length (stringBytes (sent.recalled p t))
     unfolding stringBytes
     recalled-long = refl
 
-    pub recalled-put : {o o′ : List ℕ} {n : ℕ} → Put (60 ∷ p ∷ []) o o′ n → Put (stringBytes (sent.recalled p t)) o o′ n
+    pub recalled-tried : {o o′ : List ℕ} {m n : ℕ} → Tried (60 ∷ p ∷ []) m o o′ n → Tried (stringBytes (sent.recalled p t)) m o o′ n
     unfolding stringBytes
-    recalled-put h = h
+    recalled-tried q = q
 
--- the room for it
-module _ (W s fs sp : List ℕ) (j : ℕ) {r : Sending} {t : List ℕ} {l : ℕ} (h : length (stringBytes (told fs sp j (textAt W s j))) ≤ l) (e : SentBy fs sp j r) where
-  pub regular-room : r ≡ Regular → t ≡ textAt W s j → 5 + length t ≤ l
-  regular-room f g = omega (arith, regular-long t, string-room W s fs sp j Regular e f g l h)
+pub text-few : (row : ℕ → Row) (W s : List ℕ) (j : ℕ) {t : List ℕ} → t ≡ textAt row W s j → length s ≤ 65536 → length t ≤ 65536
+text-few row W s j e h = rw e (omega (arith, text-short row W s j))
 
-  module _ {p : ℕ} where
-    pub recorded-room : r ≡ Recorded p → t ≡ textAt W s j → 6 + length t ≤ l
-    recorded-room f g = omega (arith, recorded-long t p, string-room W s fs sp j (Recorded p) e f g l h)
-
-    pub recalled-room : r ≡ Recalled p → t ≡ textAt W s j → 2 ≤ l
-    recalled-room f g = omega (arith, recalled-long t p, string-room W s fs sp j (Recalled p) e f g l h)
-
-pub text-few : (W s : List ℕ) (j : ℕ) {t : List ℕ} → t ≡ textAt W s j → length s ≤ 65536 → length t ≤ 65536
-text-few W s j e h = rw e (omega (arith, text-short W s j))
-
-pub ruleset sending = (string-put, string-long, regular-long, regular-room, regular-put, recorded-long, recorded-room, recorded-put, recalled-long, recalled-room, recalled-put, text-few)
+pub ruleset sending = (string-tried, string-long, regular-long, regular-tried, recorded-long, recorded-tried, recalled-long, recalled-tried, text-few)

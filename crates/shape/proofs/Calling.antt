@@ -1,12 +1,12 @@
 -- What answers each return of the functions that walk a Call or a Response, and the whole table. Assumes nothing.
-use mathlib.Core.Path.{_≡_, _∙_}
+use mathlib.Core.Path.{_≡_, refl, sym, _∙_}
 use mathlib.Core.Bool.{Bool, false}
 use mathlib.Core.List.{List}
-use Prim.Native.Nat.{ℕ, _+_, _*_, _-_, _/_, _≤_, _<_}
+use Prim.Native.Nat.{ℕ, zero, suc, _+_, _*_, _-_, _/_, _≤_, _<_}
 use native.Mathlib.Omega.{arith}
-use lib.ListN.{length}
+use lib.ListN.{length, replicate}
 use lib.Dec.{eqb}
-use borrow.Author.Tests.{lt-ltb, le-ltb, le-leb, lt-leb}
+use borrow.Author.Tests.{lt-ltb, le-ltb, le-leb, lt-leb, ne-eqb}
 use Rattle.draft.specs.declared.Refusal.{Refusal}
 use Rattle.draft.specs.declared.Verdict.{Verdict}
 use Rattle.draft.specs.declared.Verdict.the-variants.{Fine, Bad}
@@ -18,37 +18,39 @@ use Rattle.draft.specs.Rows.{itemOf}
 use Rattle.draft.specs.Table.{roomOf, rowAt, from}
 use Rattle.draft.specs.Content.{faultRule}
 use Rattle.draft.specs.Read.{heldRows}
-use Rattle.draft.specs.Writable.{only, structItem, item, nested, faultStruct, first, callOrResponse, wholly, writableWithin, writable}
+use Rattle.draft.specs.Writable.{only, string, structItem, item, nested, faultStruct, first, callOrResponse, wholly, writableWithin, writable}
 use Rattle.extents.specs.Asked.{Ready}
-use Rattle.keys.proofs.Keeping.{noted-blank}
+use Rattle.extents.specs.Ends.{extentOf}
+use Rattle.extents.proofs.Walking.{none-found, some-found, only-there}
+use Rattle.keys.proofs.Keeping.{noted-blank, noted-move}
+use Rattle.key_rows.specs.Contract.{Entries, Prepared}
+use Rattle.key_rows.proofs.Keying.{string-end}
 use Rattle.containers.proofs.Nesting.{nesting}
-
--- where an item ends, as against the stated rows
-module _ {o : Extent} {r : ℕ} (e : o ≡ Until r) where
-  pub wholly-is : (rows : ℕ) → eqb r rows ≡ wholly rows o
-  wholly-is rows = rw e
 
 -- the rows of a table, and the text bytes
 module _ (row : ℕ → Row) (rows : ℕ) (s : List ℕ) where
   -- a fault's Struct
-  module _ (deep r : ℕ) {o : Extent} (h : o ≡ only row rows s 10 (structItem row rows s (nested row rows s deep)) r) where
-    pub fault-no : o ≡ Unfit → Unfit ≡ faultStruct row rows s deep r
+  module _ (deep r : ℕ) {n : ℕ} (h : extentOf n ≡ only row rows s 10 (structItem row rows s (nested row rows s deep)) r) where
+    pub fault-no : n ≡ 0 → Unfit ≡ faultStruct row rows s deep r
     unfolding faultStruct
-    fault-no i = rw (← h, i)
+    fault-no i = rw (← h, none-found i)
 
-    module _ {n : ℕ} (i : o ≡ Until n) where
+    module _ (i : n ≡ 0 → ⊥) where
+      pub fault-there : {room words : ℕ} → Ready rows room words → r ≤ room
+      fault-there a = omega (arith, a .stated, only-there row rows s 10 (structItem row rows s (nested row rows s deep)) r h (some-found i))
+
       pub fault-past : rows < n → Unfit ≡ faultStruct row rows s deep r
       unfolding faultStruct
-      fault-past l = rw (← h, i, lt-leb n rows l)
+      fault-past l = rw (← h, some-found i, lt-leb n rows l)
 
       module _ {v : Verdict} (l : n ≤ rows) (j : v ≡ faultRule (heldRows s (from row (r + 1) (n - (r + 1))))) where
         pub fault-bad : {m : Refusal} → v ≡ Bad m → Unfit ≡ faultStruct row rows s deep r
         unfolding faultStruct
-        fault-bad g = rw (← h, i, le-leb n rows l, ← j, g)
+        fault-bad g = rw (← h, some-found i, le-leb n rows l, ← j, g)
 
-        pub fault-fine : v ≡ Fine → Until n ≡ faultStruct row rows s deep r
+        pub fault-fine : v ≡ Fine → extentOf n ≡ faultStruct row rows s deep r
         unfolding faultStruct
-        fault-fine g = rw (← h, i, le-leb n rows l, ← j, g)
+        fault-fine g = some-found i ∙ rw (← h, some-found i, le-leb n rows l, ← j, g)
 
   -- the Call or Response
   module _ (deep r : ℕ) where
@@ -60,13 +62,27 @@ module _ (row : ℕ → Row) (rows : ℕ) (s : List ℕ) where
     unfolding callOrResponse
     first-is h f g k l = l ∙ rw (lt-ltb r rows h, ← f, ← g, k)
 
-pub row-in : {r rows room words : ℕ} → Ready rows room words → r < rows → r ≤ room
-row-in h l = omega (arith, h .stated)
-
 pub end-in : {n rows room words : ℕ} → Ready rows room words → n ≤ rows → n ≤ room
 end-in h l = omega (arith, h .stated)
 
-pub ruleset calling = (nesting, wholly-is, fault-no, fault-past, fault-bad, fault-fine, first-past, first-is, row-in, end-in, noted-blank)
+-- the notes as they are laid out
+pub blank-prepared : {s : List ℕ} {room rows : ℕ} {T : List ℕ} (r : ℕ) {N : List ℕ} → Ready rows room (length T) → Entries rows (length N) → N ≡ replicate (length N) 0 → Prepared s room rows T (r + 1) N
+blank-prepared r a b e = record { below = omega arith; ready = a; entries = b; noted = noted-blank e }
+
+-- the rows behind the method
+pub behind-method : {s : List ℕ} {room rows : ℕ} {T : List ℕ} {r n : ℕ} {N : List ℕ} → Prepared s room rows T r N → (n ≡ 0 → ⊥) → extentOf n ≡ string (rowAt room T) rows s r → Prepared s room rows T n N
+behind-method {s} {room} {rows} {T} {r} {n} p z h =
+    let e = string-end (rowAt room T) rows s r (sym h ∙ some-found z) in
+    record { below = omega arith; ready = p .ready; entries = p .entries; noted = noted-move (p .noted) (λ k l. refl) n (omega arith) }
+
+pub ruleset faults = (fault-no, fault-there, fault-past, fault-bad, fault-fine, end-in)
+
+pub ruleset calling = (nesting, first-past, first-is, blank-prepared, behind-method)
+
+-- where an item ends, as against the stated rows
+wholly-is : (n : ℕ) {rows : ℕ} → 1 ≤ rows → eqb n rows ≡ wholly rows (extentOf n)
+wholly-is zero {rows} h = ne-eqb 0 rows (λ e. omega arith)
+wholly-is (suc n) h = refl
 
 -- the whole table
 module _ (T : List ℕ) (rows : ℕ) (s : List ℕ) where
@@ -89,9 +105,9 @@ module _ (T : List ℕ) (rows : ℕ) (s : List ℕ) where
         unfolding writable writableWithin
         table-short k = rw (le-leb _ _ h, le-leb 1 rows i, le-leb rows 4096 j, lt-leb (rows * 4) (length T) k)
 
-        pub table-walked : {room : ℕ} {o : Extent} {b : Bool} → rows * 4 ≤ length T → room ≡ roomOf 4096 (length T) → o ≡ callOrResponse (rowAt room T) rows s 32 0 → b ≡ wholly rows o → b ≡ writable T rows s
+        pub table-walked : (n : ℕ) {room : ℕ} → rows * 4 ≤ length T → room ≡ roomOf 4096 (length T) → extentOf n ≡ callOrResponse (rowAt room T) rows s 32 0 → eqb n rows ≡ writable T rows s
         unfolding writable writableWithin
-        table-walked k l m n = n ∙ rw (le-leb _ _ h, le-leb 1 rows i, le-leb rows 4096 j, le-leb (rows * 4) (length T) k, m, l)
+        table-walked n k l m = wholly-is n (omega arith) ∙ rw (le-leb _ _ h, le-leb 1 rows i, le-leb rows 4096 j, le-leb (rows * 4) (length T) k, m, l)
 
 room-holds : (rows words : ℕ) → rows * 4 ≤ words → rows ≤ words / 4
 room-holds rows words h = omega arith

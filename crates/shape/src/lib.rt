@@ -1,14 +1,14 @@
 // Whether a table is writable: its rows are walked as a Call or a Response, from the first row to the last that is stated.
-use draft::Extent;
 use draft::Item;
 use draft::Verdict;
 ghost use mathlib.Core.Path.{_≡_};
 ghost use Prim.Native.Nat.{_+_, _≤_, _<_};
 ghost use lib.ListN.{length, replicate};
 ghost use Rattle.draft.specs.Table.{rowAt};
-ghost use Rattle.draft.specs.Writable.{only, string, arrayItem, nested, pair, faultStruct, callOrResponse, wholly as whollyBy, writable as writableBy};
+ghost use Rattle.draft.specs.Writable.{only, string, arrayItem, nested, pair, faultStruct, callOrResponse, writable as writableBy};
 ghost use Rattle.extents.specs.Asked.{Ready};
-ghost use Rattle.key_rows.specs.Contract.{Entries};
+ghost use Rattle.extents.specs.Ends.{extentOf};
+ghost use Rattle.key_rows.specs.Contract.{Entries, Prepared};
 
 // The most bytes that the texts may lie in.
 pub const MOST_BYTES: usize = 65536;
@@ -25,23 +25,21 @@ fn walk_fault_struct(
     deep: usize,
     r: usize,
     notes: &mut [u16],
-) -> Extent
-    requires { ⌜ Ready rows room (length (now table)) × Entries rows (length (now notes)) × (now notes ≡ replicate (length (now notes)) 0) ⌝ }
-    ensures { λ e. ⌜ e ≡ faultStruct (rowAt room (now (table .entry))) rows (now (text .entry)) deep r ⌝ }
+) -> usize
+    requires { ⌜ Prepared (now text) room rows (now table) r (now notes) ⌝ }
+    ensures { λ e. ⌜ extentOf e ≡ faultStruct (rowAt room (now (table .entry))) rows (now (text .entry)) deep r ⌝ }
 {
-    let extent = containers::walk_struct_only(table, room, rows, text, deep, r, notes);
-    match extent {
-        Extent::Unfit => Extent::Unfit,
-        Extent::Until(next) => {
-            if rows < next {
-                return Extent::Unfit;
-            }
-            let verdict = fault::judge(table, room, text, r, next);
-            match verdict {
-                Verdict::Fine => Extent::Until(next),
-                Verdict::Bad(_) => Extent::Unfit,
-            }
-        }
+    let next = containers::walk_struct(table, room, rows, text, deep, r, notes);
+    if next == 0 {
+        return 0;
+    }
+    if rows < next {
+        return 0;
+    }
+    let verdict = fault::judge(table, room, text, r, next);
+    match verdict {
+        Verdict::Fine => next,
+        Verdict::Bad(_) => 0,
     }
 }
 
@@ -54,23 +52,15 @@ fn walk_method_and_array(
     deep: usize,
     r: usize,
     notes: &mut [u16],
-) -> Extent
-    requires { ⌜ Ready rows room (length (now table)) × Entries rows (length (now notes)) × (now notes ≡ replicate (length (now notes)) 0) ⌝ }
-    ensures { λ e. ⌜ e ≡ pair (string (rowAt room (now (table .entry))) rows (now (text .entry))) (only (rowAt room (now (table .entry))) rows (now (text .entry)) 9 (arrayItem (nested (rowAt room (now (table .entry))) rows (now (text .entry)) deep))) r ⌝ }
+) -> usize
+    requires { ⌜ Prepared (now text) room rows (now table) r (now notes) ⌝ }
+    ensures { λ e. ⌜ extentOf e ≡ pair (string (rowAt room (now (table .entry))) rows (now (text .entry))) (only (rowAt room (now (table .entry))) rows (now (text .entry)) 9 (arrayItem (nested (rowAt room (now (table .entry))) rows (now (text .entry)) deep))) r ⌝ }
 {
-    let extent = extents::walk_string(table, room, rows, text, r);
-    match extent {
-        Extent::Unfit => Extent::Unfit,
-        Extent::Until(next) => containers::walk_array_only(
-            table,
-            room,
-            rows,
-            text,
-            deep,
-            next,
-            notes,
-        ),
+    let next = extents::walk_string(table, room, rows, text, r);
+    if next == 0 {
+        return 0;
     }
+    containers::walk_array(table, room, rows, text, deep, next, notes)
 }
 
 fn walk_call_or_response(
@@ -81,43 +71,43 @@ fn walk_call_or_response(
     deep: usize,
     r: usize,
     notes: &mut [u16],
-) -> Extent
+) -> usize
     requires { ⌜ Ready rows room (length (now table)) × Entries rows (length (now notes)) × (now notes ≡ replicate (length (now notes)) 0) ⌝ }
-    ensures { λ e. ⌜ e ≡ callOrResponse (rowAt room (now (table .entry))) rows (now (text .entry)) deep r ⌝ }
+    ensures { λ e. ⌜ extentOf e ≡ callOrResponse (rowAt room (now (table .entry))) rows (now (text .entry)) deep r ⌝ }
 {
     if rows <= r {
-        return Extent::Unfit;
+        return 0;
     }
     let row = table::get_row(table, room, r);
     let item = draft::item_of(row.kind);
     match item {
         Item::Call => {
-            let extent = walk_method_and_array(table, room, rows, text, deep, r + 1, notes);
-            extents::close_holding(2, row, extent)
+            let next = walk_method_and_array(table, room, rows, text, deep, r + 1, notes);
+            extents::close_holding(2, row, next)
         }
         Item::Response => {
-            let extent = containers::walk_value(table, room, rows, text, deep, r + 1, notes);
-            extents::close_holding(1, row, extent)
+            let next = containers::walk_value(table, room, rows, text, deep, r + 1, notes);
+            extents::close_holding(1, row, next)
         }
         Item::Fault => {
-            let extent = walk_fault_struct(table, room, rows, text, deep, r + 1, notes);
-            extents::close_holding(1, row, extent)
+            let next = walk_fault_struct(table, room, rows, text, deep, r + 1, notes);
+            extents::close_holding(1, row, next)
         }
-        Item::Integer => Extent::Unfit,
-        Item::Boolean => Extent::Unfit,
-        Item::Content(_) => Extent::Unfit,
-        Item::Array => Extent::Unfit,
-        Item::Struct => Extent::Unfit,
-        Item::Other => Extent::Unfit,
-        Item::Unknown => Extent::Unfit,
+        Item::Integer => 0,
+        Item::Boolean => 0,
+        Item::Content(_) => 0,
+        Item::Array => 0,
+        Item::Struct => 0,
+        Item::Other => 0,
+        Item::Unknown => 0,
     }
 }
 
 // Notes on keys for up to 64 rows. Laying out the largest takes longer than walking a small table, so a small one gets small ones; the
 // length of an array has to be a constant, so there is a function for each.
-fn walk_few(table: &[u32], room: usize, rows: usize, text: &[u8]) -> Extent
+fn walk_few(table: &[u32], room: usize, rows: usize, text: &[u8]) -> usize
     requires { ⌜ Ready rows room (length (now table)) × (rows ≤ 64) ⌝ }
-    ensures { λ e. ⌜ e ≡ callOrResponse (rowAt room (now (table .entry))) rows (now (text .entry)) 32 0 ⌝ }
+    ensures { λ e. ⌜ extentOf e ≡ callOrResponse (rowAt room (now (table .entry))) rows (now (text .entry)) 32 0 ⌝ }
 {
     let mut words = [0u16; 192];
     let notes: &mut [u16] = &mut words;
@@ -125,9 +115,9 @@ fn walk_few(table: &[u32], room: usize, rows: usize, text: &[u8]) -> Extent
 }
 
 // For up to 512 rows.
-fn walk_some(table: &[u32], room: usize, rows: usize, text: &[u8]) -> Extent
+fn walk_some(table: &[u32], room: usize, rows: usize, text: &[u8]) -> usize
     requires { ⌜ Ready rows room (length (now table)) × (rows ≤ 512) ⌝ }
-    ensures { λ e. ⌜ e ≡ callOrResponse (rowAt room (now (table .entry))) rows (now (text .entry)) 32 0 ⌝ }
+    ensures { λ e. ⌜ extentOf e ≡ callOrResponse (rowAt room (now (table .entry))) rows (now (text .entry)) 32 0 ⌝ }
 {
     let mut words = [0u16; 1536];
     let notes: &mut [u16] = &mut words;
@@ -135,9 +125,9 @@ fn walk_some(table: &[u32], room: usize, rows: usize, text: &[u8]) -> Extent
 }
 
 // For as many rows as a table may have.
-fn walk_many(table: &[u32], room: usize, rows: usize, text: &[u8]) -> Extent
+fn walk_many(table: &[u32], room: usize, rows: usize, text: &[u8]) -> usize
     requires { ⌜ Ready rows room (length (now table)) ⌝ }
-    ensures { λ e. ⌜ e ≡ callOrResponse (rowAt room (now (table .entry))) rows (now (text .entry)) 32 0 ⌝ }
+    ensures { λ e. ⌜ extentOf e ≡ callOrResponse (rowAt room (now (table .entry))) rows (now (text .entry)) 32 0 ⌝ }
 {
     let mut words = [0u16; 12288];
     let notes: &mut [u16] = &mut words;
@@ -145,9 +135,9 @@ fn walk_many(table: &[u32], room: usize, rows: usize, text: &[u8]) -> Extent
 }
 
 // The Call or Response of row 0, with notes on keys for the stated rows.
-fn walk_first(table: &[u32], room: usize, rows: usize, text: &[u8]) -> Extent
+fn walk_first(table: &[u32], room: usize, rows: usize, text: &[u8]) -> usize
     requires { ⌜ Ready rows room (length (now table)) ⌝ }
-    ensures { λ e. ⌜ e ≡ callOrResponse (rowAt room (now (table .entry))) rows (now (text .entry)) 32 0 ⌝ }
+    ensures { λ e. ⌜ extentOf e ≡ callOrResponse (rowAt room (now (table .entry))) rows (now (text .entry)) 32 0 ⌝ }
 {
     if rows <= 64 {
         return walk_few(table, room, rows, text);
@@ -156,16 +146,6 @@ fn walk_first(table: &[u32], room: usize, rows: usize, text: &[u8]) -> Extent
         return walk_some(table, room, rows, text);
     }
     walk_many(table, room, rows, text)
-}
-
-// Whether an item's rows are all the rows.
-fn wholly(rows: usize, extent: Extent) -> bool
-    ensures { λ b. ⌜ b ≡ whollyBy rows extent ⌝ }
-{
-    match extent {
-        Extent::Unfit => false,
-        Extent::Until(r) => r == rows,
-    }
 }
 
 // Whether a table with a stated number of rows is writable, its texts lying in the text bytes.
@@ -185,5 +165,5 @@ pub fn writable(table: &[u32], rows: usize, text: &[u8]) -> bool
         return false;
     }
     let room = table::room_of(table.len());
-    wholly(rows, walk_first(table, room, rows, text))
+    walk_first(table, room, rows, text) == rows
 }

@@ -11,38 +11,35 @@ use mir.Val.{Fits}
 use lib.ListN.{length, getD, set, length-set}
 use lib.Seq.{getD-set-same, getD-set-other}
 use lib.Dec.{eqb, ltb, leb}
-use borrow.Author.Tests.{ltb-true, ltb-false, lt-ltb, eq-eqb, ne-eqb, lt-leb, le-leb}
+use borrow.Author.Tests.{ltb-true, ltb-false, eq-eqb, ne-eqb, lt-leb, le-leb}
 use Rattle.text.specs.Texts.{among}
 use Rattle.text.proofs.Comparing.{clash}
+use Rattle.draft.specs.declared.Row.{Row}
 use Rattle.draft.specs.Strings.{Text}
 use Rattle.draft.specs.Table.{from}
-use Rattle.buckets.specs.Numbered.{textAt, before, First, Firsts, Marks}
+use Rattle.buckets.specs.Numbered.{textAt, before, First, Firsts}
 use Rattle.texts.specs.Contract.{news, newCost, NewCost, Scanned}
 use Rattle.occurring.proofs.Among.{at-or-not}
-use Rattle.buckets.proofs.Numbered.{from-step, from-none, from-again, from-other, seen-first, first-once, first-of}
+use Rattle.buckets.proofs.Numbered.{from-step, from-none, seen-first}
 use Rattle.buckets.proofs.Comparing.{text-short}
 
 -- where the pass stands at string r of n
-pub record Scan (t : ℕ → Text) (n r sum : ℕ) (fs tw : List ℕ) : Type 0 where
+pub record Scan (t : ℕ → Text) (n r sum : ℕ) (fs : List ℕ) : Type 0 where
   pub within : r ≤ n
   pub firsts : Firsts t r fs
-  pub marks : Marks t r tw
   pub so-far : sum + news (before t r) (from t r (n - r)) ≡ news [] (from t 0 n)
   pub small : sum ≤ 65536
   pub room : n ≤ length fs
-  pub room-again : n ≤ length tw
 
-pub scan-first : (t : ℕ → Text) (n : ℕ) (fs tw : List ℕ) → n ≤ length fs → n ≤ length tw → Scan t n 0 0 fs tw
+pub scan-first : (t : ℕ → Text) (n : ℕ) (fs : List ℕ) → n ≤ length fs → Scan t n 0 0 fs
 unfolding before
-scan-first t n fs tw h k =
+scan-first t n fs h =
     record {
       within = omega arith;
       firsts = record { at = λ k h. absurd (omega arith) };
-      marks = record { at = λ k h. absurd (omega arith) };
       so-far = simp (sub-zero, zero-add);
       small = omega arith;
       room = h;
-      room-again = k;
     }
 
 new-most : (b : Bool) (m : ℕ) → newCost b m ≤ 5 + m
@@ -58,8 +55,8 @@ new-no e = record { is = rw (ne-eqb _ _ e) }
 
 pub ruleset costing = (new-yes, new-no)
 
-pub new-fits : (W s : List ℕ) {n r sum f x : ℕ} {fs tw : List ℕ} → Scan (textAt W s) n r sum fs tw → NewCost (textAt W s) r f x → length s ≤ 65536 → Fits w64 (sum + x)
-new-fits W s {r = r} {f = f} i e l = omega (arith, new-most (eqb f r) (length (textAt W s r)), i .small, e .is, text-short W s r)
+pub new-fits : (row : ℕ → Row) (W s : List ℕ) {n r sum f x : ℕ} {fs : List ℕ} → Scan (textAt row W s) n r sum fs → NewCost (textAt row W s) r f x → length s ≤ 65536 → Fits w64 (sum + x)
+new-fits row W s {r = r} {f = f} i e l = omega (arith, new-most (eqb f r) (length (textAt row W s r)), i .small, e .is, text-short row W s r)
 
 -- a new text is one whose first string is its own
 new-is : (t : ℕ → Text) {r f : ℕ} → First t r f → not (among (before t r) (t r)) ≡ eqb f r
@@ -79,50 +76,27 @@ firsts-more t r f fs h e l =
       at = λ k. at-or-not (λ (k : ℕ). k < suc r → First t k (getD (set fs r f) k 0)) k r (λ m. rw (getD-set-same fs r f 0 l) e) (λ n m. rw (getD-set-other fs r k f 0 n) (h .at k (omega (arith, n))));
     }
 
-marks-more : (t : ℕ → Text) (r f : ℕ) (tw : List ℕ) → Marks t r tw → First t r f → r < length tw → Marks t (suc r) (set tw f (r - f))
-unfolding among
-marks-more t r f tw h e l = record { at = λ k. at-or-not P k r here (old k) }
-  where
-    P : ℕ → Type 0
-    P k = k < suc r → First t k k → ltb 0 (getD (set tw f (r - f)) k 0) ≡ among (from t (suc k) (suc r - suc k)) (t k)
-
-    here : P r
-    here m o =
-        let q : f ≡ r = first-once t e o in
-        let z : r - f ≡ 0 = omega arith in
-        ap (ltb 0) (ap (λ (i : ℕ). getD (set tw f (r - f)) i 0) (sym q) ∙ getD-set-same tw f (r - f) 0 (omega arith) ∙ z)
-        ∙ sym (ap (λ (us : List Text). among us (t r)) (from-none t (suc r) (suc r) (omega arith)))
-
-    old : (k : ℕ) → (k ≡ r → ⊥) → P k
-    old k n m =
-        at-or-not (λ (k : ℕ). k < r → First t k k → ltb 0 (getD (set tw f (r - f)) k 0) ≡ among (from t (suc k) (suc r - suc k)) (t k)) k f
-        (λ i o. ap (ltb 0) (getD-set-same tw f (r - f) 0 (omega arith)) ∙ lt-ltb 0 (r - f) (omega arith) ∙ sym (from-again t (t f) f r i (e .equal)))
-        (λ d i o. ap (ltb 0) (getD-set-other tw f k (r - f) 0 d) ∙ h .at k i o ∙ sym (from-other t (t k) k r i (λ q. d (first-once t (first-of t o (omega arith) q) e))))
-        (omega (arith, n))
-
 -- a turn, and the two ends
-module _ {t : ℕ → Text} {n r sum : ℕ} {fs tw : List ℕ} (i : Scan t n r sum fs tw) where
+module _ {t : ℕ → Text} {n r sum : ℕ} {fs : List ℕ} (i : Scan t n r sum fs) where
   module _ (h : r < n) {f x : ℕ} (e : First t r f) (ex : NewCost t r f x) where
     so : sum + x + news (before t (suc r)) (from t (suc r) (n - suc r)) ≡ news [] (from t 0 n)
     so = omega (arith, i .so-far, ex .is, news-step t n r e h)
 
-    pub scan-again : sum + x ≤ 65536 → Scan t n (r + 1) (sum + x) (set fs r f) (set tw f (r - f))
+    pub scan-again : sum + x ≤ 65536 → Scan t n (r + 1) (sum + x) (set fs r f)
     scan-again small =
         rw add-one
         (record {
           within = omega arith;
           firsts = firsts-more t r f fs (i .firsts) e (omega (arith, i .room));
-          marks = marks-more t r f tw (i .marks) e (omega (arith, i .room-again));
           so-far = so;
           small = small;
           room = simp length-set (i .room);
-          room-again = simp length-set (i .room-again);
         })
 
-    pub scan-over : {fs′ tw′ : List ℕ} → 65536 < sum + x → Scanned t n fs′ tw′ false
-    scan-over l = record { says = sym (lt-leb (news [] (from t 0 n)) 65536 (omega (arith, so))); firsts = λ e. clash e refl; marks = λ e. clash e refl; room = λ e. clash e refl; room-again = λ e. clash e refl }
+    pub scan-over : {fs′ : List ℕ} → 65536 < sum + x → Scanned t n fs′ false
+    scan-over l = record { says = sym (lt-leb (news [] (from t 0 n)) 65536 (omega (arith, so))); firsts = λ e. clash e refl; room = λ e. clash e refl }
 
-  pub scan-done : n ≤ r → Scanned t n fs tw true
+  pub scan-done : n ≤ r → Scanned t n fs true
   unfolding news
   scan-done l =
       let q : r ≡ n = omega (arith, i .within) in
@@ -130,9 +104,7 @@ module _ {t : ℕ → Text} {n r sum : ℕ} {fs tw : List ℕ} (i : Scan t n r s
       record {
         says = sym (le-leb (news [] (from t 0 n)) 65536 (omega (arith, i .so-far, i .small)));
         firsts = λ e. rw q at (i .firsts);
-        marks = λ e. rw q at (i .marks);
         room = λ e. i .room;
-        room-again = λ e. i .room-again;
       }
 
 pub ruleset scanning = (scan-first, new-fits, scan-again, scan-over, scan-done)

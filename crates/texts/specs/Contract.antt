@@ -1,4 +1,4 @@
--- What the functions that find which texts come again ask and what they do. Assumes nothing.
+-- What the functions that find the first string of each text do. Assumes nothing.
 use Prim.Native.Nat.{ℕ, _+_, _≤_}
 use mathlib.Core.Path.{_≡_}
 use mathlib.Core.Bool.{Bool, true, false, not}
@@ -8,7 +8,7 @@ use lib.Dec.{leb, eqb}
 use Rattle.text.specs.Texts.{among}
 use Rattle.draft.specs.Table.{from}
 use Rattle.draft.specs.Strings.{Text}
-use Rattle.buckets.specs.Numbered.{Firsts, Marks}
+use Rattle.buckets.specs.Numbered.{Firsts}
 
 -- what a text costs at least, if it is new
 abbrev pub newCost : Bool → ℕ → ℕ
@@ -24,9 +24,7 @@ news seen [] = 0
 news seen (t ∷ ts) = newCost (not (among seen t)) (length t) + news (t ∷ seen) ts
 
 -- the answer of the pass over n strings: whether the new texts' cost is within 65,536; and if so, what it left
-pub record Scanned (t : ℕ → Text) (n : ℕ) (fs tw : List ℕ) (cheap : Bool) : Type 0 where
+pub record Scanned (t : ℕ → Text) (n : ℕ) (fs : List ℕ) (cheap : Bool) : Type 0 where
   pub says : cheap ≡ leb (news [] (from t 0 n)) 65536
   pub firsts : cheap ≡ true → Firsts t n fs
-  pub marks : cheap ≡ true → Marks t n tw
   pub room : cheap ≡ true → n ≤ length fs
-  pub room-again : cheap ≡ true → n ≤ length tw

@@ -65,6 +65,6 @@ pub const STACK_READ: usize = 65_536;
 /// What looking up takes: members, positions and texts with defaults.
 pub const STACK_LOOKUP: usize = 49_152;
 /// What writing takes.
-pub const STACK_WRITE: usize = 196_608;
+pub const STACK_WRITE: usize = 65_536;
 /// What writing with a plan takes, and proving it shortest.
-pub const STACK_PLAN: usize = 262_144;
+pub const STACK_PLAN: usize = 131_072;

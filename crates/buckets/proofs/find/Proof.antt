@@ -1,15 +1,16 @@
 use borrow.Author.Needs.{needs}
-use Rattle.buckets.specs.Numbered.{textAt}
+use Rattle.draft.specs.Table.{rowAt}
 use Rattle.buckets.specs.Chains.{Ahead}
+use Rattle.buckets.specs.Numbered.{textAt}
 use Rattle.buckets.proofs.Chaining.{chaining}
 use Rattle.buckets.proofs.find.Statement.{statement}
 use Rattle.buckets.proofs.find.Tie as tie
 
 abbrev Inv-loop : tie.InvT-loop
-Inv-loop strings text nexts newest j c₀ c = Ahead (textAt strings text) j nexts c
+Inv-loop table room strings text nexts newest j c₀ c = Ahead (textAt (rowAt room table) strings text) j nexts c
 
 abbrev μ-loop : tie.MeasureT-loop
-μ-loop strings text nexts newest j c₀ c = c
+μ-loop table room strings text nexts newest j c₀ c = c
 
 pub find-spec : {M : Type 1} → statement M
 find-spec = tie.close (tie.spec
@@ -20,10 +21,10 @@ find-spec = tie.close (tie.spec
     (λ c κs. search needs)  -- equal-texts-requires
     (λ c. search needs)  -- sub-result
     (λ c. search chaining)  -- returns
-    (λ c. search needs)  -- sub-link
-    (λ c. search needs)  -- mul-link
-    (λ c. search needs)  -- element-copy-out-link
-    (λ c κs. search needs)  -- link-requires
+    (λ c. search needs)  -- sub-wide
+    (λ c. search needs)  -- mul-wide
+    (λ c. search needs)  -- shared-slice-read-wide
+    (λ c κs. search needs)  -- wide-requires
     (λ c. search chaining)  -- loop-less
     (λ c. search chaining)  -- loop-again
     (λ c. search chaining))  -- returns-2

@@ -6,13 +6,10 @@ use Rattle.buckets.proofs.text_of.Tie as tie
 pub text-of-spec : {M : Type 1} → statement M
 text-of-spec = tie.close (tie.spec
     (λ c. search needs)  -- mul-wide
-    (λ c. search needs)  -- mul-wide-2
     (λ c. search needs)  -- shared-slice-read-wide
     (λ c κs. search needs)  -- wide-requires
-    (λ c. search needs)  -- mul-wide-3
-    (λ c. search needs)  -- add-wide
-    (λ c. search needs)  -- mul-wide-4
-    (λ c. search needs)  -- shared-slice-read-wide-2
-    (λ c κs. search needs)  -- wide-requires-2
+    (λ c κs. (search comparing, search needs, search needs))  -- get-row-requires
+    (λ c. search needs)  -- cast-part
+    (λ c. search needs)  -- cast-part-2
     (λ c κs. search needs)  -- part-requires
     (λ c. search comparing))  -- returns

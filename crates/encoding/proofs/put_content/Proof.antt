@@ -6,11 +6,11 @@ use Rattle.encoding.proofs.put_content.Tie as tie
 pub put-content-spec : {M : Type 1} → statement M
 put-content-spec = tie.close (tie.spec
     (λ c. search needs)  -- enum-told
-    (λ c κs. search items)  -- put-short-requires
+    (λ c κs. search needs)  -- try-short-requires
     (λ c. search needs)  -- enum-told-2
-    (λ c κs. search items)  -- put-short-requires-2
+    (λ c κs. search needs)  -- try-short-requires-2
     (λ c. search needs)  -- enum-told-3
-    (λ c κs. search items)  -- put-long-requires
+    (λ c κs. search needs)  -- try-long-requires
     (λ c. search needs)  -- enum-told-4
     (λ c. search needs)  -- same-length
     (λ c. search items)  -- returns
@@ -18,4 +18,4 @@ put-content-spec = tie.close (tie.spec
     (λ c. search items)  -- returns-2
     (λ c. search needs)  -- same-length-3
     (λ c. search items)  -- returns-3
-    (λ c. search needs))  -- returns-4
+    (λ c. search items))  -- returns-4

@@ -7,30 +7,30 @@ pub put-item-spec : {M : Type 1} → statement M
 put-item-spec = tie.close (tie.spec
     (λ c κs. search needs)  -- item-of-requires
     (λ c. search needs)  -- enum-told
-    (λ c κs. search items)  -- put-one-requires
+    (λ c κs. search needs)  -- try-one-requires
     (λ c. search needs)  -- enum-told-2
-    (λ c κs. search items)  -- put-one-requires-2
+    (λ c κs. search needs)  -- try-one-requires-2
     (λ c. search needs)  -- enum-told-3
-    (λ c κs. search items)  -- put-two-requires
+    (λ c κs. search needs)  -- try-two-requires
     (λ c. search needs)  -- enum-told-4
-    (λ c. search needs)  -- cast-put-number
-    (λ c κs. search items)  -- put-number-requires
+    (λ c. search needs)  -- cast-try-number
+    (λ c κs. search needs)  -- try-number-requires
     (λ c. search needs)  -- enum-told-5
     (λ c κs. search needs)  -- letter-requires
-    (λ c κs. search items)  -- put-one-requires-3
+    (λ c κs. search needs)  -- try-one-requires-3
     (λ c. search needs)  -- enum-known-item
     (λ c. search needs)  -- cast-part
     (λ c. search needs)  -- cast-part-2
     (λ c κs. search needs)  -- part-requires
-    (λ c κs. search items)  -- put-content-requires
+    (λ c κs. (search needs, search items))  -- put-content-requires
     (λ c. search needs)  -- enum-told-6
-    (λ c. search needs)  -- cast-put-number-2
-    (λ c κs. search items)  -- put-number-requires-2
+    (λ c. search needs)  -- cast-try-number-2
+    (λ c κs. search needs)  -- try-number-requires-2
     (λ c. search needs)  -- enum-told-7
-    (λ c. search needs)  -- cast-put-number-3
-    (λ c κs. search items)  -- put-number-requires-3
+    (λ c. search needs)  -- cast-try-number-3
+    (λ c κs. search needs)  -- try-number-requires-3
     (λ c. search needs)  -- enum-told-8
-    (λ c κs. search items)  -- put-one-requires-4
+    (λ c κs. search needs)  -- try-one-requires-4
     (λ c. search needs)  -- enum-told-9
     (λ c. search needs)  -- same-length
     (λ c. search items)  -- returns

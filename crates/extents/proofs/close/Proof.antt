@@ -5,9 +5,6 @@ use Rattle.extents.proofs.close.Tie as tie
 
 pub close-spec : {M : Type 1} → statement M
 close-spec = tie.close (tie.spec
-    (λ c. search needs)  -- enum-told
-    (λ c. search needs)  -- enum-known-extent
     (λ c. search needs)  -- cast-end
-    (λ c. search needs)  -- returns
-    (λ c. search walking)  -- returns-2
-    (λ c. search walking))  -- returns-3
+    (λ c. search walking)  -- returns
+    (λ c. search walking))  -- returns-2

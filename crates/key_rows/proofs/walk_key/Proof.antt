@@ -6,11 +6,9 @@ use Rattle.key_rows.proofs.walk_key.Tie as tie
 pub walk-key-spec : {M : Type 1} → statement M
 walk-key-spec = tie.close (tie.spec
     (λ c κs. search needs)  -- walk-string-requires
-    (λ c. search needs)  -- enum-told
-    (λ c. search needs)  -- enum-known-extent
+    (λ c. search keying)  -- returns
     (λ c κs. (search keying, search keying, search needs))  -- note-requires
-    (λ c. (search keying, search keying))  -- returns
     (λ c. search needs)  -- same-length
-    (λ c. (search keying, search keying))  -- returns-2
+    (λ c. search keying)  -- returns-2
     (λ c. search needs)  -- same-length-2
-    (λ c. (search keying, search keying)))  -- returns-3
+    (λ c. search keying))  -- returns-3

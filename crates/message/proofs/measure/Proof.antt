@@ -1,7 +1,7 @@
 use borrow.Author.Needs.{needs}
 use Prim.Native.Nat.{_-_}
 use Rattle.draft.specs.Table.{rowAt}
-use Rattle.message.proofs.Writing.{Measuring, measure-first, measure-done, measure-told, measure-words, measure-fits, measure-string, measure-item-fits, measure-other}
+use Rattle.message.proofs.Writing.{measuring, Measuring}
 use Rattle.message.proofs.measure.Statement.{statement}
 use Rattle.message.proofs.measure.Tie as tie
 
@@ -11,24 +11,16 @@ Inv-loop table room rows text strings firsts spots sum₀ j₀ r₀ sum j r = Me
 abbrev μ-loop : tie.MeasureT-loop
 μ-loop table room rows text strings firsts spots sum₀ j₀ r₀ sum j r = rows - r
 
-loop-again : tie.Need-loop-again Inv-loop μ-loop
-loop-again c = measure-string (c .before .before .before .before .before .loop .inv) (c .before .before .before .get-row .ensures) (c .before .before .before .before .loop-test .taken) (c .before .if1 .taken) (c .string-length .ensures)
-
 pub measure-spec : {M : Type 1} → statement M
 measure-spec = tie.close (tie.spec
     Inv-loop
     μ-loop
-    (λ c. search measure-first)  -- loop-holds
+    (λ c. search measuring)  -- loop-holds
     (λ c κs. search needs)  -- get-row-requires
-    (λ c κs. (search measure-told, search measure-words, search needs))  -- string-length-requires
-    (λ c. search measure-fits)  -- add-sum
-    (λ c. search needs)  -- add-j
+    (λ c κs. search measuring)  -- row-length-requires
+    (λ c. search measuring)  -- add-sum
+    (λ c κs. search measuring)  -- next-string-requires
     (λ c. search needs)  -- add-r
     (λ c. search needs)  -- loop-less
-    loop-again
-    (λ c κs. search needs)  -- item-length-requires
-    (λ c. search measure-item-fits)  -- add-sum-2
-    (λ c. search needs)  -- add-r-2
-    (λ c. search needs)  -- loop-less-2
-    (λ c. search measure-other)  -- loop-again-2
-    (λ c. search measure-done))  -- returns
+    (λ c. search measuring)  -- loop-again
+    (λ c. search measuring))  -- returns

@@ -1,47 +1,33 @@
 use borrow.Author.Needs.{needs}
 use Prim.Native.Nat.{_-_}
 use Rattle.draft.specs.Table.{rowAt}
-use Rattle.message.proofs.Writing.{Writing, write-first, write-start, write-done, write-told, write-words, write-room, write-fits, write-string, write-item-room, write-item-fits, write-item}
+use Rattle.message.proofs.Writing.{writing, Writing}
 use Rattle.message.proofs.put_items.Statement.{statement}
 use Rattle.message.proofs.put_items.Tie as tie
 
 abbrev Inv-loop : tie.InvT-loop
-Inv-loop table room rows text strings firsts spots output₀ at₀ j₀ sent₀ output at j sent = Writing (rowAt room table) rows text strings firsts spots output₀ sent j at output
+Inv-loop table room rows text strings firsts spots most output₀ at₀ j₀ sent₀ output at j sent = Writing (rowAt room table) rows text strings firsts spots most output₀ sent j at output
 
 abbrev μ-loop : tie.MeasureT-loop
-μ-loop table room rows text strings firsts spots output₀ at₀ j₀ sent₀ output at j sent = rows - sent
-
-add-at : tie.Need-add-at Inv-loop μ-loop
-add-at c = write-fits (c .before .before .before .before .before .before .before .before .loop .inv) (c .before .before .before .before .before .before .get-row .ensures) (c .before .before .before .before .before .before .before .loop-test .taken) (c .before .before .before .before .if1 .taken) (c .before .before .put-string .ensures)
-
-loop-again : tie.Need-loop-again Inv-loop μ-loop
-loop-again c = write-string (c .before .before .before .before .before .before .before .before .loop .inv) (c .before .before .before .before .before .before .get-row .ensures) (c .before .before .before .before .before .before .before .loop-test .taken) (c .before .before .before .before .if1 .taken) (c .before .before .put-string .ensures)
-
-loop-again-2 : tie.Need-loop-again-2 Inv-loop μ-loop
-loop-again-2 c = write-item (c .before .before .before .before .before .before .before .before .loop .inv) (c .before .before .before .before .before .before .get-row .ensures) (c .before .before .before .before .before .before .before .loop-test .taken) (c .before .before .before .before .if1 .left) (c .before .before .put-item .ensures)
+μ-loop table room rows text strings firsts spots most output₀ at₀ j₀ sent₀ output at j sent = rows - sent
 
 pub put-items-spec : {M : Type 1} → statement M
 put-items-spec = tie.close (tie.spec
     Inv-loop
     μ-loop
-    (λ c. search write-first)  -- loop-holds
+    (λ c. search writing)  -- loop-holds
     (λ c κs. search needs)  -- get-row-requires
-    (λ c. search write-start)  -- sub-put-string
-    (λ c. search write-start)  -- part-put-string-start
-    (λ c. search needs)  -- part-put-string-end
-    (λ c κs. (search write-told, search write-words, search write-room))  -- put-string-requires
-    add-at
-    (λ c. search needs)  -- add-j
+    (λ c. search writing)  -- sub-left
+    (λ c. search writing)  -- sub-put-row
+    (λ c. search writing)  -- part-put-row-start
+    (λ c. search needs)  -- part-put-row-end
+    (λ c κs. (search writing, search writing))  -- put-row-requires
+    (λ c. search writing)  -- add-at
+    (λ c. search needs)  -- same-length
+    (λ c. search writing)  -- returns
+    (λ c κs. search writing)  -- next-string-requires
     (λ c. search needs)  -- add-sent
     (λ c. search needs)  -- loop-less
-    loop-again
-    (λ c. search write-start)  -- sub-put-item
-    (λ c. search write-start)  -- part-put-item-start
-    (λ c. search needs)  -- part-put-item-end
-    (λ c κs. search write-item-room)  -- put-item-requires
-    (λ c. search write-item-fits)  -- add-at-2
-    (λ c. search needs)  -- add-sent-2
-    (λ c. search needs)  -- loop-less-2
-    loop-again-2
-    (λ c. search needs)  -- same-length
-    (λ c. search write-done))  -- returns
+    (λ c. search writing)  -- loop-again
+    (λ c. search needs)  -- same-length-2
+    (λ c. search writing))  -- returns-2

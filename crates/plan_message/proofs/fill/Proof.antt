@@ -1,4 +1,4 @@
-use Rattle.message.proofs.Filling.{too-long, no-room, sent}
+use Rattle.plan_message.proofs.Filling.{too-long, no-room, sent}
 use borrow.Author.Needs.{needs}
 use Rattle.plan_message.proofs.fill.Statement.{statement}
 use Rattle.plan_message.proofs.fill.Tie as tie

@@ -1,6 +1,6 @@
 use Prim.Native.Nat.{_-_}
 use Rattle.draft.specs.Table.{rowAt}
-use Rattle.plan_message.proofs.Writing.{Measuring, measure-first, measure-done, measure-short, measure-words, measure-plan, measure-few, measure-fits, measure-string, measure-item-fits, measure-other}
+use Rattle.plan_message.proofs.Writing.{Measuring, measure-first, measure-done, measure-short, measure-through, measure-count, measure-plan, measure-fits, measure-string, measure-item-fits, measure-other}
 use borrow.Author.Needs.{needs}
 use Rattle.plan_message.proofs.measure.Statement.{statement}
 use Rattle.plan_message.proofs.measure.Tie as tie
@@ -20,7 +20,7 @@ measure-spec = tie.close (tie.spec
     μ-loop
     (λ c. search measure-first)  -- loop-holds
     (λ c κs. search needs)  -- get-row-requires
-    (λ c κs. (search measure-few, search measure-words, search measure-plan, search measure-short))  -- string-length-requires
+    (λ c κs. (search measure-through, search measure-plan, search measure-short))  -- string-length-requires
     (λ c. search measure-fits)  -- add-sum
     (λ c. search needs)  -- add-j
     (λ c. search needs)  -- add-r

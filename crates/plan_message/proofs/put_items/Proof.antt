@@ -1,6 +1,6 @@
 use Prim.Native.Nat.{_-_}
 use Rattle.draft.specs.Table.{rowAt}
-use Rattle.plan_message.proofs.Writing.{Writing, write-first, write-start, write-done, write-words, write-plan, write-few, write-room, write-fits, write-string, write-item-room, write-item-fits, write-item}
+use Rattle.plan_message.proofs.Writing.{Writing, write-first, write-start, write-short, write-done, write-through, write-plan, write-count, write-room, write-fits, write-string, write-item-room, write-item-fits, write-item}
 use borrow.Author.Needs.{needs}
 use Rattle.plan_message.proofs.put_items.Statement.{statement}
 use Rattle.plan_message.proofs.put_items.Tie as tie
@@ -29,7 +29,7 @@ put-items-spec = tie.close (tie.spec
     (λ c. search write-start)  -- sub-put-string
     (λ c. search write-start)  -- part-put-string-start
     (λ c. search needs)  -- part-put-string-end
-    (λ c κs. (search write-few, search write-words, search write-plan, search write-room))  -- put-string-requires
+    (λ c κs. (search write-through, search write-plan, search write-short, write-room (c .before .before .before .before .before .loop .inv) (c .before .before .before .get-row .ensures) (c .before .before .before .before .loop-test .taken) (c .before .if1 .taken)))  -- put-string-requires
     add-at
     (λ c. search needs)  -- add-j
     (λ c. search needs)  -- add-sent
@@ -38,7 +38,7 @@ put-items-spec = tie.close (tie.spec
     (λ c. search write-start)  -- sub-put-item
     (λ c. search write-start)  -- part-put-item-start
     (λ c. search needs)  -- part-put-item-end
-    (λ c κs. search write-item-room)  -- put-item-requires
+    (λ c κs. (search write-short, search write-item-room))  -- put-item-requires
     (λ c. search write-item-fits)  -- add-at-2
     (λ c. search needs)  -- add-sent-2
     (λ c. search needs)  -- loop-less-2

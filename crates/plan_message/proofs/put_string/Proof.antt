@@ -1,3 +1,4 @@
+use Rattle.sending.proofs.Sending.{text-few}
 use Rattle.plan_message.proofs.Sending.{sending}
 use borrow.Author.Needs.{needs}
 use Rattle.plan_message.proofs.put_string.Statement.{statement}
@@ -12,12 +13,12 @@ put-string-spec = tie.close (tie.spec
     (λ c. search needs)  -- mul-p
     (λ c. search needs)  -- add-p
     (λ c. search needs)  -- shared-slice-read-p
-    (λ c κs. search sending)  -- put-long-requires
+    (λ c κs. (search needs, search text-few))  -- try-long-requires
     (λ c. search needs)  -- same-length
     (λ c. search sending)  -- returns
-    (λ c κs. search sending)  -- put-recorded-requires
+    (λ c κs. (search needs, search text-few))  -- try-recorded-requires
     (λ c. search needs)  -- same-length-2
     (λ c. search sending)  -- returns-2
-    (λ c κs. search sending)  -- put-two-requires
+    (λ c κs. search needs)  -- try-two-requires
     (λ c. search needs)  -- same-length-3
     (λ c. search sending))  -- returns-3

@@ -1,3 +1,4 @@
+use Rattle.sending.proofs.Collecting.{strings-there}
 use Rattle.plan_writer.proofs.Answering.{by-known, by-written, by-refused}
 use borrow.Author.Needs.{needs}
 use Rattle.plan_writer.proofs.write_rows.Statement.{statement}
@@ -6,7 +7,7 @@ use Rattle.plan_writer.proofs.write_rows.Tie as tie
 pub write-rows-spec : {M : Type 1} → statement M
 write-rows-spec = tie.close (tie.spec
     (λ c κs. search needs)  -- collect-requires
-    (λ c κs. search needs)  -- taken-requires
+    (λ c κs. search strings-there)  -- taken-requires
     (λ c κs. (search needs, search needs, search by-known))  -- fill-shorter-requires
     (λ c κs. search needs)  -- answer-for-requires
     (λ c. search needs)  -- same-length

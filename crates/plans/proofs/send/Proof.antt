@@ -1,4 +1,4 @@
-use Rattle.plans.proofs.Judging.{sending, recalled-there, recalled-words}
+use Rattle.plans.proofs.Judging.{sending, recalled-before}
 use borrow.Author.Needs.{needs}
 use Rattle.plans.proofs.send.Statement.{statement}
 use Rattle.plans.proofs.send.Tie as tie
@@ -13,9 +13,7 @@ send-spec = tie.close (tie.spec
     (λ c. search needs)  -- mul-k
     (λ c. search needs)  -- element-copy-out-k
     (λ c. search sending)  -- returns-3
-    (λ c. search needs)  -- sub-text-of
-    (λ c κs. (search (needs, recalled-there), search (needs, recalled-words)))  -- text-of-requires
-    (λ c κs. search needs)  -- text-of-requires-2
-    (λ c κs. search needs)  -- equal-requires
+    (λ c. search needs)  -- sub-equal-texts
+    (λ c κs. (search needs, search (needs, recalled-before)))  -- equal-texts-requires
     (λ c. search sending)  -- returns-4
     (λ c. search sending))  -- returns-5

@@ -1,15 +1,17 @@
 use Prim.Native.Nat.{_-_}
+use Rattle.draft.specs.Table.{rowAt}
 use Rattle.buckets.specs.Numbered.{textAt}
+use Rattle.buckets.proofs.Comparing.{through}
 use Rattle.plans.proofs.Judging.{Taking, taking, take-named, take-on, take-no, take-done}
 use borrow.Author.Needs.{needs}
 use Rattle.plans.proofs.taken.Statement.{statement}
 use Rattle.plans.proofs.taken.Tie as tie
 
 abbrev Inv-loop : tie.InvT-loop
-Inv-loop strings count text plan book₀ j₀ book j = Taking (textAt strings text) plan count book j
+Inv-loop table room strings count text plan book₀ j₀ book j = Taking (textAt (rowAt room table) strings text) plan count book j
 
 abbrev μ-loop : tie.MeasureT-loop
-μ-loop strings count text plan book₀ j₀ book j = count - j
+μ-loop table room strings count text plan book₀ j₀ book j = count - j
 
 loop-again : tie.Need-loop-again Inv-loop μ-loop
 loop-again c = take-on (c .before .before .before .before .before .before .before .before .loop .inv) (c .before .before .before .before .before .before .before .loop-test .taken) (c .before .before .before .before .before .byte .ensures .0) (c .before .before .before .byte2 .ensures .0) (c .before .send .ensures) (c .if2 .taken)
@@ -31,7 +33,7 @@ taken-spec = tie.close (tie.spec
     (λ c. search needs)  -- add-byte
     (λ c. search needs)  -- shared-slice-read-byte-2
     (λ c κs. search needs)  -- byte-requires-2
-    (λ c κs. (search needs, search needs, search needs, search take-named))  -- send-requires
+    (λ c κs. (search needs, search through, search take-named))  -- send-requires
     (λ c. search needs)  -- add-j
     (λ c. search needs)  -- loop-less
     loop-again

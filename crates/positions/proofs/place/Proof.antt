@@ -1,39 +1,11 @@
-use Rattle.positions.proofs.Placing.{placing, Placing}
+use Rattle.positions.proofs.Placing.{placing}
 use borrow.Author.Needs.{needs}
-use Prim.Native.Nat.{_-_}
-use lib.ListN.{length}
-use mathlib.Core.Path.{_≡_}
 use Rattle.positions.proofs.place.Statement.{statement}
 use Rattle.positions.proofs.place.Tie as tie
 
-abbrev Inv-loop : tie.InvT-loop
-Inv-loop count firsts again spots₀ j₀ next₀ spots j next = Placing count firsts again j next spots × (length spots ≡ length spots₀)
-
-abbrev μ-loop : tie.MeasureT-loop
-μ-loop count firsts again spots₀ j₀ next₀ spots j next = count - j
-
 pub place-spec : {M : Type 1} → statement M
 place-spec = tie.close (tie.spec
-    Inv-loop
-    μ-loop
-    (λ c. search placing)  -- loop-holds
-    (λ c. search needs)  -- mul-if1
-    (λ c. search needs)  -- shared-slice-read-if1
-    (λ c. search needs)  -- mul-if2
-    (λ c. search needs)  -- shared-slice-read-if2
-    (λ c. search needs)  -- mul-spots
-    (λ c. search needs)  -- slice-write-spots
-    (λ c. search needs)  -- add-next
-    (λ c. search needs)  -- add-j
-    (λ c. search needs)  -- loop-less
-    (λ c. (search placing, search needs))  -- loop-again
-    (λ c. search needs)  -- mul-spots-2
-    (λ c. search needs)  -- slice-write-spots-2
-    (λ c. search needs)  -- add-j-2
-    (λ c. search needs)  -- loop-less-2
-    (λ c. (search placing, search needs))  -- loop-again-2
-    (λ c. search needs)  -- add-j-3
-    (λ c. search needs)  -- loop-less-3
-    (λ c. search placing)  -- loop-again-3
+    (λ c κs. search needs)  -- mark-requires
+    (λ c κs. search needs)  -- number-requires
     (λ c. search needs)  -- same-length
     (λ c. search placing))  -- returns

@@ -5,8 +5,9 @@ use Rattle.positions.proofs.sending_of.Tie as tie
 
 pub sending-of-spec : {M : Type 1} → statement M
 sending-of-spec = tie.close (tie.spec
-    (λ c. search needs)  -- mul-f
-    (λ c. search needs)  -- shared-slice-read-f
+    (λ c. search needs)  -- mul-wide
+    (λ c. search needs)  -- shared-slice-read-wide
+    (λ c κs. search needs)  -- wide-requires
     (λ c. search needs)  -- mul-p
     (λ c. search needs)  -- shared-slice-read-p
     (λ c. search needs)  -- cast-t12

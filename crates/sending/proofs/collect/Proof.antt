@@ -1,8 +1,7 @@
-use lib.ListN.{length-set, length}
-use native.Mathlib.Omega.{arith}
 use borrow.Author.Needs.{needs}
 use mathlib.Core.Path.{_≡_}
 use Prim.Native.Nat.{_-_}
+use lib.ListN.{length}
 use Rattle.draft.specs.Table.{rowAt}
 use Rattle.sending.proofs.Collecting.{Collecting, collecting}
 use Rattle.sending.proofs.collect.Statement.{statement}
@@ -18,21 +17,17 @@ pub collect-spec : {M : Type 1} → statement M
 collect-spec = tie.close (tie.spec
     Inv-loop
     μ-loop
-    (λ c. search collecting)  -- loop-holds
+    (λ c. (search collecting, search needs))  -- loop-holds
     (λ c κs. search needs)  -- get-row-requires
+    (λ c. search needs)  -- cast-strings
     (λ c. search needs)  -- mul-strings
-    (λ c. search needs)  -- mul-strings-2
     (λ c. search needs)  -- slice-write-strings
-    (λ c. search needs)  -- mul-strings-3
-    (λ c. search needs)  -- add-strings
-    (λ c. search needs)  -- mul-strings-4
-    (λ c. simp length-set (omega arith))  -- slice-write-strings-2
     (λ c. search needs)  -- add-n
     (λ c. search needs)  -- add-r
     (λ c. search needs)  -- loop-less
     (λ c. (search collecting, search needs))  -- loop-again
     (λ c. search needs)  -- add-r-2
     (λ c. search needs)  -- loop-less-2
-    (λ c. search collecting)  -- loop-again-2
+    (λ c. (search collecting, search needs))  -- loop-again-2
     (λ c. search needs)  -- same-length
     (λ c. search collecting))  -- returns

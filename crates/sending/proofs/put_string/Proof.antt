@@ -8,11 +8,11 @@ put-string-spec = tie.close (tie.spec
     (λ c κs. search needs)  -- text-of-requires
     (λ c κs. search needs)  -- sending-of-requires
     (λ c. search needs)  -- enum-told
-    (λ c κs. search sending)  -- put-long-requires
+    (λ c κs. (search needs, search sending))  -- try-long-requires
     (λ c. search needs)  -- enum-known-sending
-    (λ c κs. search sending)  -- put-recorded-requires
+    (λ c κs. (search needs, search sending))  -- try-recorded-requires
     (λ c. search needs)  -- enum-known-sending-2
-    (λ c κs. search sending)  -- put-two-requires
+    (λ c κs. search needs)  -- try-two-requires
     (λ c. search needs)  -- same-length
     (λ c. search sending)  -- returns
     (λ c. search needs)  -- same-length-2

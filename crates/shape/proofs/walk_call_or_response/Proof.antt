@@ -10,15 +10,15 @@ walk-call-or-response-spec = tie.close (tie.spec
     (λ c κs. search needs)  -- item-of-requires
     (λ c. search needs)  -- enum-told
     (λ c. search needs)  -- add-walk-method-and-array
-    (λ c κs. search needs)  -- walk-method-and-array-requires
+    (λ c κs. search calling)  -- walk-method-and-array-requires
     (λ c κs. search needs)  -- close-holding-requires
     (λ c. search needs)  -- enum-told-2
     (λ c. search needs)  -- add-walk-value
-    (λ c κs. (search needs, search needs, search calling))  -- walk-value-requires
+    (λ c κs. search calling)  -- walk-value-requires
     (λ c κs. search needs)  -- close-holding-requires-2
     (λ c. search needs)  -- enum-told-3
     (λ c. search needs)  -- add-walk-fault-struct
-    (λ c κs. search needs)  -- walk-fault-struct-requires
+    (λ c κs. search calling)  -- walk-fault-struct-requires
     (λ c κs. search needs)  -- close-holding-requires-3
     (λ c. search needs)  -- enum-told-4
     (λ c. search needs)  -- enum-told-5

@@ -6,9 +6,7 @@ use Rattle.shape.proofs.walk_method_and_array.Tie as tie
 pub walk-method-and-array-spec : {M : Type 1} → statement M
 walk-method-and-array-spec = tie.close (tie.spec
     (λ c κs. search needs)  -- walk-string-requires
-    (λ c. search needs)  -- enum-told
-    (λ c. search needs)  -- enum-known-extent
-    (λ c κs. (search needs, search needs, search calling))  -- walk-array-only-requires
     (λ c. search calling)  -- returns
+    (λ c κs. search calling)  -- walk-array-requires
     (λ c. search needs)  -- same-length
     (λ c. search calling))  -- returns-2

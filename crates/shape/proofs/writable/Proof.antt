@@ -12,5 +12,4 @@ writable-spec = tie.close (tie.spec
     (λ c. search whole)  -- returns-4
     (λ c κs. search needs)  -- room-of-requires
     (λ c κs. search needs)  -- walk-first-requires
-    (λ c κs. search needs)  -- wholly-requires
     (λ c. search whole))  -- returns-5
