@@ -34,7 +34,16 @@ fn bound_reaches(
     ensures { λ b. ⌜ Reaches (textAt (rowAt room (now (table .entry))) (now (strings .entry)) (now (text .entry))) count (now (prices .entry)) cost b ⌝ }
 {
     if texts::scan(table, room, strings, count, text, firsts, heads, nexts) {
-        let bound = prices::price(table, room, strings, count, text, &firsts[..], prices, marks);
+        let bound = prices::price(
+            table,
+            room,
+            strings,
+            count,
+            text,
+            &firsts[..],
+            prices,
+            marks,
+        );
         return cost + POSITIONS * bound.prices <= bound.least;
     }
     false
@@ -65,7 +74,19 @@ fn judge_strings(
         if MOST_BYTES < cost {
             return false;
         }
-        return bound_reaches(table, room, strings, count, text, prices, cost, firsts, heads, nexts, marks);
+        return bound_reaches(
+            table,
+            room,
+            strings,
+            count,
+            text,
+            prices,
+            cost,
+            firsts,
+            heads,
+            nexts,
+            marks,
+        );
     }
     false
 }
@@ -88,7 +109,19 @@ fn judge_rows(
     ensures { λ b. ⌜ Judged (now (text .entry)) (from (rowAt room (now (table .entry))) 0 rows) (now (plan .entry)) (now (prices .entry)) b ⌝ }
 {
     let count = sending::collect(table, room, rows, strings);
-    judge_strings(table, room, &strings[..], count, text, plan, prices, firsts, heads, nexts, marks)
+    judge_strings(
+        table,
+        room,
+        &strings[..],
+        count,
+        text,
+        plan,
+        prices,
+        firsts,
+        heads,
+        nexts,
+        marks,
+    )
 }
 
 // The same, with arrays for as many rows as a table may have.

@@ -49,7 +49,14 @@ fn send(
 }
 
 // Whether the plan is taken for the first `count` strings.
-pub fn taken(table: &[u32], room: usize, strings: &[u16], count: usize, text: &[u8], plan: &[u8]) -> bool
+pub fn taken(
+    table: &[u32],
+    room: usize,
+    strings: &[u16],
+    count: usize,
+    text: &[u8],
+    plan: &[u8],
+) -> bool
     requires { ⌜ Strings room (length (now table)) count (now strings) ⌝ }
     ensures { λ b. ⌜ b ≡ takenBy (now (plan .entry)) (from (textAt (rowAt room (now (table .entry))) (now (strings .entry)) (now (text .entry))) 0 count) ⌝ }
 {
@@ -71,7 +78,14 @@ pub fn taken(table: &[u32], room: usize, strings: &[u16], count: usize, text: &[
 }
 
 // How many bytes string j takes, as the plan sends it.
-pub fn string_length(table: &[u32], room: usize, strings: &[u16], text: &[u8], plan: &[u8], j: usize) -> usize
+pub fn string_length(
+    table: &[u32],
+    room: usize,
+    strings: &[u16],
+    text: &[u8],
+    plan: &[u8],
+    j: usize,
+) -> usize
     requires { ⌜ Through room (length (now table)) j (now strings) × (j * 2 + 1 < length (now plan)) × (length (now text) ≤ 65536) ⌝ }
     ensures { λ n. ⌜ Takes (now (plan .entry)) j (textAt (rowAt room (now (table .entry))) (now (strings .entry)) (now (text .entry)) j) n ⌝ }
 {
@@ -87,7 +101,14 @@ pub fn string_length(table: &[u32], room: usize, strings: &[u16], text: &[u8], p
 }
 
 // How many bytes the first `count` strings take, as the plan sends them.
-pub fn cost(table: &[u32], room: usize, strings: &[u16], count: usize, text: &[u8], plan: &[u8]) -> usize
+pub fn cost(
+    table: &[u32],
+    room: usize,
+    strings: &[u16],
+    count: usize,
+    text: &[u8],
+    plan: &[u8],
+) -> usize
     requires { ⌜ Strings room (length (now table)) count (now strings) × (count * 2 ≤ length (now plan)) × (length (now text) ≤ 65536) ⌝ }
     ensures { λ n. ⌜ n ≡ costs (sentsFrom (now (plan .entry)) 0 (from (textAt (rowAt room (now (table .entry))) (now (strings .entry)) (now (text .entry))) 0 count)) ⌝ }
 {

@@ -8,7 +8,7 @@ pub write-rows-spec : {M : Type 1} → statement M
 write-rows-spec = tie.close (tie.spec
     (λ c κs. search needs)  -- collect-requires
     (λ c κs. search strings-there)  -- taken-requires
-    (λ c κs. (search needs, search needs, search by-known))  -- fill-shorter-requires
+    (λ c κs. (search needs, search needs, by-known _ _ (c .before .before .before .before .before .before .before .collect .ensures) (c .before .before .before .taken .ensures) (c .before .before .if1 .taken) (search needs)))  -- fill-shorter-requires
     (λ c κs. search needs)  -- answer-for-requires
     (λ c. search needs)  -- same-length
     (λ c. search needs)  -- same-length-2
