@@ -119,6 +119,33 @@ static void default_text(void)
                          (const uint8_t *)"x", 1, &sort, &offset, &size);
 }
 
+/* Calls for a station, whose share has all rows but one. */
+#define SHARE BINMODE_TABLE_WORDS, BINMODE_MOST_ROWS - 1, BINMODE_STATION_FOUR
+static void find_share(void) { answer = binmode_share(SHARE, &offset, &size); }
+static void station_read(void) { answer = binmode_station_read(message, length, table, SHARE, &rows, &used, &place); }
+static void station_read_card(void)
+{
+    answer = binmode_station_read_card(file, length + 6, 0, table, SHARE, &rows, &used, &place, &offset);
+}
+static void station_take_piece(void)
+{
+    binmode_pieces_start(&state);
+    answer = binmode_station_pieces_next(&state, message, length, room, sizeof room, table, SHARE);
+}
+static void station_end_pieces(void) { answer = binmode_station_pieces_end(&state, room, sizeof room, table, SHARE); }
+static void station_write(void)
+{
+    answer = binmode_station_write(table, SHARE, rows, message, length, output, sizeof output, &size);
+}
+static void station_look_up(void)
+{
+    binmode_station_lookup(table, SHARE, rows, message, length, 1, (const uint8_t *)"x", 1, &sort, &number, &x, &offset, &size);
+}
+static void station_find_position(void)
+{
+    binmode_station_position(table, SHARE, rows, message, length, 1, &x, &y, &turn);
+}
+
 /* How many strings the table has: the plan sends each in full. */
 static size_t strings(void)
 {
@@ -155,6 +182,14 @@ static struct {
     {"binmode_next_card", next_card, 1024, 0},
     {"binmode_pieces_next", take_piece, BINMODE_STACK_READ, 0},
     {"binmode_pieces_end", end_pieces, 1024, 0},
+    {"binmode_share", find_share, 1024, 0},
+    {"binmode_station_read", station_read, BINMODE_STACK_READ, 0},
+    {"binmode_station_write", station_write, BINMODE_STACK_WRITE, 0},
+    {"binmode_station_lookup", station_look_up, BINMODE_STACK_LOOKUP, 0},
+    {"binmode_station_position", station_find_position, BINMODE_STACK_LOOKUP, 0},
+    {"binmode_station_read_card", station_read_card, BINMODE_STACK_READ, 0},
+    {"binmode_station_pieces_next", station_take_piece, BINMODE_STACK_READ, 0},
+    {"binmode_station_pieces_end", station_end_pieces, 1024, 0},
 };
 #define CALLS (sizeof calls / sizeof calls[0])
 

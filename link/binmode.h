@@ -1,6 +1,7 @@
 /*
- * Binmode RPC messages read and written, whole or in pieces, the cards of job files, and members looked up: the functions that
- * libbinmode.a exports, and helpers for the tables that they fill. For x86-64 Linux, in C99 and later or C++11 and later.
+ * Binmode RPC messages read and written, whole or in pieces, the cards of job files, and members looked up, also for two stations
+ * that share one table: the functions that libbinmode.a exports, and helpers for the tables that they fill. For x86-64 Linux, in
+ * C99 and later or C++11 and later.
  *
  *     uint32_t table[BINMODE_TABLE_WORDS];
  *     size_t rows, used, place;
@@ -22,7 +23,8 @@
  *   - the thread has the stack that is named below.
  * Anything else may be passed: every content, every length, every number of rows has its answer.
  *
- * A buffer need not be cleared before a call: what it held has no part in the answer, and all of it is settled afterwards.
+ * A buffer need not be cleared before a call: what it held has no part in the answer, and all of it is settled afterwards; of a
+ * table that is split between two stations, the station's share.
  */
 #ifndef BINMODE_H
 #define BINMODE_H
@@ -81,9 +83,9 @@ static uint32_t (*const binmode_linked_version)(void) BINMODE_KEPT = binmode_ver
  * What a call takes of the stack, in bytes, its buffers not counted: bounds, above what compare/stack measures. It grows with the
  * nesting, and hardly with anything else. The other functions take under 1,024.
  */
-#define BINMODE_STACK_READ 65536   /* binmode_read, binmode_read_card, binmode_pieces_next */
-#define BINMODE_STACK_LOOKUP 49152 /* binmode_lookup, binmode_position, binmode_default_text */
-#define BINMODE_STACK_WRITE 65536  /* binmode_write */
+#define BINMODE_STACK_READ 65536   /* binmode_read, binmode_read_card, binmode_pieces_next; binmode_station_* that read */
+#define BINMODE_STACK_LOOKUP 49152 /* binmode_lookup, binmode_position, binmode_default_text; binmode_station_* that look up */
+#define BINMODE_STACK_WRITE 65536  /* binmode_write, binmode_station_write */
 #define BINMODE_STACK_PLAN 131072  /* binmode_write_planned, binmode_proves_shortest */
 
 /* The answers: acceptance, or the number of a refusal; for a message in pieces also that more is wanted. */
@@ -108,6 +110,7 @@ static uint32_t (*const binmode_linked_version)(void) BINMODE_KEPT = binmode_ver
 #define BINMODE_REFUSED_NO_MEMBER 18        /* lookup: the row is no Struct, or the member is absent or of the wrong sort */
 #define BINMODE_REFUSED_TOO_MANY_DIGITS 19  /* lookup: a Double of more than 15 digits, or of more than 22 after the point */
 #define BINMODE_REFUSED_REPEATED_KEY 20     /* read: a key that its Struct has already, compared as bytes */
+#define BINMODE_REFUSED_NOT_SPLIT 22        /* station: the row gives no shares, being 0 or not below the table's whole rows */
 #define BINMODE_REFUSED_NOT_TAKEN 24        /* write with a plan: the plan is not taken */
 #define BINMODE_REFUSED_NO_CARD 26          /* job file: a sound job ends before the card asked for */
 #define BINMODE_MORE_WANTED 255             /* pieces: no answer yet */
@@ -379,6 +382,72 @@ uint8_t binmode_pieces_end(struct binmode_pieces *state, const uint8_t *room, si
                            size_t table_words) BINMODE_NO_NULL;
 
 /*
+ * Two stations on one table. The table is split at a row: the rows below it are station four's share, the rest of the whole rows
+ * station five's. On its share a station's call does and tells what the call without a station does and tells for a table that is
+ * as long as the share: the share's room is its own rows, 4,096 at most, its rows are counted from its first, and all its words
+ * are settled. No other word of the table is changed, neither of the other's share nor beyond the last whole row.
+ *
+ *     uint32_t table[BINMODE_TABLE_WORDS];
+ *     binmode_station_read(message, length, table, BINMODE_TABLE_WORDS, 1024, BINMODE_STATION_FOUR, &rows, &used, &place);
+ *
+ *   split                 the row: from 1 to table_words / 4 - 1
+ *   station               BINMODE_STATION_FOUR or BINMODE_STATION_FIVE
+ *
+ * With any other row or station every call gives BINMODE_REFUSED_NOT_SPLIT, before all other refusals. Then nothing that was lent
+ * is changed, no word of the table and no byte of an output or a room; the numbers that are reported are those of a refusal, with
+ * place 0.
+ *
+ * During a call only the station's share is written, but the whole table counts as lent: two calls on one table at the same time
+ * are not allowed. Who wants that lends each station its own share, by binmode_share, to the functions above.
+ */
+#define BINMODE_STATION_FOUR 4
+#define BINMODE_STATION_FIVE 5
+
+/*
+ * Where a station's share lies in a table of so many words: `first` is set to its first word, `length` to how many words it has;
+ * both to 0 on a refusal. `table + first` with `length` words is a table of its own, for any function of this header and for the
+ * helpers below.
+ */
+uint8_t binmode_share(size_t table_words, size_t split, uint8_t station, size_t *first, size_t *length) BINMODE_NO_NULL;
+
+/* binmode_read into a station's share. */
+uint8_t binmode_station_read(const uint8_t *message, size_t message_len, uint32_t *table, size_t table_words, size_t split,
+                             uint8_t station, size_t *rows, size_t *used, size_t *place) BINMODE_NO_NULL;
+
+/* binmode_read_card into a station's share. */
+uint8_t binmode_station_read_card(const uint8_t *file, size_t file_len, size_t number, uint32_t *table, size_t table_words,
+                                  size_t split, uint8_t station, size_t *rows, size_t *used, size_t *place,
+                                  size_t *body) BINMODE_NO_NULL;
+
+/*
+ * binmode_pieces_next and binmode_pieces_end into a station's share, with a state that binmode_pieces_start set. In between the
+ * other station may use the table: it is the share that has to be left alone. On BINMODE_REFUSED_NOT_SPLIT, which comes before
+ * BINMODE_REFUSED_SHORT_ROOM, the state is as it was too, so that the message can go on; the result is then not state->answer.
+ */
+uint8_t binmode_station_pieces_next(struct binmode_pieces *state, const uint8_t *piece, size_t piece_len, uint8_t *room,
+                                    size_t room_len, uint32_t *table, size_t table_words, size_t split,
+                                    uint8_t station) BINMODE_NO_NULL;
+
+uint8_t binmode_station_pieces_end(struct binmode_pieces *state, const uint8_t *room, size_t room_len, uint32_t *table,
+                                   size_t table_words, size_t split, uint8_t station) BINMODE_NO_NULL;
+
+/* binmode_write of a station's share: `rows` are stated from the share's first row on. */
+uint8_t binmode_station_write(const uint32_t *table, size_t table_words, size_t split, uint8_t station, size_t rows,
+                              const uint8_t *text, size_t text_len, uint8_t *output, size_t output_len,
+                              size_t *length) BINMODE_NO_NULL;
+
+/* binmode_lookup in a station's share: `row` is counted from the share's first, and so is a row that is the answer. */
+uint8_t binmode_station_lookup(const uint32_t *table, size_t table_words, size_t split, uint8_t station, size_t rows,
+                               const uint8_t *text, size_t text_len, size_t row, const uint8_t *key, size_t key_len,
+                               uint8_t *sort, int64_t *number, double *decimal, size_t *offset,
+                               size_t *length) BINMODE_NO_NULL;
+
+/* binmode_position in a station's share. */
+uint8_t binmode_station_position(const uint32_t *table, size_t table_words, size_t split, uint8_t station, size_t rows,
+                                 const uint8_t *text, size_t text_len, size_t row, double *x, double *y,
+                                 double *turn) BINMODE_NO_NULL;
+
+/*
  * Helpers, compiled into the program that uses them. They take any table, also one that no call filled: a row that is not there is four
  * zeros, content that lies outside the text bytes is none, and going from child to child comes to an end.
  *
@@ -556,6 +625,7 @@ static inline const char *binmode_answer_words(size_t answer)
     case BINMODE_REFUSED_NO_MEMBER: return "the row is no Struct, or the member is absent or of the wrong sort";
     case BINMODE_REFUSED_TOO_MANY_DIGITS: return "a Double has more than 15 digits, or more than 22 after the point";
     case BINMODE_REFUSED_REPEATED_KEY: return "a key that its Struct has already";
+    case BINMODE_REFUSED_NOT_SPLIT: return "the row number does not split the table, or there is no such station";
     case BINMODE_REFUSED_NOT_TAKEN: return "the plan does not send the table's strings";
     case BINMODE_REFUSED_NO_CARD: return "the job has no card of this number";
     case BINMODE_MORE_WANTED: return "more bytes are wanted";

@@ -296,7 +296,7 @@ fn is_wrapped_alike(file: &[u8], job: &Job) -> bool {
     same && end && cards.next().is_none()
 }
 
-fn reported(answer: Card) -> CardAnswer {
+pub fn reported(answer: Card) -> CardAnswer {
     match answer {
         Card::Accepted { rows, used, body } => CardAnswer {
             number: 0,

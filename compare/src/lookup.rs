@@ -188,7 +188,7 @@ fn shown(table: &Table) -> String {
 }
 
 /// The second implementation's answer as the numbers of `link/binmode.h`.
-fn reported(answer: Result<Member, u8>) -> Looked {
+pub fn reported(answer: Result<Member, u8>) -> Looked {
     let none = Looked::default();
     match answer {
         Err(refusal) => Looked { refusal, ..none },
@@ -221,7 +221,7 @@ fn reported(answer: Result<Member, u8>) -> Looked {
     }
 }
 
-fn placed(answer: Result<Position, u8>) -> Placed {
+pub fn placed(answer: Result<Position, u8>) -> Placed {
     let refusal = answer.err().unwrap_or(0);
     let Position { x, y, turn } = answer.unwrap_or_default();
     Placed {

@@ -1,6 +1,6 @@
 //! Compares the proved library with the second implementation on generated
-//! messages, whole and in pieces, tables, plans, job files and members: `compare SEED
-//! CALLS`. Ends with 1 where they differ.
+//! messages, whole and in pieces, tables, plans, job files, members and shares
+//! of a table: `compare SEED CALLS`. Ends with 1 where they differ.
 
 mod change;
 mod defaults;
@@ -16,6 +16,8 @@ mod plans;
 mod reading;
 mod shortest;
 mod state;
+mod station_calls;
+mod stations;
 mod tally;
 mod writing;
 
@@ -26,6 +28,7 @@ use pieces::InPieces;
 use plans::Plans;
 use reading::{Compared, Reading};
 use second::generate::Random;
+use stations::Stations;
 use std::process::ExitCode;
 use tally::{Run, Tally};
 use writing::Writing;
@@ -66,6 +69,7 @@ fn compare(run: &mut Run) -> Compared {
     let mut lookups = Lookups::new();
     let mut pieces = InPieces::new();
     let mut texts = Texts::new();
+    let mut stations = Stations::new();
     let mut plans = Plans::new();
     shortest::tried(&mut run.random)?;
     plans.all_of_small(&mut run.random)?;
@@ -79,11 +83,14 @@ fn compare(run: &mut Run) -> Compared {
     jobs.edges(run)?;
     pieces.papers(run)?;
     pieces.limit(run)?;
+    stations.every_split(run)?;
+    stations.many_rows(run)?;
     while !run.tally.is_over() {
         reading.round(run)?;
         lookups.round(run)?;
         pieces.round(run)?;
         texts.round(run)?;
+        stations.round(run)?;
         writing.round(run)?;
         plans.round(run)?;
         if run.random.one_in(4) {

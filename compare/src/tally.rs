@@ -28,7 +28,7 @@ const MEANINGS: [&str; NUMBERS] = [
     "too many digits",
     "the same key twice",
     "",
-    "",
+    "row splits no table",
     "",
     "plan not taken",
     "",
@@ -50,6 +50,7 @@ pub struct Tally {
     pub positions: [usize; NUMBERS],
     pub pieces: [usize; NUMBERS],
     pub texts: [usize; NUMBERS],
+    pub stations: [usize; NUMBERS],
     pub plans: [usize; NUMBERS],
 }
 
@@ -64,6 +65,7 @@ impl Tally {
             positions: [0; NUMBERS],
             pieces: [0; NUMBERS],
             texts: [0; NUMBERS],
+            stations: [0; NUMBERS],
             plans: [0; NUMBERS],
         }
     }
@@ -114,6 +116,14 @@ impl Tally {
         self.texts[usize::from(number)] += 1;
     }
 
+    /// Notes a call for a station, by its answer; none while more is wanted.
+    pub fn at_station(&mut self, number: u8) {
+        self.left -= 1;
+        if let Some(count) = self.stations.get_mut(usize::from(number)) {
+            *count += 1;
+        }
+    }
+
     /// Notes a table written with a plan.
     pub fn planned(&mut self, number: u8) {
         self.left -= 1;
@@ -129,6 +139,7 @@ impl Tally {
             ("positions", &self.positions),
             ("in pieces", &self.pieces),
             ("texts", &self.texts),
+            ("stations", &self.stations),
             ("plans", &self.plans),
         ];
         let line = |number: &str, meaning: &str, cells: Vec<String>| {

@@ -216,7 +216,7 @@ fn overlapping(random: &mut Random) -> Table {
 }
 
 /// The second implementation's answer, with document 01's zeros.
-fn reported(answer: Write) -> Written {
+pub fn reported(answer: Write) -> Written {
     match answer {
         Write::Accepted { length } => Written { number: 0, length },
         Write::Refused { number } => Written { number, length: 0 },

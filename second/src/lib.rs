@@ -16,6 +16,7 @@ pub mod questions;
 pub mod reader;
 pub mod rules;
 pub mod shortest;
+pub mod stations;
 pub mod writer;
 
 pub use meaning::same_meaning;

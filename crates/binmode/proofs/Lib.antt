@@ -1,3 +1,4 @@
+pub mod AtStations
 pub mod Cards
 pub mod Choosing
 pub mod InPieces

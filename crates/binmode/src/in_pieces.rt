@@ -6,7 +6,7 @@ ghost use lib.ListN.{length};
 ghost use Rattle.pieces.specs.Runs.{begun};
 ghost use Rattle.binmode.specs.InPieces.{answerFor, wordsOf, stateFor, PieceReported, EndReported};
 
-fn answer_for(state: State) -> u8
+pub fn answer_for(state: State) -> u8
     ensures { λ n. ⌜ n ≡ answerFor state ⌝ }
 {
     match state {
@@ -20,7 +20,7 @@ fn answer_for(state: State) -> u8
     }
 }
 
-fn words_of(state: State) -> [u64; 6]
+pub fn words_of(state: State) -> [u64; 6]
     ensures { λ w. ⌜ w ≡ wordsOf state ⌝ }
 {
     match state {
@@ -38,7 +38,7 @@ fn words_of(state: State) -> [u64; 6]
 }
 
 // The state that some words are: any number that is no other answer's is a refusal's.
-fn state_for(answer: u64, rows: u64, used: u64, place: u64, held: u64, wanted: u64) -> State
+pub fn state_for(answer: u64, rows: u64, used: u64, place: u64, held: u64, wanted: u64) -> State
     ensures { λ r. ⌜ r ≡ stateFor answer rows used place held wanted ⌝ }
 {
     if answer == 255 {

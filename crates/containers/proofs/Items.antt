@@ -107,9 +107,9 @@ module _ {t : ℕ → Text} {N : List ℕ} {r : ℕ} where
         }
 
 -- an Array or a Struct
-module _ {s : List ℕ} {room rows : ℕ} {T : List ℕ} {r : ℕ} {N : List ℕ} (p : Prepared s room rows T r N) where
-  pub contents-ready : Prepared s room rows T (r + 1) N
-  contents-ready = record { below = omega arith; ready = p .ready; entries = p .entries; noted = noted-next (p .noted) }
+module _ {s : List ℕ} {room rows : ℕ} {T : List ℕ} {good r : ℕ} {N : List ℕ} (p : Prepared s room rows T good r N) where
+  pub contents-ready : Prepared s room rows T good (r + 1) N
+  contents-ready = record { below = omega arith; ready = p .ready; checked = p .checked; entries = p .entries; noted = noted-next (p .noted) }
 
   module _ (x : Row) (h : holdsItems (x .kind) ≡ true) (deep : ℕ) where
     pub contents-none : {N′ : List ℕ} → deep ≡ 0 → Done (item (rowAt room T) rows s (itemOf (x .kind)) (nested (rowAt room T) rows s deep) x r) (named s room T) N N′ r 0
@@ -129,9 +129,9 @@ pub record Going (s : List ℕ) (room rows : ℕ) (T : List ℕ) (keyed : Bool) 
   pub are : keyed ≡ true → keysOf (named s room T) N first here ≡ turn .seen
   pub on : first ≤ here
 
-pub going-first : {s : List ℕ} {room rows : ℕ} {T : List ℕ} {keyed : Bool} {g : Walk} {n first : ℕ} {N : List ℕ} → Prepared s room rows T first N → Going s room rows T keyed g n first N n first N
+pub going-first : {s : List ℕ} {room rows : ℕ} {T : List ℕ} {keyed : Bool} {g : Walk} {good n first : ℕ} {N : List ℕ} → Prepared s room rows T good first N → Going s room rows T keyed g n first N n first N
 unfolding turn-first
-going-first {s} {room} {rows} {T} {keyed} {g} {n} {first} p =
+going-first {s} {room} {rows} {T} {keyed} {g} {n = n} {first = first} p =
     record {
       turn = turn-first (entry (rowAt room T) rows s keyed g) (kept (rowAt room T) rows s keyed) n first;
       keeps = keeps-none (p .noted) (λ k l. refl) first (omega arith);
@@ -143,10 +143,10 @@ module _ {s : List ℕ} {room rows : ℕ} {T : List ℕ} {g : Walk} {n first : �
   pub going-on : {keyed : Bool} → Going s room rows T keyed g n first N₀ left here N → first ≤ here
   going-on i = i .on
 
-  pub going-ready : {keyed : Bool} → Going s room rows T keyed g n first N₀ left here N → Prepared s room rows T first N₀ → length N ≡ length N₀ → Prepared s room rows T here N
-  going-ready i p e = record { below = omega (arith, p .below, i .on); ready = p .ready; entries = rw e (p .entries); noted = i .keeps .noted }
+  pub going-ready : {keyed : Bool} {good : ℕ} → Going s room rows T keyed g n first N₀ left here N → Prepared s room rows T good first N₀ → length N ≡ length N₀ → Prepared s room rows T good here N
+  going-ready i p e = record { below = omega (arith, p .below, i .on); ready = p .ready; checked = p .checked; entries = rw e (p .entries); noted = i .keeps .noted }
 
-  pub going-done : {keyed : Bool} → Going s room rows T keyed g n first N₀ left here N → Prepared s room rows T first N₀ → left ≤ 0 → Done (entries (rowAt room T) rows s keyed g n first) (named s room T) N₀ N first here
+  pub going-done : {keyed : Bool} {good : ℕ} → Going s room rows T keyed g n first N₀ left here N → Prepared s room rows T good first N₀ → left ≤ 0 → Done (entries (rowAt room T) rows s keyed g n first) (named s room T) N₀ N first here
   unfolding entries
   going-done i p h =
       let e : extentOf here ≡ Until here = some-found (λ z. omega (arith, p .below, i .on)) in
@@ -244,12 +244,12 @@ holds-told k o t = sym o ∙ t
 
 -- a turn, by the item's row
 module _ {s : List ℕ} {room rows : ℕ} {T : List ℕ} {keyed : Bool} (deep : ℕ) {n first : ℕ} {N₀ : List ℕ} {left here : ℕ} {N N₁ : List ℕ} {at : ℕ} (i : Going s room rows T keyed (value (rowAt room T) rows s deep) n first N₀ left here N) (h : 0 < left) (k : KeyIf s room rows T keyed first here N N₁ at) where
-  pub key-fails : {N′ : List ℕ} → Prepared s room rows T first N₀ → at ≡ 0 → Done (entries (rowAt room T) rows s keyed (value (rowAt room T) rows s deep) n first) (named s room T) N₀ N′ first 0
+  pub key-fails : {N′ : List ℕ} {good : ℕ} → Prepared s room rows T good first N₀ → at ≡ 0 → Done (entries (rowAt room T) rows s keyed (value (rowAt room T) rows s deep) n first) (named s room T) N₀ N′ first 0
   key-fails p z = key-stops i h (omega (arith, p .below, i .on)) k z
 
   module _ (z : at ≡ 0 → ⊥) where
-    pub item-ready : Prepared s room rows T first N₀ → length N₁ ≡ length N → length N ≡ length N₀ → Prepared s room rows T at N₁
-    item-ready p e f = record { below = positive z; ready = p .ready; entries = rw (e ∙ f) (p .entries); noted = key-noted k z (i .keeps .noted) }
+    pub item-ready : {good : ℕ} → Prepared s room rows T good first N₀ → length N₁ ≡ length N → length N ≡ length N₀ → Prepared s room rows T good at N₁
+    item-ready p e f = record { below = positive z; ready = p .ready; checked = p .checked; entries = rw (e ∙ f) (p .entries); noted = key-noted k z (i .keeps .noted) }
       where
         positive : {m : ℕ} → (m ≡ 0 → ⊥) → 0 < m
         positive h = omega (arith, h)
@@ -263,7 +263,7 @@ module _ {s : List ℕ} {room rows : ℕ} {T : List ℕ} {keyed : Bool} (deep : 
         pub contents-stop : {N′ : List ℕ} → next ≡ 0 → Done (entries (rowAt room T) rows s keyed (value (rowAt room T) rows s deep) n first) (named s room T) N₀ N′ first 0
         contents-stop y = value-stops i h k z (sym (none-found y) ∙ value-is (rowAt room T) rows s deep at l f (d .says))
 
-        pub contents-again : Prepared s room rows T first N₀ → (next ≡ 0 → ⊥) → Going s room rows T keyed (value (rowAt room T) rows s deep) n first N₀ (left - 1) next N₂
+        pub contents-again : {good : ℕ} → Prepared s room rows T good first N₀ → (next ≡ 0 → ⊥) → Going s room rows T keyed (value (rowAt room T) rows s deep) n first N₀ (left - 1) next N₂
         contents-again p y = goes-on i h (p .below) k z (value-is (rowAt room T) rows s deep at l f (d .says)) y (d .walked)
 
       -- a Value that holds no others
@@ -271,7 +271,7 @@ module _ {s : List ℕ} {room rows : ℕ} {T : List ℕ} {keyed : Bool} (deep : 
         pub scalar-stop : {N′ : List ℕ} → next ≡ 0 → Done (entries (rowAt room T) rows s keyed (value (rowAt room T) rows s deep) n first) (named s room T) N₀ N′ first 0
         scalar-stop y = value-stops i h k z (sym (none-found y) ∙ value-scalar (rowAt room T) rows s deep at l f (sym o ∙ t) e)
 
-        pub scalar-again : Prepared s room rows T first N₀ → (next ≡ 0 → ⊥) → Going s room rows T keyed (value (rowAt room T) rows s deep) n first N₀ (left - 1) next N₁
+        pub scalar-again : {good : ℕ} → Prepared s room rows T good first N₀ → (next ≡ 0 → ⊥) → Going s room rows T keyed (value (rowAt room T) rows s deep) n first N₀ (left - 1) next N₁
         scalar-again p y = goes-on i h (p .below) k z (value-scalar (rowAt room T) rows s deep at l f (sym o ∙ t) e) y (scalar-walked (key-noted k z (i .keeps .noted)) (rowAt room T) rows s (itemOf (x .kind)) x e)
 
 -- one item without a key

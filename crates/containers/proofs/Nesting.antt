@@ -10,6 +10,7 @@ use borrow.Author.Tests.{lt-ltb, le-ltb, eq-eqb, ne-eqb, eqb-true, eqb-false}
 use Rattle.draft.specs.declared.Refusal.{Refusal}
 use Rattle.draft.specs.declared.Verdict.{Verdict}
 use Rattle.draft.specs.declared.Verdict.the-variants.{Fine, Bad}
+use Rattle.draft.specs.declared.Content.{Content as ContentOf}
 use Rattle.draft.specs.declared.Content.the-variants.{Double, DateTime, Binary, Text}
 use Rattle.draft.specs.declared.Item.{Item}
 use Rattle.draft.specs.declared.Item.the-variants.{
@@ -33,7 +34,8 @@ use Rattle.draft.specs.Bytes.{part}
 use Rattle.draft.specs.Read.{textOf}
 use Rattle.draft.specs.Writable.{Walk, Nest, floor, under, over, contentItem, string, stringBy, name, pair, arrayItem, structItem, item, value, nested}
 use Rattle.extents.specs.Ends.{extentOf}
-use Rattle.extents.proofs.Walking.{walking, none-found, some-found, only-there}
+use Rattle.extents.specs.Asked.{Checked, Known}
+use Rattle.extents.proofs.Walking.{walking, none-found, some-found, only-there, known-kind}
 use Rattle.containers.specs.Items.{holdsItems, entries}
 
 pub pair-no : (f g : Walk) (r : ℕ) {o : Extent} → o ≡ f r → o ≡ Unfit → Unfit ≡ pair f g r
@@ -107,6 +109,38 @@ array-kind k h n = eqb-true k 9 (go (eqb k 9) (rw n at h))
     go true e = refl
     go false e = e
 
+-- the kind of a String, if that is the item
+abbrev TextKind : ℕ → Item → Type 0
+TextKind k Call = Unit {0}
+TextKind k Response = Unit {0}
+TextKind k Fault = Unit {0}
+TextKind k Integer = Unit {0}
+TextKind k Boolean = Unit {0}
+TextKind k (Content Double) = Unit {0}
+TextKind k (Content DateTime) = Unit {0}
+TextKind k (Content Binary) = Unit {0}
+TextKind k (Content Text) = k ≡ 11
+TextKind k Array = Unit {0}
+TextKind k Struct = Unit {0}
+TextKind k Other = Unit {0}
+TextKind k Unknown = Unit {0}
+
+text-kind : (k : ℕ) → TextKind k (itemOf k)
+unfolding itemOf
+text-kind k =
+    chosen (eqb k 1) Call _ tt (chosen (eqb k 2) Response _ tt (chosen (eqb k 3) Fault _ tt (chosen (eqb k 4) Integer _ tt (chosen (eqb k 5) Boolean _ tt (chosen (eqb k 6) (Content Double) _ tt (chosen (eqb k 7) (Content DateTime) _ tt (chosen (eqb k 8) (Content Binary) _ tt (chosen (eqb k 9) Array _ tt (chosen (eqb k 10) Struct _ tt (text (eqb k 11) refl _ (chosen (eqb k 12) Other Unknown tt tt)))))))))))
+  where
+    chosen : (x : Bool) (i j : Item) → TextKind k i → TextKind k j → TextKind k (pickItem x i j)
+    chosen true i j f g = f
+    chosen false i j f g = g
+
+    text : (x : Bool) → eqb k 11 ≡ x → (j : Item) → TextKind k j → TextKind k (pickItem x (Content Text) j)
+    text true e j g = eqb-true k 11 e
+    text false e j g = g
+
+string-kind : {k : ℕ} → itemOf k ≡ Content Text → k ≡ 11
+string-kind {k} e = rw e at (text-kind k)
+
 -- the rows of a table, and the text bytes
 module _ (row : ℕ → Row) (rows : ℕ) (s : List ℕ) where
   -- an Other's name
@@ -132,6 +166,10 @@ module _ (row : ℕ → Row) (rows : ℕ) (s : List ℕ) where
   -- a Value that holds no others, by its item
   pub scalar-is : (k r : ℕ) (x : Row) {i j : Item} {e : Extent} → i ≡ itemOf k → i ≡ j → e ≡ item row rows s j floor x r → e ≡ item row rows s (itemOf k) floor x r
   scalar-is k r x g h l = l ∙ rw (← g, h)
+
+  -- what is known of its content
+  pub scalar-known : (r : ℕ) {x : Row} {i : Item} {c : ContentOf} {good : ℕ} → Checked row s good → x ≡ row r → i ≡ itemOf (x .kind) → i ≡ Content c → Known s c x r good
+  scalar-known r {x} h e f g = known-kind row h e (λ t. string-kind (sym f ∙ g ∙ rw t))
 
   any-nest : (i : Item) → Flat i → (n m : Nest) (x : Row) (r : ℕ) → item row rows s i n x r ≡ item row rows s i m x r
   any-nest Call f n m x r = refl
@@ -186,4 +224,4 @@ module _ (row : ℕ → Row) (rows : ℕ) (s : List ℕ) where
   pub struct-here : (k : ℕ) (nest : Nest) (x : Row) (r : ℕ) {e : Extent} → k ≡ 10 → e ≡ item row rows s (itemOf k) nest x r → e ≡ structItem row rows s nest x r
   struct-here k nest x r h i = rw (item-struct h) at i
 
-pub ruleset nesting = (walking, pair-no, pair-on, row-text-is, holds-array, holds-struct, array-holds, struct-holds, string-there, name-no, name-bad, name-fine, scalar-is)
+pub ruleset nesting = (walking, pair-no, pair-on, row-text-is, holds-array, holds-struct, array-holds, struct-holds, string-there, name-no, name-bad, name-fine, scalar-is, scalar-known)

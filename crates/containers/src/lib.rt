@@ -14,7 +14,7 @@ ghost use Rattle.draft.specs.Rows.{itemOf};
 ghost use Rattle.draft.specs.Table.{rowAt};
 ghost use Rattle.draft.specs.Read.{textOf};
 ghost use Rattle.draft.specs.Writable.{contentItem, only, name, otherItem, item, value, nested, floor, pair, arrayItem, structItem};
-ghost use Rattle.extents.specs.Asked.{Ready};
+ghost use Rattle.extents.specs.Asked.{Ready, Walkable};
 ghost use Rattle.extents.specs.Ends.{extentOf};
 ghost use Rattle.keys.specs.Notes.{named};
 ghost use Rattle.key_rows.specs.Contract.{Prepared, Done};
@@ -30,11 +30,11 @@ fn row_text<'a>(table: &[u32], room: usize, rows: usize, text: &'a [u8], r: usiz
 }
 
 // An Other's name.
-fn walk_name(table: &[u32], room: usize, rows: usize, text: &[u8], r: usize) -> usize
-    requires { ⌜ Ready rows room (length (now table)) ⌝ }
+fn walk_name(table: &[u32], room: usize, rows: usize, text: &[u8], good: usize, r: usize) -> usize
+    requires { ⌜ Walkable (now text) room rows (now table) good ⌝ }
     ensures { λ e. ⌜ extentOf e ≡ name (rowAt room (now (table .entry))) rows (now (text .entry)) r ⌝ }
 {
-    let next = extents::walk_string(table, room, rows, text, r);
+    let next = extents::walk_string(table, room, rows, text, good, r);
     if next == 0 {
         return 0;
     }
@@ -46,36 +46,59 @@ fn walk_name(table: &[u32], room: usize, rows: usize, text: &[u8], r: usize) -> 
 }
 
 // An Other's name and its Binary.
-fn walk_name_and_binary(table: &[u32], room: usize, rows: usize, text: &[u8], r: usize) -> usize
-    requires { ⌜ Ready rows room (length (now table)) ⌝ }
+fn walk_name_and_binary(
+    table: &[u32],
+    room: usize,
+    rows: usize,
+    text: &[u8],
+    good: usize,
+    r: usize,
+) -> usize
+    requires { ⌜ Walkable (now text) room rows (now table) good ⌝ }
     ensures { λ e. ⌜ extentOf e ≡ pair (name (rowAt room (now (table .entry))) rows (now (text .entry))) (only (rowAt room (now (table .entry))) rows (now (text .entry)) 8 (contentItem (now (text .entry)) Content.Binary)) r ⌝ }
 {
-    let next = walk_name(table, room, rows, text, r);
+    let next = walk_name(table, room, rows, text, good, r);
     if next == 0 {
         return 0;
     }
-    extents::walk_only(table, room, rows, text, Content::Binary, next)
+    extents::walk_only(table, room, rows, text, good, Content::Binary, next)
 }
 
-fn walk_other(table: &[u32], room: usize, rows: usize, text: &[u8], row: Row, r: usize) -> usize
-    requires { ⌜ Ready rows room (length (now table)) × (r < 4096) ⌝ }
+fn walk_other(
+    table: &[u32],
+    room: usize,
+    rows: usize,
+    text: &[u8],
+    good: usize,
+    row: Row,
+    r: usize,
+) -> usize
+    requires { ⌜ Walkable (now text) room rows (now table) good × (r < 4096) ⌝ }
     ensures { λ e. ⌜ extentOf e ≡ otherItem (rowAt room (now (table .entry))) rows (now (text .entry)) row r ⌝ }
 {
-    let next = walk_name_and_binary(table, room, rows, text, r + 1);
+    let next = walk_name_and_binary(table, room, rows, text, good, r + 1);
     extents::close_holding(2, row, next)
 }
 
 // A Value that holds no others.
-fn walk_scalar(table: &[u32], room: usize, rows: usize, text: &[u8], row: Row, r: usize) -> usize
-    requires { ⌜ Ready rows room (length (now table)) × (r < 4096) ⌝ }
+fn walk_scalar(
+    table: &[u32],
+    room: usize,
+    rows: usize,
+    text: &[u8],
+    good: usize,
+    row: Row,
+    r: usize,
+) -> usize
+    requires { ⌜ Walkable (now text) room rows (now table) good × (r < 4096) × (row ≡ rowAt room (now table) r) ⌝ }
     ensures { λ e. ⌜ extentOf e ≡ item (rowAt room (now (table .entry))) rows (now (text .entry)) (itemOf (row .kind)) floor row r ⌝ }
 {
     let item = draft::item_of(row.kind);
     match item {
         Item::Integer => extents::walk_integer(row, r),
         Item::Boolean => extents::walk_boolean(row, r),
-        Item::Content(content) => extents::walk_content(text, content, row, r),
-        Item::Other => walk_other(table, room, rows, text, row, r),
+        Item::Content(content) => extents::walk_content(text, content, row, r, good),
+        Item::Other => walk_other(table, room, rows, text, good, row, r),
         Item::Array => 0,
         Item::Struct => 0,
         Item::Call => 0,
@@ -101,12 +124,13 @@ fn walk_contents(
     room: usize,
     rows: usize,
     text: &[u8],
+    good: usize,
     deep: usize,
     row: Row,
     r: usize,
     notes: &mut [u16],
 ) -> usize
-    requires { ⌜ (holdsItemsBy (row .kind) ≡ true) × (r < 4096) × Prepared (now text) room rows (now table) r (now notes) ⌝ }
+    requires { ⌜ (holdsItemsBy (row .kind) ≡ true) × (r < 4096) × Prepared (now text) room rows (now table) good r (now notes) ⌝ }
     ensures { λ e. ⌜ Done (item (rowAt room (now (table .entry))) rows (now (text .entry)) (itemOf (row .kind)) (nested (rowAt room (now (table .entry))) rows (now (text .entry)) deep) row r) (named (now (text .entry)) room (now (table .entry))) (now (notes .entry)) (now (notes .exit)) r e ⌝ }
 {
     if deep == 0 {
@@ -114,7 +138,18 @@ fn walk_contents(
     }
     let keyed = row.kind == 10;
     let n = row.b as usize;
-    let next = walk_items(table, room, rows, text, deep - 1, n, keyed, r + 1, notes);
+    let next = walk_items(
+        table,
+        room,
+        rows,
+        text,
+        good,
+        deep - 1,
+        n,
+        keyed,
+        r + 1,
+        notes,
+    );
     extents::close_over(row, next)
 }
 
@@ -124,19 +159,20 @@ fn walk_items(
     room: usize,
     rows: usize,
     text: &[u8],
+    good: usize,
     deep: usize,
     n: usize,
     keyed: bool,
     first: usize,
     notes: &mut [u16],
 ) -> usize
-    requires { ⌜ Prepared (now text) room rows (now table) first (now notes) ⌝ }
+    requires { ⌜ Prepared (now text) room rows (now table) good first (now notes) ⌝ }
     ensures { λ e. ⌜ Done (entries (rowAt room (now (table .entry))) rows (now (text .entry)) keyed (value (rowAt room (now (table .entry))) rows (now (text .entry)) deep) n first) (named (now (text .entry)) room (now (table .entry))) (now (notes .entry)) (now (notes .exit)) first e ⌝ }
 {
     let mut left = n;
     let mut here = first;
     while 0 < left {
-        let at = key_rows::walk_key_if(keyed, table, room, rows, text, here, notes, first);
+        let at = key_rows::walk_key_if(keyed, table, room, rows, text, good, here, notes, first);
         if at == 0 {
             return 0;
         }
@@ -145,14 +181,14 @@ fn walk_items(
         }
         let row = table::get_row(table, room, at);
         if holds_items(row.kind) {
-            let next = walk_contents(table, room, rows, text, deep, row, at, notes);
+            let next = walk_contents(table, room, rows, text, good, deep, row, at, notes);
             if next == 0 {
                 return 0;
             }
             here = next;
             left -= 1;
         } else {
-            let next = walk_scalar(table, room, rows, text, row, at);
+            let next = walk_scalar(table, room, rows, text, good, row, at);
             if next == 0 {
                 return 0;
             }
@@ -169,14 +205,15 @@ pub fn walk_value(
     room: usize,
     rows: usize,
     text: &[u8],
+    good: usize,
     deep: usize,
     r: usize,
     notes: &mut [u16],
 ) -> usize
-    requires { ⌜ Prepared (now text) room rows (now table) r (now notes) ⌝ }
+    requires { ⌜ Prepared (now text) room rows (now table) good r (now notes) ⌝ }
     ensures { λ e. ⌜ extentOf e ≡ value (rowAt room (now (table .entry))) rows (now (text .entry)) deep r ⌝ }
 {
-    walk_items(table, room, rows, text, deep, 1, false, r, notes)
+    walk_items(table, room, rows, text, good, deep, 1, false, r, notes)
 }
 
 // An Array, where nothing else is allowed.
@@ -185,11 +222,12 @@ pub fn walk_array(
     room: usize,
     rows: usize,
     text: &[u8],
+    good: usize,
     deep: usize,
     r: usize,
     notes: &mut [u16],
 ) -> usize
-    requires { ⌜ Prepared (now text) room rows (now table) r (now notes) ⌝ }
+    requires { ⌜ Prepared (now text) room rows (now table) good r (now notes) ⌝ }
     ensures { λ e. ⌜ extentOf e ≡ only (rowAt room (now (table .entry))) rows (now (text .entry)) 9 (arrayItem (nested (rowAt room (now (table .entry))) rows (now (text .entry)) deep)) r ⌝ }
 {
     if rows <= r {
@@ -197,7 +235,7 @@ pub fn walk_array(
     }
     let row = table::get_row(table, room, r);
     if row.kind == 9 {
-        walk_contents(table, room, rows, text, deep, row, r, notes)
+        walk_contents(table, room, rows, text, good, deep, row, r, notes)
     } else {
         0
     }
@@ -209,11 +247,12 @@ pub fn walk_struct(
     room: usize,
     rows: usize,
     text: &[u8],
+    good: usize,
     deep: usize,
     r: usize,
     notes: &mut [u16],
 ) -> usize
-    requires { ⌜ Prepared (now text) room rows (now table) r (now notes) ⌝ }
+    requires { ⌜ Prepared (now text) room rows (now table) good r (now notes) ⌝ }
     ensures { λ e. ⌜ extentOf e ≡ only (rowAt room (now (table .entry))) rows (now (text .entry)) 10 (structItem (rowAt room (now (table .entry))) rows (now (text .entry)) (nested (rowAt room (now (table .entry))) rows (now (text .entry)) deep)) r ⌝ }
 {
     if rows <= r {
@@ -221,7 +260,7 @@ pub fn walk_struct(
     }
     let row = table::get_row(table, room, r);
     if row.kind == 10 {
-        walk_contents(table, room, rows, text, deep, row, r, notes)
+        walk_contents(table, room, rows, text, good, deep, row, r, notes)
     } else {
         0
     }

@@ -7,5 +7,6 @@ pub mod Pieces
 pub mod Plans
 pub mod Reading
 pub mod Settled
+pub mod Stations
 pub mod Writer
 pub mod Writing

@@ -1,11 +1,11 @@
 -- What answers each return of the functions that walk items that hold no others, by tests of their rows. Assumes nothing.
 use mathlib.Core.Path.{_≡_, refl, sym, _∙_}
-use mathlib.Core.Bool.{Bool, true, false}
+use mathlib.Core.Bool.{Bool, true, false, _&&_}
 use mathlib.Core.List.{List}
 use Prim.Native.Nat.{ℕ, zero, suc, _+_, _≤_, _<_}
 use native.Mathlib.Omega.{arith}
 use lib.Dec.{ltb, leb, eqb}
-use borrow.Author.Tests.{lt-ltb, le-ltb, le-leb, lt-leb, eq-eqb, ne-eqb, ltb-true}
+use borrow.Author.Tests.{lt-ltb, le-ltb, le-leb, lt-leb, eq-eqb, ne-eqb, ltb-true, leb-true}
 use Rattle.draft.specs.declared.Refusal.{Refusal}
 use Rattle.draft.specs.declared.Verdict.{Verdict}
 use Rattle.draft.specs.declared.Verdict.the-variants.{Fine, Bad}
@@ -14,9 +14,11 @@ use Rattle.draft.specs.declared.Content.the-variants.{Double, DateTime, Binary,
 use Rattle.draft.specs.declared.Extent.{Extent}
 use Rattle.draft.specs.declared.Extent.the-variants.{Until, Unfit}
 use Rattle.draft.specs.declared.Row.{Row}
+use Rattle.text.proofs.Comparing.{both, clash}
+use Rattle.draft.specs.Rows.{kindOf}
 use Rattle.draft.specs.Content.{verdict}
 use Rattle.draft.specs.Writable.{fit, Walk, closed, leaf, holding, sized, contentItem, only, string, item}
-use Rattle.extents.specs.Asked.{Ready}
+use Rattle.extents.specs.Asked.{Ready, Checked, Walkable, isText, checkedBefore, Known}
 use Rattle.extents.specs.Ends.{extentOf}
 
 -- a test that was made
@@ -89,6 +91,54 @@ module _ (s : List ℕ) (c : ContentOf) (x : Row) (r : ℕ) {b : Bool} (h : b �
     unfolding contentItem
     content-fine k l = l ∙ rw (← h, i, ← j, k)
 
+-- content that was checked before
+module _ (c : ContentOf) (n r good : ℕ) where
+  pub checked-past : good ≤ r → false ≡ checkedBefore c n r good
+  unfolding checkedBefore
+  checked-past h = rw (le-ltb r good h)
+
+  module _ (h : r < good) where
+    pub checked-short : n < 512 → false ≡ checkedBefore c n r good
+    unfolding checkedBefore
+    checked-short l = rw (lt-ltb r good h, lt-leb 512 n l)
+
+    pub checked-is : {d : ContentOf} {b : Bool} → 512 ≤ n → c ≡ d → b ≡ isText d → b ≡ checkedBefore c n r good
+    unfolding checkedBefore
+    checked-is l e f = f ∙ rw (lt-ltb r good h, le-leb 512 n l, e)
+
+-- such content is a String's, long, and stands before row `good`
+record Before (c : ContentOf) (n r good : ℕ) : Type 0 where
+  text : c ≡ Text
+  long : 512 ≤ n
+  row : r < good
+
+is-text : (c : ContentOf) → isText c ≡ true → c ≡ Text
+is-text Double e = clash e refl
+is-text DateTime e = clash e refl
+is-text Binary e = clash e refl
+is-text Text e = refl
+
+before : {c : ContentOf} {n r good : ℕ} → checkedBefore c n r good ≡ true → Before c n r good
+unfolding checkedBefore
+before {c} {n} {r} {good} e =
+    let p = both (ltb r good) (leb 512 n && isText c) e in
+    let q = both (leb 512 n) (isText c) (p .1) in
+    record { text = is-text c (q .1); long = leb-true 512 n (q .0); row = ltb-true r good (p .0) }
+
+pub content-known : (s : List ℕ) (c : ContentOf) (x : Row) (r : ℕ) {good : ℕ} {b : Bool} {e : Extent} → Known s c x r good → b ≡ checkedBefore c (x .b) r good → b ≡ true → e ≡ leaf x r → e ≡ contentItem s c x r
+unfolding contentItem
+content-known s c x r k h i l =
+    let t = sym h ∙ i in
+    let f : sized c (x .b) ≡ true = rw (before t .text) in
+    l ∙ rw (f, k .fine t)
+
+-- what is known of a row's content, by its kind
+pub known-kind : (row : ℕ → Row) {s : List ℕ} {c : ContentOf} {x : Row} {r good : ℕ} → Checked row s good → x ≡ row r → (c ≡ Text → x .kind ≡ kindOf Text) → Known s c x r good
+known-kind row {s} {c} {x} {r} h e k = record { fine = λ t. let b = before t in rw (b .text, e) (h .fine r (b .row) (rw e at (k (b .text))) (rw e at (b .long))) }
+
+pub known-only : (row : ℕ → Row) {s : List ℕ} {c : ContentOf} {x : Row} {r good k : ℕ} → Checked row s good → x ≡ row r → k ≡ kindOf c → x .kind ≡ k → Known s c x r good
+known-only row h e f g = known-kind row h e (λ t. g ∙ f ∙ rw t)
+
 -- the rows of a table, and the text bytes
 module _ (row : ℕ → Row) (rows : ℕ) (s : List ℕ) where
   -- a row of one kind, where nothing else is allowed
@@ -131,4 +181,4 @@ row-few h l = omega (arith, h .stated, h .most)
 pub row-room : {r rows room words : ℕ} → Ready rows room words → r < rows → r < room
 row-room h l = omega (arith, h .stated)
 
-pub ruleset walking = (fit-eq, fit-ne, fit-le, fit-gt, none-found, some-found, closed-there, closed-else, leaf-is, holding-on, sized-double, sized-date, sized-binary, sized-text, content-large, content-bad, content-fine, only-past, only-not, only-else, only-here, only-there, string-is, row-few, row-room)
+pub ruleset walking = (fit-eq, fit-ne, fit-le, fit-gt, none-found, some-found, closed-there, closed-else, leaf-is, holding-on, sized-double, sized-date, sized-binary, sized-text, content-large, content-bad, content-fine, checked-past, checked-short, checked-is, content-known, known-only, only-past, only-not, only-else, only-here, only-there, string-is, row-few, row-room)

@@ -1,17 +1,19 @@
 // The rows of items that hold no others: what each row must say, and that it ends where the next row begins. Here is also what a
 // row that holds others must say, once they are walked. A walk answers with the row behind what it walked, or 0 where that does not fit:
-// a number stays in a register where an enum would lie in memory.
+// a number stays in a register where an enum would lie in memory. Long Strings in rows before row `good` were checked before.
 use draft::Content;
 use draft::Row;
 use draft::Verdict;
 ghost use mathlib.Core.Path.{_≡_};
 ghost use Prim.Native.Nat.{_+_, _<_};
-ghost use lib.ListN.{length};
 ghost use Rattle.draft.specs.Rows.{kindOf};
 ghost use Rattle.draft.specs.Table.{rowAt};
 ghost use Rattle.draft.specs.Writable.{closed, leaf, over, holding, integerItem, booleanItem, sized as sizedBy, contentItem, only, string};
-ghost use Rattle.extents.specs.Asked.{Ready};
+ghost use Rattle.extents.specs.Asked.{Walkable, Known, checkedBefore};
 ghost use Rattle.extents.specs.Ends.{extentOf};
+
+// A String of at least so many bytes is long: it may have been checked before.
+pub const LONG: u32 = 512;
 
 // What an item's row says of where it ends, against where what it holds does.
 fn close(row: Row, next: usize) -> usize
@@ -67,11 +69,32 @@ fn sized(content: Content, n: u32) -> bool
     }
 }
 
+// Whether content of n bytes in row r was checked before: a String of 512 bytes or more in a row before row `good`.
+fn is_checked(content: Content, n: u32, r: usize, good: usize) -> bool
+    ensures { λ b. ⌜ b ≡ checkedBefore content n r good ⌝ }
+{
+    if good <= r {
+        return false;
+    }
+    if n < LONG {
+        return false;
+    }
+    match content {
+        Content::Double => false,
+        Content::DateTime => false,
+        Content::Binary => false,
+        Content::Text => true,
+    }
+}
+
 // Content that lies inside the text bytes and keeps its rule.
-pub fn walk_content(text: &[u8], content: Content, row: Row, r: usize) -> usize
-    requires { ⌜ r < 4096 ⌝ }
+pub fn walk_content(text: &[u8], content: Content, row: Row, r: usize, good: usize) -> usize
+    requires { ⌜ (r < 4096) × Known (now text) content row r good ⌝ }
     ensures { λ e. ⌜ extentOf e ≡ contentItem (now (text .entry)) content row r ⌝ }
 {
+    if is_checked(content, row.b, r, good) {
+        return walk_leaf(row, r);
+    }
     if sized(content, row.b) {
         let verdict = content::inspect(content, text, row.a as usize, row.b as usize);
         match verdict {
@@ -89,10 +112,11 @@ pub fn walk_only(
     room: usize,
     rows: usize,
     text: &[u8],
+    good: usize,
     content: Content,
     r: usize,
 ) -> usize
-    requires { ⌜ Ready rows room (length (now table)) ⌝ }
+    requires { ⌜ Walkable (now text) room rows (now table) good ⌝ }
     ensures { λ e. ⌜ extentOf e ≡ only (rowAt room (now (table .entry))) rows (now (text .entry)) (kindOf content) (contentItem (now (text .entry)) content) r ⌝ }
 {
     if rows <= r {
@@ -100,15 +124,22 @@ pub fn walk_only(
     }
     let row = table::get_row(table, room, r);
     if row.kind == draft::kind(content) {
-        walk_content(text, content, row, r)
+        walk_content(text, content, row, r, good)
     } else {
         0
     }
 }
 
-pub fn walk_string(table: &[u32], room: usize, rows: usize, text: &[u8], r: usize) -> usize
-    requires { ⌜ Ready rows room (length (now table)) ⌝ }
+pub fn walk_string(
+    table: &[u32],
+    room: usize,
+    rows: usize,
+    text: &[u8],
+    good: usize,
+    r: usize,
+) -> usize
+    requires { ⌜ Walkable (now text) room rows (now table) good ⌝ }
     ensures { λ e. ⌜ extentOf e ≡ string (rowAt room (now (table .entry))) rows (now (text .entry)) r ⌝ }
 {
-    walk_only(table, room, rows, text, Content::Text, r)
+    walk_only(table, room, rows, text, good, Content::Text, r)
 }

@@ -74,7 +74,7 @@ pub joined-none : {t : ℕ → Text} {N N′ : List ℕ} {owner first : ℕ} →
 joined-none = record { joins = λ next e. absurd (no-end e) }
 
 -- a key's row, walked as a String
-module _ (s : List ℕ) {room rows : ℕ} (T : List ℕ) {r : ℕ} {N : List ℕ} (p : Prepared s room rows T r N) {n : ℕ} (h : extentOf n ≡ string (rowAt room T) rows s r) where
+module _ (s : List ℕ) {room rows : ℕ} (T : List ℕ) {good r : ℕ} {N : List ℕ} (p : Prepared s room rows T good r N) {n : ℕ} (h : extentOf n ≡ string (rowAt room T) rows s r) where
   pub key-no : {owner : ℕ} {N′ : List ℕ} → n ≡ 0 → KeyDone s room rows T owner r N N′ 0
   key-no {owner} i = record { says = by-no (rowAt room T) rows s (keyRule (keysOf (named s room T) N owner r)) r h (none-found i); joined = joined-none }
 

@@ -10,7 +10,7 @@ use Rattle.draft.specs.Table.{rowAt}
 use Rattle.draft.specs.Writable.{stringBy}
 use Rattle.draft.specs.declared.Extent.{Extent}
 use Rattle.draft.specs.declared.Extent.the-variants.{Until}
-use Rattle.extents.specs.Asked.{Ready}
+use Rattle.extents.specs.Asked.{Ready, Checked}
 use Rattle.extents.specs.Ends.{extentOf}
 use Rattle.keys.specs.Notes.{named, keysOf, Noted, Keeps, Joins}
 
@@ -20,9 +20,10 @@ pub record Entries (rows words : ℕ) : Type 0 where
   pub most : words ≤ 12288
 
 -- what walking from row r on asks, below the first row
-pub record Prepared (s : List ℕ) (room rows : ℕ) (T : List ℕ) (r : ℕ) (N : List ℕ) : Type 0 where
+pub record Prepared (s : List ℕ) (room rows : ℕ) (T : List ℕ) (good r : ℕ) (N : List ℕ) : Type 0 where
   pub below : 0 < r
   pub ready : Ready rows room (length T)
+  pub checked : Checked (rowAt room T) s good
   pub entries : Entries rows (length N)
   pub noted : Noted (named s room T) N r
 

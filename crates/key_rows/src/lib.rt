@@ -11,14 +11,15 @@ fn walk_key(
     room: usize,
     rows: usize,
     text: &[u8],
+    good: usize,
     r: usize,
     notes: &mut [u16],
     owner: usize,
 ) -> usize
-    requires { ⌜ (0 < owner) × (owner ≤ r) × Prepared (now text) room rows (now table) r (now notes) ⌝ }
+    requires { ⌜ (0 < owner) × (owner ≤ r) × Prepared (now text) room rows (now table) good r (now notes) ⌝ }
     ensures { λ e. ⌜ KeyDone (now (text .entry)) room rows (now (table .entry)) owner r (now (notes .entry)) (now (notes .exit)) e ⌝ }
 {
-    let next = extents::walk_string(table, room, rows, text, r);
+    let next = extents::walk_string(table, room, rows, text, good, r);
     if next == 0 {
         return 0;
     }
@@ -36,15 +37,16 @@ pub fn walk_key_if(
     room: usize,
     rows: usize,
     text: &[u8],
+    good: usize,
     r: usize,
     notes: &mut [u16],
     owner: usize,
 ) -> usize
-    requires { ⌜ (keyed ≡ true → 0 < owner) × (owner ≤ r) × Prepared (now text) room rows (now table) r (now notes) ⌝ }
+    requires { ⌜ (keyed ≡ true → 0 < owner) × (owner ≤ r) × Prepared (now text) room rows (now table) good r (now notes) ⌝ }
     ensures { λ e. ⌜ KeyIf (now (text .entry)) room rows (now (table .entry)) keyed owner r (now (notes .entry)) (now (notes .exit)) e ⌝ }
 {
     if keyed {
-        walk_key(table, room, rows, text, r, notes, owner)
+        walk_key(table, room, rows, text, good, r, notes, owner)
     } else {
         r
     }

@@ -4,6 +4,9 @@ use mathlib.Core.Bool.{Bool, false}
 use mathlib.Core.List.{List}
 use Prim.Native.Nat.{ℕ, zero, suc, _+_, _*_, _-_, _/_, _≤_, _<_}
 use native.Mathlib.Omega.{arith}
+use native.Mathlib.Nat.{mul-le-mul-right}
+use mir.Syntax.{w64}
+use mir.Val.{Fits}
 use lib.ListN.{length, replicate}
 use lib.Dec.{eqb}
 use borrow.Author.Tests.{lt-ltb, le-ltb, le-leb, lt-leb, ne-eqb}
@@ -19,7 +22,7 @@ use Rattle.draft.specs.Table.{roomOf, rowAt, from}
 use Rattle.draft.specs.Content.{faultRule}
 use Rattle.draft.specs.Read.{heldRows}
 use Rattle.draft.specs.Writable.{only, string, structItem, item, nested, faultStruct, first, callOrResponse, wholly, writableWithin, writable}
-use Rattle.extents.specs.Asked.{Ready}
+use Rattle.extents.specs.Asked.{Ready, Checked, Walkable}
 use Rattle.extents.specs.Ends.{extentOf}
 use Rattle.extents.proofs.Walking.{none-found, some-found, only-there}
 use Rattle.keys.proofs.Keeping.{noted-blank, noted-move}
@@ -66,14 +69,14 @@ pub end-in : {n rows room words : ℕ} → Ready rows room words → n ≤ rows 
 end-in h l = omega (arith, h .stated)
 
 -- the notes as they are laid out
-pub blank-prepared : {s : List ℕ} {room rows : ℕ} {T : List ℕ} (r : ℕ) {N : List ℕ} → Ready rows room (length T) → Entries rows (length N) → N ≡ replicate (length N) 0 → Prepared s room rows T (r + 1) N
-blank-prepared r a b e = record { below = omega arith; ready = a; entries = b; noted = noted-blank e }
+pub blank-prepared : {s : List ℕ} {room rows : ℕ} {T : List ℕ} {good : ℕ} (r : ℕ) {N : List ℕ} → Walkable s room rows T good → Entries rows (length N) → N ≡ replicate (length N) 0 → Prepared s room rows T good (r + 1) N
+blank-prepared r a b e = record { below = omega arith; ready = a .ready; checked = a .checked; entries = b; noted = noted-blank e }
 
 -- the rows behind the method
-pub behind-method : {s : List ℕ} {room rows : ℕ} {T : List ℕ} {r n : ℕ} {N : List ℕ} → Prepared s room rows T r N → (n ≡ 0 → ⊥) → extentOf n ≡ string (rowAt room T) rows s r → Prepared s room rows T n N
-behind-method {s} {room} {rows} {T} {r} {n} p z h =
+pub behind-method : {s : List ℕ} {room rows : ℕ} {T : List ℕ} {good r n : ℕ} {N : List ℕ} → Prepared s room rows T good r N → (n ≡ 0 → ⊥) → extentOf n ≡ string (rowAt room T) rows s r → Prepared s room rows T good n N
+behind-method {s} {room} {rows} {T} {r = r} {n = n} p z h =
     let e = string-end (rowAt room T) rows s r (sym h ∙ some-found z) in
-    record { below = omega arith; ready = p .ready; entries = p .entries; noted = noted-move (p .noted) (λ k l. refl) n (omega arith) }
+    record { below = omega arith; ready = p .ready; checked = p .checked; entries = p .entries; noted = noted-move (p .noted) (λ k l. refl) n (omega arith) }
 
 pub ruleset faults = (fault-no, fault-there, fault-past, fault-bad, fault-fine, end-in)
 
@@ -109,6 +112,15 @@ module _ (T : List ℕ) (rows : ℕ) (s : List ℕ) where
         unfolding writable writableWithin
         table-walked n k l m = wholly-is n (omega arith) ∙ rw (le-leb _ _ h, le-leb 1 rows i, le-leb rows 4096 j, le-leb (rows * 4) (length T) k, m, l)
 
+-- no row's Strings were checked before
+pub checked-none : {row : ℕ → Row} {s : List ℕ} → Checked row s 0
+checked-none = record { fine = λ r h. absurd (omega arith) }
+
+pub all-bytes : {rows room words : ℕ} (n : ℕ) → Ready rows room words → n ≤ 65536 → Fits w64 (rows * n)
+all-bytes {rows} n h l =
+    let m : rows * n ≤ 4096 * n = mul-le-mul-right n (omega (arith, h .stated, h .most)) in
+    omega arith
+
 room-holds : (rows words : ℕ) → rows * 4 ≤ words → rows ≤ words / 4
 room-holds rows words h = omega arith
 
@@ -119,4 +131,4 @@ ready-table words h i e = record { stated = omega (arith, e); most = omega (arit
 pub rows-few : {rows room words : ℕ} → Ready rows room words → rows ≤ 4096
 rows-few h = omega (arith, h .stated, h .most)
 
-pub ruleset whole = (rows-few, table-long, table-empty, table-many, table-short, table-walked, ready-table)
+pub ruleset whole = (rows-few, table-long, table-empty, table-many, table-short, table-walked, ready-table, checked-none, all-bytes)

@@ -6,7 +6,7 @@ ghost use Prim.Native.Nat.{_+_, _≤_, _<_};
 ghost use lib.ListN.{length, replicate};
 ghost use Rattle.draft.specs.Table.{rowAt};
 ghost use Rattle.draft.specs.Writable.{only, string, arrayItem, nested, pair, faultStruct, callOrResponse, writable as writableBy};
-ghost use Rattle.extents.specs.Asked.{Ready};
+ghost use Rattle.extents.specs.Asked.{Ready, Checked, Walkable};
 ghost use Rattle.extents.specs.Ends.{extentOf};
 ghost use Rattle.key_rows.specs.Contract.{Entries, Prepared};
 
@@ -16,20 +16,24 @@ pub const MOST_BYTES: usize = 65536;
 // How many Arrays and Structs may stand in one another.
 pub const MOST_NESTING: usize = 32;
 
+// Strings of fewer bytes altogether are checked one by one, as the rows are walked.
+const MANY_BYTES: usize = 2097152;
+
 // A fault's Struct, and what its rule says.
 fn walk_fault_struct(
     table: &[u32],
     room: usize,
     rows: usize,
     text: &[u8],
+    good: usize,
     deep: usize,
     r: usize,
     notes: &mut [u16],
 ) -> usize
-    requires { ⌜ Prepared (now text) room rows (now table) r (now notes) ⌝ }
+    requires { ⌜ Prepared (now text) room rows (now table) good r (now notes) ⌝ }
     ensures { λ e. ⌜ extentOf e ≡ faultStruct (rowAt room (now (table .entry))) rows (now (text .entry)) deep r ⌝ }
 {
-    let next = containers::walk_struct(table, room, rows, text, deep, r, notes);
+    let next = containers::walk_struct(table, room, rows, text, good, deep, r, notes);
     if next == 0 {
         return 0;
     }
@@ -49,18 +53,19 @@ fn walk_method_and_array(
     room: usize,
     rows: usize,
     text: &[u8],
+    good: usize,
     deep: usize,
     r: usize,
     notes: &mut [u16],
 ) -> usize
-    requires { ⌜ Prepared (now text) room rows (now table) r (now notes) ⌝ }
+    requires { ⌜ Prepared (now text) room rows (now table) good r (now notes) ⌝ }
     ensures { λ e. ⌜ extentOf e ≡ pair (string (rowAt room (now (table .entry))) rows (now (text .entry))) (only (rowAt room (now (table .entry))) rows (now (text .entry)) 9 (arrayItem (nested (rowAt room (now (table .entry))) rows (now (text .entry)) deep))) r ⌝ }
 {
-    let next = extents::walk_string(table, room, rows, text, r);
+    let next = extents::walk_string(table, room, rows, text, good, r);
     if next == 0 {
         return 0;
     }
-    containers::walk_array(table, room, rows, text, deep, next, notes)
+    containers::walk_array(table, room, rows, text, good, deep, next, notes)
 }
 
 fn walk_call_or_response(
@@ -68,11 +73,12 @@ fn walk_call_or_response(
     room: usize,
     rows: usize,
     text: &[u8],
+    good: usize,
     deep: usize,
     r: usize,
     notes: &mut [u16],
 ) -> usize
-    requires { ⌜ Ready rows room (length (now table)) × Entries rows (length (now notes)) × (now notes ≡ replicate (length (now notes)) 0) ⌝ }
+    requires { ⌜ Walkable (now text) room rows (now table) good × Entries rows (length (now notes)) × (now notes ≡ replicate (length (now notes)) 0) ⌝ }
     ensures { λ e. ⌜ extentOf e ≡ callOrResponse (rowAt room (now (table .entry))) rows (now (text .entry)) deep r ⌝ }
 {
     if rows <= r {
@@ -82,15 +88,15 @@ fn walk_call_or_response(
     let item = draft::item_of(row.kind);
     match item {
         Item::Call => {
-            let next = walk_method_and_array(table, room, rows, text, deep, r + 1, notes);
+            let next = walk_method_and_array(table, room, rows, text, good, deep, r + 1, notes);
             extents::close_holding(2, row, next)
         }
         Item::Response => {
-            let next = containers::walk_value(table, room, rows, text, deep, r + 1, notes);
+            let next = containers::walk_value(table, room, rows, text, good, deep, r + 1, notes);
             extents::close_holding(1, row, next)
         }
         Item::Fault => {
-            let next = walk_fault_struct(table, room, rows, text, deep, r + 1, notes);
+            let next = walk_fault_struct(table, room, rows, text, good, deep, r + 1, notes);
             extents::close_holding(1, row, next)
         }
         Item::Integer => 0,
@@ -105,47 +111,58 @@ fn walk_call_or_response(
 
 // Notes on keys for up to 64 rows. Laying out the largest takes longer than walking a small table, so a small one gets small ones; the
 // length of an array has to be a constant, so there is a function for each.
-fn walk_few(table: &[u32], room: usize, rows: usize, text: &[u8]) -> usize
-    requires { ⌜ Ready rows room (length (now table)) × (rows ≤ 64) ⌝ }
+fn walk_few(table: &[u32], room: usize, rows: usize, text: &[u8], good: usize) -> usize
+    requires { ⌜ Walkable (now text) room rows (now table) good × (rows ≤ 64) ⌝ }
     ensures { λ e. ⌜ extentOf e ≡ callOrResponse (rowAt room (now (table .entry))) rows (now (text .entry)) 32 0 ⌝ }
 {
     let mut words = [0u16; 192];
     let notes: &mut [u16] = &mut words;
-    walk_call_or_response(table, room, rows, text, MOST_NESTING, 0, notes)
+    walk_call_or_response(table, room, rows, text, good, MOST_NESTING, 0, notes)
 }
 
 // For up to 512 rows.
-fn walk_some(table: &[u32], room: usize, rows: usize, text: &[u8]) -> usize
-    requires { ⌜ Ready rows room (length (now table)) × (rows ≤ 512) ⌝ }
+fn walk_some(table: &[u32], room: usize, rows: usize, text: &[u8], good: usize) -> usize
+    requires { ⌜ Walkable (now text) room rows (now table) good × (rows ≤ 512) ⌝ }
     ensures { λ e. ⌜ extentOf e ≡ callOrResponse (rowAt room (now (table .entry))) rows (now (text .entry)) 32 0 ⌝ }
 {
     let mut words = [0u16; 1536];
     let notes: &mut [u16] = &mut words;
-    walk_call_or_response(table, room, rows, text, MOST_NESTING, 0, notes)
+    walk_call_or_response(table, room, rows, text, good, MOST_NESTING, 0, notes)
 }
 
 // For as many rows as a table may have.
-fn walk_many(table: &[u32], room: usize, rows: usize, text: &[u8]) -> usize
-    requires { ⌜ Ready rows room (length (now table)) ⌝ }
+fn walk_many(table: &[u32], room: usize, rows: usize, text: &[u8], good: usize) -> usize
+    requires { ⌜ Walkable (now text) room rows (now table) good ⌝ }
     ensures { λ e. ⌜ extentOf e ≡ callOrResponse (rowAt room (now (table .entry))) rows (now (text .entry)) 32 0 ⌝ }
 {
     let mut words = [0u16; 12288];
     let notes: &mut [u16] = &mut words;
-    walk_call_or_response(table, room, rows, text, MOST_NESTING, 0, notes)
+    walk_call_or_response(table, room, rows, text, good, MOST_NESTING, 0, notes)
 }
 
 // The Call or Response of row 0, with notes on keys for the stated rows.
-fn walk_first(table: &[u32], room: usize, rows: usize, text: &[u8]) -> usize
-    requires { ⌜ Ready rows room (length (now table)) ⌝ }
+fn walk_first(table: &[u32], room: usize, rows: usize, text: &[u8], good: usize) -> usize
+    requires { ⌜ Walkable (now text) room rows (now table) good ⌝ }
     ensures { λ e. ⌜ extentOf e ≡ callOrResponse (rowAt room (now (table .entry))) rows (now (text .entry)) 32 0 ⌝ }
 {
     if rows <= 64 {
-        return walk_few(table, room, rows, text);
+        return walk_few(table, room, rows, text, good);
     }
     if rows <= 512 {
-        return walk_some(table, room, rows, text);
+        return walk_some(table, room, rows, text, good);
     }
-    walk_many(table, room, rows, text)
+    walk_many(table, room, rows, text, good)
+}
+
+// The rows whose long Strings need no check when they are walked: none, unless all Strings together may be very long.
+fn checked_before(table: &[u32], room: usize, rows: usize, text: &[u8]) -> usize
+    requires { ⌜ Ready rows room (length (now table)) × (length (now text) ≤ 65536) ⌝ }
+    ensures { λ good. ⌜ Checked (rowAt room (now (table .entry))) (now (text .entry)) good ⌝ }
+{
+    if rows * text.len() < MANY_BYTES {
+        return 0;
+    }
+    long_texts::good_rows(table, room, rows, text)
 }
 
 // Whether a table with a stated number of rows is writable, its texts lying in the text bytes.
@@ -165,5 +182,6 @@ pub fn writable(table: &[u32], rows: usize, text: &[u8]) -> bool
         return false;
     }
     let room = table::room_of(table.len());
-    walk_first(table, room, rows, text) == rows
+    let good = checked_before(table, room, rows, text);
+    walk_first(table, room, rows, text, good) == rows
 }

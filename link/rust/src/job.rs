@@ -34,6 +34,10 @@ impl<'f> Job<'f> {
         Job { file }
     }
 
+    pub(crate) fn file(self) -> &'f [u8] {
+        self.file
+    }
+
     /// The cards, one after the other; and a refusal at the end if the job is
     /// not sound.
     ///

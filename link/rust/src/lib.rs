@@ -1,5 +1,5 @@
 //! Binmode RPC messages, read and written by the proved library; the cards of
-//! job files; members of Structs, looked up.
+//! job files; members of Structs, looked up; two stations that share a table.
 //!
 //! ```
 //! let bytes = b"binmode-rpc:CU\x03\0\0\0addA\x02\0\0\0I\x02\0\0\0I\x02\0\0\0";
@@ -38,6 +38,7 @@ mod message;
 mod pieces;
 mod plan;
 mod refusal;
+mod stations;
 pub mod sys;
 mod table;
 
@@ -47,6 +48,7 @@ pub use message::{Message, read};
 pub use pieces::Pieces;
 pub use plan::Form;
 pub use refusal::{Reason, Refusal};
+pub use stations::{Share, Station, StationPieces, shares};
 pub use table::{Children, Item, Items, Kind, Members, Table, room, set_row};
 
 /// Most bytes in a message, and in the bytes a writer's texts lie in.

@@ -51,6 +51,8 @@ pub enum Reason {
     TooManyDigits = 19,
     /// A key that its Struct has already, compared as bytes.
     RepeatedKey = 20,
+    /// The row number does not split the table between the stations.
+    NotSplit = 22,
     /// The plan does not send the table's strings.
     NotTaken = 24,
     /// A sound job ends before the card asked for.
@@ -60,7 +62,7 @@ pub enum Reason {
 use Reason::*;
 
 impl Reason {
-    const ALL: [Reason; 22] = [
+    const ALL: [Reason; 23] = [
         Ended,
         WrongPrefix,
         UnexpectedByte,
@@ -81,6 +83,7 @@ impl Reason {
         NoMember,
         TooManyDigits,
         RepeatedKey,
+        NotSplit,
         NotTaken,
         NoCard,
     ];
@@ -132,6 +135,7 @@ impl Reason {
             NoMember => "the row is no Struct, or the member is absent or of the wrong sort",
             TooManyDigits => "a Double has more than 15 digits, or more than 22 after the point",
             RepeatedKey => "a key that its Struct has already",
+            NotSplit => "the row number does not split the table, or there is no such station",
             NotTaken => "the plan does not send the table's strings",
             NoCard => "the job has no card of this number",
         }

@@ -26,6 +26,8 @@ pub struct Pieces {
 pub const ACCEPTED: u8 = 0;
 /// The answer of a message in pieces that is not decided.
 pub const MORE_WANTED: u8 = 255;
+/// The answer where a row does not split the table between the stations.
+pub const NOT_SPLIT: u8 = 22;
 
 unsafe extern "C" {
     pub fn binmode_version_1() -> u32;
@@ -164,6 +166,107 @@ unsafe extern "C" {
         room_len: usize,
         table: *mut u32,
         table_words: usize,
+    ) -> u8;
+
+    pub fn binmode_share(
+        table_words: usize,
+        split: usize,
+        station: u8,
+        first: *mut usize,
+        length: *mut usize,
+    ) -> u8;
+
+    pub fn binmode_station_read(
+        message: *const u8,
+        message_len: usize,
+        table: *mut u32,
+        table_words: usize,
+        split: usize,
+        station: u8,
+        rows: *mut usize,
+        used: *mut usize,
+        place: *mut usize,
+    ) -> u8;
+
+    pub fn binmode_station_read_card(
+        file: *const u8,
+        file_len: usize,
+        number: usize,
+        table: *mut u32,
+        table_words: usize,
+        split: usize,
+        station: u8,
+        rows: *mut usize,
+        used: *mut usize,
+        place: *mut usize,
+        body: *mut usize,
+    ) -> u8;
+
+    pub fn binmode_station_pieces_next(
+        state: *mut Pieces,
+        piece: *const u8,
+        piece_len: usize,
+        room: *mut u8,
+        room_len: usize,
+        table: *mut u32,
+        table_words: usize,
+        split: usize,
+        station: u8,
+    ) -> u8;
+
+    pub fn binmode_station_pieces_end(
+        state: *mut Pieces,
+        room: *const u8,
+        room_len: usize,
+        table: *mut u32,
+        table_words: usize,
+        split: usize,
+        station: u8,
+    ) -> u8;
+
+    pub fn binmode_station_write(
+        table: *const u32,
+        table_words: usize,
+        split: usize,
+        station: u8,
+        rows: usize,
+        text: *const u8,
+        text_len: usize,
+        output: *mut u8,
+        output_len: usize,
+        length: *mut usize,
+    ) -> u8;
+
+    pub fn binmode_station_lookup(
+        table: *const u32,
+        table_words: usize,
+        split: usize,
+        station: u8,
+        rows: usize,
+        text: *const u8,
+        text_len: usize,
+        row: usize,
+        key: *const u8,
+        key_len: usize,
+        sort: *mut u8,
+        number: *mut i64,
+        decimal: *mut f64,
+        offset: *mut usize,
+        length: *mut usize,
+    ) -> u8;
+
+    pub fn binmode_station_position(
+        table: *const u32,
+        table_words: usize,
+        split: usize,
+        station: u8,
+        rows: usize,
+        text: *const u8,
+        text_len: usize,
+        row: usize,
+        x: *mut f64,
+        y: *mut f64,
+        turn: *mut f64,
     ) -> u8;
 }
 

@@ -22,10 +22,10 @@ use Rattle.containers.proofs.+walk_contents+walk_items.{statement}
 use Rattle.containers.proofs.+walk_contents+walk_items.Tie.{close}
 
 abbrev μ-walk-contents : Measures 3 walk-contents-kinds.ps ℕ
-μ-walk-contents κs a = 2 * a .1 .1 .1 .1 .0
+μ-walk-contents κs a = 2 * a .1 .1 .1 .1 .1 .0
 
 abbrev μ-walk-items : Measures 3 walk-items-kinds.ps ℕ
-μ-walk-items κs a = 2 * a .1 .1 .1 .1 .0 + 1
+μ-walk-items κs a = 2 * a .1 .1 .1 .1 .1 .0 + 1
 
 abbrev walk-contents-at : ℕ → In 3 walk-contents-kinds.ps
 walk-contents-at t =
@@ -54,11 +54,11 @@ abbrev walk-items-calls : ℕ → walk-items-lts.Claims
 walk-items-calls t = (walk-key-if-reads.Asked, walk-key-if-reads.Learnt, get-row-reads.Asked, get-row-reads.Learnt, holds-items-reads.Asked, holds-items-reads.Learnt, walk-contents-below t, walk-contents.Post, walk-scalar-reads.Asked, walk-scalar-reads.Learnt)
 
 abbrev walk-items-Inv-loop : walk-items-lts.InvT-loop
-walk-items-Inv-loop table room rows text deep n keyed first notes₀ left₀ here₀ notes left here =
+walk-items-Inv-loop table room rows text good deep n keyed first notes₀ left₀ here₀ notes left here =
     Going text room rows table keyed (value (rowAt room table) rows text deep) n first notes₀ left here notes × (length notes ≡ length notes₀)
 
 abbrev walk-items-μ-loop : walk-items-lts.MeasureT-loop
-walk-items-μ-loop table room rows text deep n keyed first notes₀ left₀ here₀ notes left here = left
+walk-items-μ-loop table room rows text good deep n keyed first notes₀ left₀ here₀ notes left here = left
 
 pub +walk-contents+walk-items-spec : {M : Type 1} → statement M
 +walk-contents+walk-items-spec = close μ-walk-contents μ-walk-items (λ t. walk-contents-lts.spec (walk-contents-calls t)
@@ -77,7 +77,7 @@ pub +walk-contents+walk-items-spec : {M : Type 1} → statement M
     walk-items.Post
     walk-items-Inv-loop
     walk-items-μ-loop
-    (λ c. (going-first (search needs), refl))  -- walk-items-loop-holds
+    (λ c. (search walked, refl))  -- walk-items-loop-holds
     (λ c κs. (search walked, search walked, search walked))  -- walk-items-walk-key-if-requires
     (λ c. search needs)  -- walk-items-same-length
     (λ c. search walked)  -- walk-items-returns
@@ -91,7 +91,7 @@ pub +walk-contents+walk-items-spec : {M : Type 1} → statement M
     (λ c. search needs)  -- walk-items-sub-left
     (λ c. search needs)  -- walk-items-loop-less
     (λ c. (search walked, search needs))  -- walk-items-loop-again
-    (λ c κs. (search walked, search walked))  -- walk-items-walk-scalar-requires
+    (λ c κs. (search walked, search walked, search needs))  -- walk-items-walk-scalar-requires
     (λ c. search needs)  -- walk-items-same-length-4
     (λ c. search walked)  -- walk-items-returns-4
     (λ c. search needs)  -- walk-items-sub-left-2

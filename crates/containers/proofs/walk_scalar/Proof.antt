@@ -11,7 +11,7 @@ walk-scalar-spec = tie.close (tie.spec
     (λ c. search needs)  -- enum-told-2
     (λ c κs. search needs)  -- walk-boolean-requires
     (λ c. search needs)  -- enum-known-item
-    (λ c κs. search needs)  -- walk-content-requires
+    (λ c κs. (search needs, search nesting))  -- walk-content-requires
     (λ c. search needs)  -- enum-told-3
     (λ c κs. search needs)  -- walk-other-requires
     (λ c. search needs)  -- enum-told-4

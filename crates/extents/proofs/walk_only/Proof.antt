@@ -8,6 +8,6 @@ walk-only-spec = tie.close (tie.spec
     (λ c. search walking)  -- returns
     (λ c κs. search needs)  -- get-row-requires
     (λ c κs. search needs)  -- kind-requires
-    (λ c κs. search needs)  -- walk-content-requires
+    (λ c κs. (search needs, search walking))  -- walk-content-requires
     (λ c. search walking)  -- returns-2
     (λ c. search walking))  -- returns-3

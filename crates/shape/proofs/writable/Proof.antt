@@ -11,5 +11,6 @@ writable-spec = tie.close (tie.spec
     (λ c. search needs)  -- mul-if4
     (λ c. search whole)  -- returns-4
     (λ c κs. search needs)  -- room-of-requires
+    (λ c κs. (search needs, search needs))  -- checked-before-requires
     (λ c κs. search needs)  -- walk-first-requires
     (λ c. search whole))  -- returns-5

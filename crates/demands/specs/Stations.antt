@@ -1,0 +1,233 @@
+-- Stations four and five on one table (request E10). `ReadFor s station split T T′ a` is the promise of `station_reading::read`, for a message s, a
+-- table T that is split at a row and is T′ after the call, and the answer a; `CardFor` that of `read_card`; `NextFor` and `EndFor` those of
+-- `station_pieces::next` and `end`; `WroteFor` that of `station_tables::write`. `Called station split T T′ q a` is any of the first four, asked q and
+-- told a. `shareOf station split T` are the share's words. Assumes nothing.
+use mathlib.Core.Path.{_≡_, refl, sym, ap, _∙_}
+use mathlib.Core.Bool.{true, false}
+use mathlib.Core.Logic.{_↔_}
+use mathlib.Core.List.{List}
+use Prim.Native.Nat.{ℕ, _+_, _*_, _/_, _≤_, _<_}
+use native.Mathlib.Omega.{arith}
+use lib.ListN.{length, drop, replicate}
+use Rattle.draft.specs.declared.Refusal.{Refusal}
+use Rattle.shares.specs.declared.Station.{Station}
+use Rattle.shares.specs.declared.Station.the-variants.{Four, Five}
+use Rattle.shares.specs.Share.{other, splits, firstWord, sizeOf, shareOf, onShare}
+use Rattle.shares.proofs.Sharing as sharing
+use Rattle.reader.specs.declared.Answer.the-variants as reader
+use Rattle.records.specs.declared.JobRefusal.{JobRefusal}
+use Rattle.records.specs.Job.{bodyOf}
+use Rattle.job.specs.declared.Answer.the-variants as job
+use Rattle.reader.specs.Answers.{reading}
+use Rattle.lookup.specs.Answers as lookups
+use Rattle.position.specs.Placing.{position}
+use Rattle.pieces.specs.declared.State.{State}
+use Rattle.pieces.specs.Pieces.{joined}
+use Rattle.pieces.specs.Steps.{told}
+use Rattle.pieces.specs.Runs.{begun}
+use Rattle.cuts.proofs.Running.{Ends}
+use Rattle.station_reading.specs.declared.Answer.{Answer}
+use Rattle.station_reading.specs.declared.Answer.the-variants as answer
+use Rattle.station_reading.specs.declared.CardAnswer.{CardAnswer}
+use Rattle.station_reading.specs.declared.CardAnswer.the-variants as card
+use Rattle.station_reading.specs.Answers.{ReadFor, CardFor}
+use Rattle.station_pieces.specs.declared.Answer.{Answer as PieceAnswer}
+use Rattle.station_pieces.specs.declared.Answer.the-variants.{Stands}
+use Rattle.station_pieces.specs.Steps.{NextFor, EndFor}
+use Rattle.station_tables.specs.declared.WriteAnswer.{WriteAnswer}
+use Rattle.station_tables.specs.declared.WriteAnswer.the-variants as write
+use Rattle.station_tables.specs.declared.LookupAnswer.the-variants as lookup
+use Rattle.station_tables.specs.declared.PositionAnswer.the-variants as place
+use Rattle.station_tables.specs.Answers.{writeAnswer, writtenBytes, WroteFor, lookupAnswer, positionAnswer}
+use Rattle.stations.specs.Calls.{Asked, Told, Called, notSplit}
+use Rattle.stations.specs.Owned.{OwnRead, OwnCard, OwnPiece, OwnEnd, OwnWrite}
+use Rattle.stations.specs.Turns.{Turns}
+use Rattle.stations.proofs.Calling as calls
+use Rattle.stations.proofs.Calling.{Same}
+use Rattle.stations.proofs.Owning as owning
+use Rattle.demands.specs.Jobs as jobs
+use Rattle.demands.specs.Settled as whole-table
+use Rattle.demands.specs.Pieces as pieces
+
+-- A ROW SPLITS a table exactly if it is not 0 and is below the number of whole rows, however many those are.
+pub splits-exactly : (split words : ℕ) → (splits split words ≡ true) ↔ ((0 < split) × (split < words / 4))
+splits-exactly = sharing.splits-exactly
+
+-- SHARES. They lie side by side in the whole rows: four's from the first word on, five's behind it up to the last whole row's end.
+pub shares-lie :
+    (split words : ℕ) → splits split words ≡ true
+    → (firstWord Four split ≡ 0) × (firstWord Four split + sizeOf Four split words ≡ firstWord Five split)
+    × (firstWord Five split + sizeOf Five split words ≡ words / 4 * 4)
+unfolding sizeOf
+shares-lie split words ok = let h = splits-exactly split words .0 ok in (refl, omega arith, omega (arith, h .1))
+
+-- ---- 22
+
+module _ {station : Station} {split : ℕ} {T T′ : List ℕ} {q : Asked} {a : Told} (c : Called station split T T′ q a) where
+  -- 22 is told exactly if the row does not split the table.
+  pub told-exactly : (a ≡ notSplit q) ↔ (splits split (length T) ≡ false)
+  told-exactly = calls.told-exactly c
+
+  -- Then nothing is changed: no word of the table; nor is the room, which `notSplit` has as it was.
+  pub nothing-changed : a ≡ notSplit q → T′ ≡ T
+  nothing-changed e = calls.leaves c ∙ sharing.unsplit-words station split T (calls.after q) (told-exactly .0 e)
+
+module _ (station : Station) (split : ℕ) (T : List ℕ) (no-split : splits split (length T) ≡ false) where
+  pub write-unsplit :
+      (rows : ℕ) (s out : List ℕ) {out′ : List ℕ} {a : WriteAnswer} → WroteFor T station split rows s out out′ a → (a ≡ write.NotSplit) × (out′ ≡ out)
+  write-unsplit rows s out d = (
+    d .says ∙ sharing.unsplit-told station split T (writeAnswer rows s (length out)) write.NotSplit no-split,
+    d .leaves ∙ sharing.unsplit-told station split T (writtenBytes rows s (length out)) out no-split,
+  )
+
+  pub lookup-unsplit :
+      (rows : ℕ) (s : List ℕ) (r : ℕ) (key : List ℕ) → onShare station split T (lookupAnswer rows s r key) lookup.NotSplit ≡ lookup.NotSplit
+  lookup-unsplit rows s r key = sharing.unsplit-told station split T (lookupAnswer rows s r key) lookup.NotSplit no-split
+
+  pub position-unsplit :
+      (rows : ℕ) (s : List ℕ) (r : ℕ) → onShare station split T (positionAnswer rows s r) place.NotSplit ≡ place.NotSplit
+  position-unsplit rows s r = sharing.unsplit-told station split T (positionAnswer rows s r) place.NotSplit no-split
+
+-- ---- the share
+
+-- OWN. On its share a station's call does what the call without stations does on a table of the share's size: the answer is that call's, and so are
+-- the share's words after it.
+module _ (station : Station) (split : ℕ) (T : List ℕ) (ok : splits split (length T) ≡ true) where
+  module _ {T′ : List ℕ} where
+    pub own-read :
+        (s : List ℕ) {a : Answer} → ReadFor s station split T T′ a → OwnRead s (sizeOf station split (length T)) (shareOf station split T′) a
+    own-read = owning.own-read station split T ok
+
+    pub own-card :
+        (s : List ℕ) (number : ℕ) {a : CardAnswer} → CardFor s number station split T T′ a
+        → OwnCard s number (sizeOf station split (length T)) (shareOf station split T′) a
+    own-card = owning.own-card station split T ok
+
+    pub own-piece :
+        (state : State) (p R : List ℕ) {R′ : List ℕ} {a : PieceAnswer} → NextFor state p station split R T R′ T′ a
+        → OwnPiece state p R (shareOf station split T) R′ (shareOf station split T′) a
+    own-piece = owning.own-piece station split T ok
+
+    pub own-end :
+        (state : State) (bytes : ℕ) {a : PieceAnswer} → EndFor state bytes station split T T′ a
+        → OwnEnd state bytes (shareOf station split T) (shareOf station split T′) a
+    own-end = owning.own-end station split T ok
+
+    -- ZEROS. On a refusal of the message, of the card or of the job the whole share is zeros.
+    pub refused-zeros :
+        (s : List ℕ) {m : Refusal} {p : ℕ} → ReadFor s station split T T′ (answer.Answered (reader.Refused m p))
+        → shareOf station split T′ ≡ replicate (sizeOf station split (length T)) 0
+    refused-zeros s {m} {p} d =
+        let o = own-read s d in
+        let e : o .own ≡ reader.Refused m p = sym (cc) in
+        whole-table.refused-zeros s (sizeOf station split (length T)) (rw e at (o .did))
+
+    pub card-refused-zeros :
+        (s : List ℕ) (number : ℕ) {m : Refusal} {p : ℕ} → CardFor s number station split T T′ (card.Answered (job.Refused m p))
+        → shareOf station split T′ ≡ replicate (sizeOf station split (length T)) 0
+    card-refused-zeros s number {m} {p} d =
+        let o = own-card s number d in
+        let e : o .own ≡ job.Refused m p = sym (cc) in
+        jobs.card-refused-zeros s (sizeOf station split (length T)) (bodyOf s number) (rw e at (o .did))
+
+    pub no-card-zeros :
+        (s : List ℕ) (number : ℕ) {m : JobRefusal} {p : ℕ} → CardFor s number station split T T′ (card.Answered (job.Missing m p))
+        → shareOf station split T′ ≡ replicate (sizeOf station split (length T)) 0
+    no-card-zeros s number {m} {p} d =
+        let o = own-card s number d in
+        let e : o .own ≡ job.Missing m p = sym (cc) in
+        jobs.job-refused-zeros s (sizeOf station split (length T)) (bodyOf s number) (rw e at (o .did))
+
+  pub own-write :
+      (rows : ℕ) (s out : List ℕ) {out′ : List ℕ} {a : WriteAnswer} → WroteFor T station split rows s out out′ a
+      → OwnWrite (shareOf station split T) rows s out out′ a
+  own-write = owning.own-write station split T ok
+
+  pub own-lookup :
+      (rows : ℕ) (s : List ℕ) (r : ℕ) (key : List ℕ)
+      → onShare station split T (lookupAnswer rows s r key) lookup.NotSplit
+      ≡ lookup.Answered (lookups.lookup (shareOf station split T) rows s r key)
+  unfolding lookupAnswer
+  own-lookup rows s r key = sharing.given-there station split T ok (lookupAnswer rows s r key) lookup.NotSplit
+
+  pub own-position :
+      (rows : ℕ) (s : List ℕ) (r : ℕ)
+      → onShare station split T (positionAnswer rows s r) place.NotSplit ≡ place.Answered (position (shareOf station split T) rows s r)
+  unfolding positionAnswer
+  own-position rows s r = sharing.given-there station split T ok (positionAnswer rows s r) place.NotSplit
+
+-- ALIKE. Answer and share's words depend on the message, or the job file and the card's number, and on the share's size: for any two tables, rows and
+-- stations.
+module _
+    (station other-station : Station) (split other-split : ℕ) (T U : List ℕ) (ok : splits split (length T) ≡ true)
+    (ok′ : splits other-split (length U) ≡ true)
+    (size : sizeOf station split (length T) ≡ sizeOf other-station other-split (length U)) {T′ U′ : List ℕ} where
+  pub read-alike :
+      (s : List ℕ) {a b : Answer} → ReadFor s station split T T′ a → ReadFor s other-station other-split U U′ b
+      → (a ≡ b) × (shareOf station split T′ ≡ shareOf other-station other-split U′)
+  read-alike s {a} {b} d e =
+      let x = own-read station split T ok s d in
+      let y = rw (← size) at (own-read other-station other-split U ok′ s e) in
+      let z = whole-table.settled s (sizeOf station split (length T)) (x .did) (y .did) in
+      (x .is ∙ ap answer.Answered (z .0) ∙ sym (y .is), z .1)
+
+  pub card-alike :
+      (s : List ℕ) (number : ℕ) {a b : CardAnswer} → CardFor s number station split T T′ a → CardFor s number other-station other-split U U′ b
+      → (a ≡ b) × (shareOf station split T′ ≡ shareOf other-station other-split U′)
+  card-alike s number {a} {b} d e =
+      let x = own-card station split T ok s number d in
+      let y = rw (← size) at (own-card other-station other-split U ok′ s number e) in
+      let f : x .own ≡ y .own = x .did .says ∙ sym (y .did .says) in
+      (x .is ∙ (rw f (sym (y .is))), x .did .leaves ∙ sym (y .did .leaves))
+
+-- ---- all other words
+
+module _ {station : Station} {split : ℕ} {T T′ : List ℕ} {q : Asked} {a : Told} (c : Called station split T T′ q a) where
+  -- OTHER'S. No word of the other station's share is changed.
+  pub others-stay : splits split (length T) ≡ true → shareOf (other station) split T′ ≡ shareOf (other station) split T
+  others-stay ok =
+      ap (shareOf (other station) split) (calls.leaves c)
+      ∙ sharing.other-words station split T ok (calls.after q) (calls.keeps q (shareOf station split T))
+
+  -- BEYOND. Nor is a word beyond the last whole row.
+  pub beyond-stays : drop (length T / 4 * 4) T′ ≡ drop (length T / 4 * 4) T
+  beyond-stays = calls.beyond c
+
+  -- The table keeps its length, so that the shares are the same after it.
+  pub length-stays : length T′ ≡ length T
+  length-stays = calls.same-length c
+
+-- IN TURN. A call of each station, in either order: the same table, and the same is told.
+pub in-turn :
+    (split : ℕ) {T A B C D : List ℕ} {q r : Asked} {x x′ y y′ : Told} → Called Four split T A q x → Called Five split A B r y
+    → Called Five split T C r y′ → Called Four split C D q x′ → Same B D x x′ y y′
+in-turn split c d e f = calls.in-turn split c d e f
+
+-- ---- messages in pieces
+
+-- WHOLE. A station's message in pieces, with any calls of the other station in between: what is told and the share's words are those of the whole
+-- message.
+pub pieces-whole :
+    (station : Station) (split : ℕ) (T : List ℕ) → splits split (length T) ≡ true → (R₀ W₀ : List ℕ) → 65536 ≤ length R₀
+    → (ps : List (List ℕ)) {state last : State} {R T′ : List ℕ} → Turns station ps begun R₀ W₀ state R (shareOf station split T)
+    → length (joined ps) ≤ 65536 → EndFor state (length R) station split T T′ (Stands last)
+    → Ends (reading (joined ps) (length W₀)) (length W₀) last (shareOf station split T′)
+pieces-whole station split T ok R₀ W₀ long ps {state} {last} {R} ts few d =
+    let o = own-end station split T ok state (length R) d in
+    let e : o .own ≡ last = sym (cc) in
+    pieces.as-whole R₀ W₀ long ps (owning.turns-run ts) few (rw e at (o .did))
+
+-- ALIKE. Two stations' messages in pieces, with one message however it is cut and shares of one size before the first piece: the same is told, and the
+-- shares' words are the same, whatever the tables, the rows and the other station's calls in between.
+pub pieces-alike :
+    (station other-station : Station) (split other-split : ℕ) (T U : List ℕ) → splits split (length T) ≡ true
+    → splits other-split (length U) ≡ true → (R₀ Q₀ W₀ V₀ : List ℕ) → 65536 ≤ length R₀ → 65536 ≤ length Q₀ → length W₀ ≡ length V₀
+    → (ps qs : List (List ℕ)) → joined ps ≡ joined qs → length (joined ps) ≤ 65536 → {a b a′ b′ : State} {R Q T′ U′ : List ℕ}
+    → Turns station ps begun R₀ W₀ a R (shareOf station split T) → EndFor a (length R) station split T T′ (Stands a′)
+    → Turns other-station qs begun Q₀ V₀ b Q (shareOf other-station other-split U)
+    → EndFor b (length Q) other-station other-split U U′ (Stands b′)
+    → (told a′ ≡ told b′) × (shareOf station split T′ ≡ shareOf other-station other-split U′)
+pieces-alike station other-station split other-split T U ok ok′ R₀ Q₀ W₀ V₀ h k l ps qs e few x c y d =
+    let i = pieces-whole station split T ok R₀ W₀ h ps x few c in
+    let j = pieces-whole other-station other-split U ok′ Q₀ V₀ k qs y (rw e at few) d in
+    (i .says ∙ rw (e, l) (sym (j .says)), i .table ∙ rw (e, l) (sym (j .table)))

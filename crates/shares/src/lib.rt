@@ -1,0 +1,38 @@
+// One table for two stations: rows below a row number are station four's, the rest of the whole rows five's. Here it is judged whether a row
+// number splits a table, and where a station's share of it lies.
+ghost use mathlib.Core.Path.{_≡_};
+ghost use Rattle.shares.specs.Share.{shareFor};
+
+pub enum Station {
+    Four,
+    Five,
+}
+
+// Where a share lies: the words from `first` up to `end`; or the row number gives no shares, which is refusal 22.
+pub enum Share {
+    Words { first: usize, end: usize },
+    NotSplit,
+}
+
+// A station's share of a table of so many words, which is split at a row.
+pub fn share_of(words: usize, split: usize, station: Station) -> Share
+    ensures { λ r. ⌜ r ≡ shareFor words split station ⌝ }
+{
+    let rows = words / 4;
+    if split == 0 {
+        return Share::NotSplit;
+    }
+    if rows <= split {
+        return Share::NotSplit;
+    }
+    match station {
+        Station::Four => Share::Words {
+            first: 0,
+            end: split * 4,
+        },
+        Station::Five => Share::Words {
+            first: split * 4,
+            end: rows * 4,
+        },
+    }
+}
