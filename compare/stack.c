@@ -24,6 +24,8 @@ static double x, y, turn;
 static struct binmode_pieces state;
 static struct binmode_entry list[BINMODE_MOST_ROWS / 2];
 static struct binmode_report reports[2];
+static uint8_t plan[2 * BINMODE_MOST_ROWS];
+static uint32_t prices[BINMODE_MOST_ROWS];
 
 /* The message, tag by tag. */
 static void put(const void *bytes, size_t count)
@@ -157,6 +159,25 @@ static void station_find_position(void)
     binmode_station_position(table, SHARE, rows, message, length, 1, &x, &y, &turn);
 }
 
+/* How many strings the table has: the plan sends each in full. */
+static size_t strings(void)
+{
+    struct binmode_view view = {table, BINMODE_TABLE_WORDS, rows, message, length};
+    size_t count = 0;
+    for (size_t row = 0; row < rows; row++)
+        count += binmode_row_at(&view, row).kind == BINMODE_KIND_STRING;
+    return count;
+}
+static void write_planned(void)
+{
+    answer = binmode_write_planned(table, BINMODE_TABLE_WORDS, rows, message, length, plan, 2 * strings(), output, sizeof output, &size);
+}
+static void prove_shortest(void)
+{
+    size_t count = strings();
+    binmode_proves_shortest(table, BINMODE_TABLE_WORDS, rows, message, length, plan, 2 * count, prices, count);
+}
+
 static struct {
     const char *name;
     void (*call)(void);
@@ -165,6 +186,8 @@ static struct {
 } calls[] = {
     {"binmode_read", read_message, BINMODE_STACK_READ, 0},
     {"binmode_write", write_message, BINMODE_STACK_WRITE, 0},
+    {"binmode_write_planned", write_planned, BINMODE_STACK_PLAN, 0},
+    {"binmode_proves_shortest", prove_shortest, BINMODE_STACK_PLAN, 0},
     {"binmode_lookup", look_up, BINMODE_STACK_LOOKUP, 0},
     {"binmode_position", find_position, BINMODE_STACK_LOOKUP, 0},
     {"binmode_default_text", default_text, BINMODE_STACK_LOOKUP, 0},

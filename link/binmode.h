@@ -87,6 +87,7 @@ static uint32_t (*const binmode_linked_version)(void) BINMODE_KEPT = binmode_ver
 #define BINMODE_STACK_LOOKUP 49152 /* binmode_lookup, binmode_position, binmode_default_text; binmode_station_* that look up */
 #define BINMODE_STACK_WRITE 65536  /* binmode_write, binmode_station_write */
 #define BINMODE_STACK_INDEX 65536  /* binmode_index_fill, binmode_index_find */
+#define BINMODE_STACK_PLAN 131072  /* binmode_write_planned, binmode_proves_shortest */
 
 /* The answers: acceptance, or the number of a refusal; for a message in pieces also that more is wanted. */
 #define BINMODE_ACCEPTED 0
@@ -112,6 +113,7 @@ static uint32_t (*const binmode_linked_version)(void) BINMODE_KEPT = binmode_ver
 #define BINMODE_REFUSED_REPEATED_KEY 20     /* read: a key that its Struct has already, compared as bytes */
 #define BINMODE_REFUSED_SHORT_LIST 21       /* index: the list is shorter than the member count */
 #define BINMODE_REFUSED_NOT_SPLIT 22        /* station: the row gives no shares, being 0 or not below the table's whole rows */
+#define BINMODE_REFUSED_NOT_TAKEN 24        /* write with a plan: the plan is not taken */
 #define BINMODE_REFUSED_NO_CARD 26          /* job file: a sound job ends before the card asked for */
 #define BINMODE_MORE_WANTED 255             /* pieces: no answer yet */
 
@@ -174,6 +176,43 @@ uint8_t binmode_read(const uint8_t *message, size_t message_len, uint32_t *table
  */
 uint8_t binmode_write(const uint32_t *table, size_t table_words, size_t rows, const uint8_t *text, size_t text_len,
                       uint8_t *output, size_t output_len, size_t *length) BINMODE_NO_NULL;
+
+/*
+ * Writes the rows of a table as a message, by a plan: for jobs in which more than 256 texts repeat. A plan says how each string is sent, two
+ * bytes for each in row order (method, keys and type names are strings too): its form and its position.
+ *
+ *   table .. text_len     as for binmode_write
+ *   plan, plan_len        the plan. A form is BINMODE_PLAN_REGULAR, and the position is 0; BINMODE_PLAN_RECORDED, and the position holds
+ *                         the text from then on; or BINMODE_PLAN_RECALLED, and the position holds this very text. A plan that has another
+ *                         length or other values, or recalls what its position does not hold, is not taken
+ *   output, output_len    where the message is written
+ *   length                is set to the number of bytes of the message; 0 on a refusal
+ *
+ * Gives BINMODE_ACCEPTED, and the output has the shorter of the plan's message and of what binmode_write writes (that one, if they are
+ * equally long), and then zeros; or a refusal's number, and the whole output is zeros. Tested in this order: BINMODE_REFUSED_TOO_LONG,
+ * BINMODE_REFUSED_NOT_WRITABLE, BINMODE_REFUSED_NOT_TAKEN, and of the shorter of the two BINMODE_REFUSED_FORM_TOO_LONG and
+ * BINMODE_REFUSED_OUTPUT_TOO_SHORT. Each has place 0.
+ */
+#define BINMODE_PLAN_REGULAR 0
+#define BINMODE_PLAN_RECORDED 1
+#define BINMODE_PLAN_RECALLED 2
+uint8_t binmode_write_planned(const uint32_t *table, size_t table_words, size_t rows, const uint8_t *text, size_t text_len,
+                              const uint8_t *plan, size_t plan_len, uint8_t *output, size_t output_len,
+                              size_t *length) BINMODE_NO_NULL;
+
+/*
+ * Whether a plan and prices prove that the plan's message is the shortest: that no byte string that reads with the table's meaning has fewer
+ * bytes, whatever forms and positions it has, and whatever follows its end.
+ *
+ *   table .. plan_len     as for binmode_write_planned
+ *   prices, prices_len    a price for each string in row order: what it is worth to hold one position until the next string. Any may be
+ *                         given; the program `plan` finds those that prove
+ *
+ * Gives 1 for yes. 0 is no statement: the table is not writable, the plan is not taken, there are not as many prices as strings, the strings
+ * take over 65,536 bytes, or these prices do not prove it.
+ */
+uint8_t binmode_proves_shortest(const uint32_t *table, size_t table_words, size_t rows, const uint8_t *text, size_t text_len,
+                                const uint8_t *plan, size_t plan_len, const uint32_t *prices, size_t prices_len) BINMODE_NO_NULL;
 
 /*
  * Job files. A job file is a row of records: a four-byte body length and a two-byte kind, both least significant byte first,
@@ -641,6 +680,7 @@ static inline const char *binmode_answer_words(size_t answer)
     case BINMODE_REFUSED_REPEATED_KEY: return "a key that its Struct has already";
     case BINMODE_REFUSED_SHORT_LIST: return "the list is shorter than the number of members";
     case BINMODE_REFUSED_NOT_SPLIT: return "the row number does not split the table, or there is no such station";
+    case BINMODE_REFUSED_NOT_TAKEN: return "the plan does not send the table's strings";
     case BINMODE_REFUSED_NO_CARD: return "the job has no card of this number";
     case BINMODE_MORE_WANTED: return "more bytes are wanted";
     default: return "an unknown answer";

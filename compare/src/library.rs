@@ -101,6 +101,57 @@ pub fn write(table: &[u32], rows: usize, text: &[u8], output: &mut [u8]) -> Writ
     Written { number, length }
 }
 
+pub fn write_planned(
+    table: &[u32],
+    rows: usize,
+    text: &[u8],
+    plan: &[u8],
+    output: &mut [u8],
+) -> Written {
+    let mut length = NOT_REPORTED;
+    // SAFETY: as above.
+    let number = unsafe {
+        sys::binmode_write_planned(
+            table.as_ptr(),
+            table.len(),
+            rows,
+            text.as_ptr(),
+            text.len(),
+            plan.as_ptr(),
+            plan.len(),
+            output.as_mut_ptr(),
+            output.len(),
+            &mut length,
+        )
+    };
+    Written { number, length }
+}
+
+pub fn proves_shortest(
+    table: &[u32],
+    rows: usize,
+    text: &[u8],
+    plan: &[u8],
+    prices: &[u32],
+) -> bool {
+    // SAFETY: as above; nothing is written.
+    let answer = unsafe {
+        sys::binmode_proves_shortest(
+            table.as_ptr(),
+            table.len(),
+            rows,
+            text.as_ptr(),
+            text.len(),
+            plan.as_ptr(),
+            plan.len(),
+            prices.as_ptr(),
+            prices.len(),
+        )
+    };
+    assert!(answer <= 1, "yes is 1, and no is 0");
+    answer == 1
+}
+
 pub fn read_card(file: &[u8], number: usize, table: &mut [u32]) -> CardAnswer {
     let (mut rows, mut used) = (NOT_REPORTED, NOT_REPORTED);
     let (mut place, mut body) = (NOT_REPORTED, NOT_REPORTED);

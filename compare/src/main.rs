@@ -1,6 +1,6 @@
 //! Compares the proved library with the second implementation on generated
-//! messages, whole and in pieces, tables, job files, members, indexes and
-//! shares of a table: `compare SEED CALLS`. Ends with 1 where they differ.
+//! messages, whole and in pieces, tables, plans, job files, members, indexes
+//! and shares of a table: `compare SEED CALLS`. Ends with 1 where they differ.
 
 mod change;
 mod defaults;
@@ -13,6 +13,7 @@ mod lent;
 mod library;
 mod lookup;
 mod pieces;
+mod plans;
 mod reading;
 mod shortest;
 mod state;
@@ -26,6 +27,7 @@ use index::Indexes;
 use job::Jobs;
 use lookup::Lookups;
 use pieces::InPieces;
+use plans::Plans;
 use reading::{Compared, Reading};
 use second::generate::Random;
 use stations::Stations;
@@ -71,7 +73,10 @@ fn compare(run: &mut Run) -> Compared {
     let mut texts = Texts::new();
     let mut indexes = Indexes::new();
     let mut stations = Stations::new();
+    let mut plans = Plans::new();
     shortest::tried(&mut run.random)?;
+    plans.all_of_small(&mut run.random)?;
+    plans.many_texts(&mut run.random)?;
     doubles_and_dates::read(&mut run.random, &mut reading)?;
     doubles_and_dates::written(&mut run.random, &mut writing)?;
     lookups.decimals(&mut run.random)?;
@@ -91,6 +96,7 @@ fn compare(run: &mut Run) -> Compared {
         indexes.round(run)?;
         stations.round(run)?;
         writing.round(run)?;
+        plans.round(run)?;
         if run.random.one_in(4) {
             jobs.round(run)?;
         }

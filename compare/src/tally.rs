@@ -30,7 +30,7 @@ const MEANINGS: [&str; NUMBERS] = [
     "list too short",
     "row splits no table",
     "",
-    "",
+    "plan not taken",
     "",
     "no such card",
 ];
@@ -53,6 +53,7 @@ pub struct Tally {
     pub indexes: [usize; NUMBERS],
     pub through: [usize; NUMBERS],
     pub stations: [usize; NUMBERS],
+    pub plans: [usize; NUMBERS],
 }
 
 impl Tally {
@@ -69,6 +70,7 @@ impl Tally {
             indexes: [0; NUMBERS],
             through: [0; NUMBERS],
             stations: [0; NUMBERS],
+            plans: [0; NUMBERS],
         }
     }
 
@@ -138,6 +140,12 @@ impl Tally {
         }
     }
 
+    /// Notes a table written with a plan.
+    pub fn planned(&mut self, number: u8) {
+        self.left -= 1;
+        self.plans[usize::from(number)] += 1;
+    }
+
     pub fn print(&self) {
         let columns = [
             ("reading", &self.reading),
@@ -150,6 +158,7 @@ impl Tally {
             ("indexes", &self.indexes),
             ("through", &self.through),
             ("stations", &self.stations),
+            ("plans", &self.plans),
         ];
         let line = |number: &str, meaning: &str, cells: Vec<String>| {
             let cells: String = cells.iter().map(|cell| format!(" {cell:>10}")).collect();

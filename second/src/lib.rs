@@ -12,6 +12,7 @@ pub mod lookup;
 pub mod meaning;
 pub mod papers;
 pub mod pieces;
+pub mod plan;
 pub mod questions;
 pub mod reader;
 pub mod rules;

@@ -52,12 +52,23 @@ const NEVER_SET: Text = Text {
     length: 0,
 };
 
+/// Reads a message of whatever length, with refusal 10 put aside: gives the
+/// number of rows and of bytes used, or nothing. Rows not used are as they
+/// happen to be.
+pub fn read_any_length(message: &[u8], table: &mut [u32]) -> Option<(usize, usize)> {
+    read_all(message, table).ok()
+}
+
 /// Gives the number of rows and of bytes used; leaves the other rows as they
 /// happen to be.
 fn read_rows(message: &[u8], table: &mut [u32]) -> Answer<(usize, usize)> {
     if message.len() > BYTE_LIMIT {
         return refuse(refusal::BYTES, 0);
     }
+    read_all(message, table)
+}
+
+fn read_all(message: &[u8], table: &mut [u32]) -> Answer<(usize, usize)> {
     let present = message.len().min(PREFIX.len());
     if message[..present] != PREFIX[..present] {
         return refuse(refusal::PREFIX, 0);

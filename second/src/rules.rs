@@ -169,4 +169,6 @@ pub mod refusal {
     pub const DOUBLE_OR_DATE: u8 = 17;
     /// A key that stands in its Struct already.
     pub const KEY: u8 = 20;
+    /// A plan that is not taken.
+    pub const PLAN: u8 = 24;
 }

@@ -16,6 +16,7 @@ fn as_stored() {
         "refused-no-row.bin",
         "refused-too-long.bin",
         "transit-card.bin",
+        "shop-batch.bin",
         "jobs/many-cards.job",
     ] {
         let [made, stored] = [&made, &stored].map(|folder| std::fs::read(folder.join(name)));

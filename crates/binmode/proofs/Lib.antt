@@ -3,5 +3,6 @@ pub mod Cards
 pub mod Choosing
 pub mod InPieces
 pub mod Looking
+pub mod Planning
 pub mod Reporting
 pub mod Behind

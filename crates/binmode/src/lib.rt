@@ -4,6 +4,7 @@ mod job_defaults; // job_defaults.rt: job defaults behind a card
 mod lookups; // lookups.rt: looking up members, and positions
 mod member_index; // member_index.rt: an index of members
 mod stations; // stations.rt: stations four and five on one table
+mod planned; // planned.rt: writing with a plan, and prices that prove it shortest
 mod version; // version.rt: the version of the interface
 
 use reader::Answer;

@@ -32,7 +32,14 @@ pub fn text_of<'a>(
 }
 
 // Whether strings j and k have equal texts. Bytes are compared only where the lengths are equal and the offsets are not.
-fn equal_texts(table: &[u32], room: usize, strings: &[u16], text: &[u8], k: usize, j: usize) -> bool
+pub fn equal_texts(
+    table: &[u32],
+    room: usize,
+    strings: &[u16],
+    text: &[u8],
+    k: usize,
+    j: usize,
+) -> bool
     requires { ⌜ Through room (length (now table)) j (now strings) × (k ≤ j) ⌝ }
     ensures { λ b. ⌜ b ≡ same (textAt (rowAt room (now (table .entry))) (now (strings .entry)) (now (text .entry)) k) (textAt (rowAt room (now (table .entry))) (now (strings .entry)) (now (text .entry)) j) ⌝ }
 {

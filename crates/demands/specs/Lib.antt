@@ -5,6 +5,7 @@ pub mod Index
 pub mod Jobs
 pub mod Lookups
 pub mod Pieces
+pub mod Plans
 pub mod Reading
 pub mod Settled
 pub mod Stations

@@ -56,7 +56,7 @@ bytes-most s item.Struct x = omega (arith, lsb-four (x .b))
 bytes-most s item.Other x = omega arith
 bytes-most s item.Unknown x = omega arith
 
-item-most : (s : List ℕ) (x : Row) → length (itemBytes s x) ≤ 5 + length s
+pub item-most : (s : List ℕ) (x : Row) → length (itemBytes s x) ≤ 5 + length s
 unfolding itemBytes
 item-most s x = bytes-most s (itemOf (x .kind)) x
 
@@ -82,7 +82,7 @@ pub record Stands (row : ℕ → Row) (rows : ℕ) (s W : List ℕ) (n r j : ℕ
   pub within : r ≤ rows
   pub strings : j ≤ n
 
-stands-first : {row : ℕ → Row} {rows : ℕ} (s : List ℕ) {W : List ℕ} {n : ℕ} → Collected row rows W n → Stands row rows s W n 0 0
+pub stands-first : {row : ℕ → Row} {rows : ℕ} (s : List ℕ) {W : List ℕ} {n : ℕ} → Collected row rows W n → Stands row rows s W n 0 0
 stands-first s c = record { left = rw (sub-zero, sub-zero) (c .texts s); within = omega arith; strings = omega arith }
 
 module _ {row : ℕ → Row} {rows : ℕ} {s W : List ℕ} {n r j : ℕ} (i : Stands row rows s W n r j) (h : r < rows) {x : Row} (e : x ≡ row r) where
@@ -90,7 +90,7 @@ module _ {row : ℕ → Row} {rows : ℕ} {s W : List ℕ} {n r j : ℕ} (i : St
     here : textOf s x ∷ textsOf s (from row (suc r) (rows - suc r)) ≡ from (textAt row W s) j (n - j)
     here = sym (texts-string row rows r h e s k) ∙ i .left
 
-    string-there : j < n
+    pub string-there : j < n
     string-there = go (leb n j) refl
       where
         go : (b : Bool) → leb n j ≡ b → j < n
@@ -103,7 +103,7 @@ module _ {row : ℕ → Row} {rows : ℕ} {s W : List ℕ} {n r j : ℕ} (i : St
             no : {t : Text} {ts : List Text} → t ∷ ts ≡ [] → _≡_ {A = ℕ} 0 1
             no q = cc
 
-    next-string : Stands row rows s W n (suc r) (suc j)
+    pub next-string : Stands row rows s W n (suc r) (suc j)
     next-string = record { left = tails (here ∙ from-step (textAt row W s) j n string-there); within = h; strings = string-there }
       where
         tails : {t u : Text} {ts us : List Text} → t ∷ ts ≡ u ∷ us → ts ≡ us
@@ -114,7 +114,7 @@ module _ {row : ℕ → Row} {rows : ℕ} {s W : List ℕ} {n r j : ℕ} (i : St
     rest-string = rw (from-step row r rows h, ← e, eq-eqb _ _ k, from-step (textAt row W s) j n string-there)
 
   module _ (k : x .kind ≡ 11 → ⊥) where
-    next-other : Stands row rows s W n (suc r) j
+    pub next-other : Stands row rows s W n (suc r) j
     next-other = record { left = sym (texts-other row rows r h e s k) ∙ i .left; within = h; strings = i .strings }
 
     rest-other : rest row rows s W n r j ≡ itemBytes s x ++ rest row rows s W n (suc r) j

@@ -84,7 +84,7 @@ module _ (bytes most deep : ℕ) (T : List ℕ) (rows : ℕ) (s : List ℕ) wher
   within e = tests e .0
 
   -- a writable table has a meaning, and its written form is derived with that meaning if it holds words of 32 bits
-  meant :
+  pub meant :
       writableWithin bytes most deep T rows s ≡ true
       → (cells : List Cell) × Realises s 0 (rowsOf most T rows) cells × (Below 4294967296 T → Writes (CallOrResponse deep) cells)
   unfolding rowsOf rowAt

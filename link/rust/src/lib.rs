@@ -17,7 +17,8 @@
 //! is aligned, its elements are there, `&mut` overlaps nothing else, and the
 //! bytes are at most `isize::MAX`. Every content and length has its answer. A
 //! thread needs the stack that [`STACK_READ`], [`STACK_LOOKUP`],
-//! [`STACK_WRITE`] and [`STACK_INDEX`] name; those of `std` have more.
+//! [`STACK_WRITE`], [`STACK_INDEX`] and [`STACK_PLAN`] name; those of `std` have
+//! more.
 //!
 //! Nothing is allocated. `docs/FORMAT.md` says what a message, a row and a job
 //! file are. The library is looked for where `rt staticlib binmode` puts it,
@@ -38,6 +39,7 @@ mod job;
 mod lookup;
 mod message;
 mod pieces;
+mod plan;
 mod refusal;
 mod stations;
 pub mod sys;
@@ -48,6 +50,7 @@ pub use job::{Card, Cards, Job};
 pub use lookup::{Member, Position, Source};
 pub use message::{Message, read};
 pub use pieces::Pieces;
+pub use plan::Form;
 pub use refusal::{Reason, Refusal};
 pub use stations::{Share, Station, StationPieces, shares};
 pub use table::{Children, Item, Items, Kind, Members, Table, room, set_row};
@@ -71,3 +74,5 @@ pub const STACK_LOOKUP: usize = 49_152;
 pub const STACK_WRITE: usize = 65_536;
 /// What filling an index, and looking up through one, takes of the stack.
 pub const STACK_INDEX: usize = 65_536;
+/// What writing with a plan takes, and proving it shortest.
+pub const STACK_PLAN: usize = 131_072;

@@ -55,6 +55,8 @@ pub enum Reason {
     ShortList = 21,
     /// The row number does not split the table between the stations.
     NotSplit = 22,
+    /// The plan does not send the table's strings.
+    NotTaken = 24,
     /// A sound job ends before the card asked for.
     NoCard = 26,
 }
@@ -62,7 +64,7 @@ pub enum Reason {
 use Reason::*;
 
 impl Reason {
-    const ALL: [Reason; 23] = [
+    const ALL: [Reason; 24] = [
         Ended,
         WrongPrefix,
         UnexpectedByte,
@@ -85,6 +87,7 @@ impl Reason {
         RepeatedKey,
         ShortList,
         NotSplit,
+        NotTaken,
         NoCard,
     ];
 
@@ -137,6 +140,7 @@ impl Reason {
             RepeatedKey => "a key that its Struct has already",
             ShortList => "the list is shorter than the number of members",
             NotSplit => "the row number does not split the table, or there is no such station",
+            NotTaken => "the plan does not send the table's strings",
             NoCard => "the job has no card of this number",
         }
     }

@@ -74,6 +74,31 @@ unsafe extern "C" {
         length: *mut usize,
     ) -> u8;
 
+    pub fn binmode_write_planned(
+        table: *const u32,
+        table_words: usize,
+        rows: usize,
+        text: *const u8,
+        text_len: usize,
+        plan: *const u8,
+        plan_len: usize,
+        output: *mut u8,
+        output_len: usize,
+        length: *mut usize,
+    ) -> u8;
+
+    pub fn binmode_proves_shortest(
+        table: *const u32,
+        table_words: usize,
+        rows: usize,
+        text: *const u8,
+        text_len: usize,
+        plan: *const u8,
+        plan_len: usize,
+        prices: *const u32,
+        prices_len: usize,
+    ) -> u8;
+
     pub fn binmode_read_card(
         file: *const u8,
         file_len: usize,

@@ -28,6 +28,7 @@ fn write_all(folder: &Path) -> std::io::Result<()> {
     write("refused-no-row.bin", no_row())?;
     write("refused-too-long.bin", too_long())?;
     write("transit-card.bin", transit_card())?;
+    write("shop-batch.bin", shop_batch())?;
     write("jobs/many-cards.job", many_cards())
 }
 
@@ -316,4 +317,32 @@ fn unset(number: usize) -> Vec<u8> {
     sender.text("home");
     sender.bytes.extend([b'<', 1]);
     sender.bytes
+}
+
+/// Cards of ten shops, one shop after the other. The members' names come all
+/// over; a shop's own texts, 40 of them, come again and again while its turn
+/// lasts: more than 256 texts in all.
+fn shop_batch() -> Vec<u8> {
+    const SHOPS: usize = 10;
+    const CARDS: usize = 24;
+    let mut batch = Sender::new("R");
+    batch.counted(b'A', SHOPS * CARDS);
+    let mut number = 1_usize;
+    for shop in 0..SHOPS {
+        for _ in 0..CARDS {
+            batch.counted(b'S', 5);
+            for (name, texts) in [
+                ("tariff", 12),
+                ("branch", 10),
+                ("greeting", 8),
+                ("colour", 6),
+                ("valid in zone", 4),
+            ] {
+                number = (number * 1_103_515_245 + 12_345) % 2_147_483_648;
+                batch.text(name);
+                batch.text(&format!("shop {shop}: {name} {}", number / 65_536 % texts));
+            }
+        }
+    }
+    batch.bytes
 }
