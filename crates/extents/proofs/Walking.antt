@@ -2,12 +2,11 @@
 use mathlib.Core.Path.{_≡_, refl, sym, _∙_}
 use mathlib.Core.Bool.{Bool, true, false, _&&_}
 use mathlib.Core.List.{List}
-use Prim.Native.Nat.{ℕ, zero, suc, _+_, _-_, _≤_, _<_}
+use Prim.Native.Nat.{ℕ, zero, suc, _+_, _≤_, _<_}
 use native.Mathlib.Omega.{arith}
-use lib.ListN.{length}
 use lib.Dec.{ltb, leb, eqb}
 use borrow.Author.Tests.{lt-ltb, le-ltb, le-leb, lt-leb, eq-eqb, ne-eqb, ltb-true, leb-true}
-use Rattle.draft.specs.declared.Refusal.the-variants.{BadText}
+use Rattle.draft.specs.declared.Refusal.{Refusal}
 use Rattle.draft.specs.declared.Verdict.{Verdict}
 use Rattle.draft.specs.declared.Verdict.the-variants.{Fine, Bad}
 use Rattle.draft.specs.declared.Content.{Content as ContentOf}
@@ -15,18 +14,11 @@ use Rattle.draft.specs.declared.Content.the-variants.{Double, DateTime, Binary,
 use Rattle.draft.specs.declared.Extent.{Extent}
 use Rattle.draft.specs.declared.Extent.the-variants.{Until, Unfit}
 use Rattle.draft.specs.declared.Row.{Row}
-use Rattle.text.specs.Utf8.{wellFormed}
-use Rattle.text.specs.Texts.{ascii}
 use Rattle.text.proofs.Comparing.{both, clash}
-use Rattle.lexical.specs.Double.{isDouble}
-use Rattle.lexical.specs.DateTime.{isDateTime}
-use Rattle.lexical.proofs.Doubles.{double-ascii}
-use Rattle.lexical.proofs.DateTimes.{datetime-ascii}
 use Rattle.draft.specs.Rows.{kindOf}
-use Rattle.draft.specs.Bytes.{part}
-use Rattle.draft.specs.Content.{fineIf, asciiThen, contentRule, verdict}
-use Rattle.draft.specs.Writable.{fit, ruled, Walk, closed, leaf, holding, sized, contentItem, only, string, item}
-use Rattle.extents.specs.Asked.{Ready, Checked, Walkable, isFine, isText, checkedBefore, Known}
+use Rattle.draft.specs.Content.{verdict}
+use Rattle.draft.specs.Writable.{fit, Walk, closed, leaf, holding, sized, contentItem, only, string, item}
+use Rattle.extents.specs.Asked.{Ready, Checked, Walkable, isText, checkedBefore, Known}
 use Rattle.extents.specs.Ends.{extentOf}
 
 -- a test that was made
@@ -90,63 +82,14 @@ module _ (s : List ℕ) (c : ContentOf) (x : Row) (r : ℕ) {b : Bool} (h : b �
   unfolding contentItem
   content-large i = rw (← h, i)
 
-  module _ {v : Bool} (i : b ≡ true) (j : v ≡ isFine (verdict c s (x .a) (x .b))) where
-    pub content-bad : v ≡ false → Unfit ≡ contentItem s c x r
+  module _ {v : Verdict} (i : b ≡ true) (j : v ≡ verdict c s (x .a) (x .b)) where
+    pub content-bad : {m : Refusal} → v ≡ Bad m → Unfit ≡ contentItem s c x r
     unfolding contentItem
-    content-bad k = rw (← h, i) (go (verdict c s (x .a) (x .b)) (sym j ∙ k))
-      where
-        go : (v : Verdict) → isFine v ≡ false → Unfit ≡ ruled v (leaf x r)
-        go Fine e = clash refl e
-        go (Bad m) e = refl
+    content-bad k = rw (← h, i, ← j, k)
 
-    pub content-fine : {e : Extent} → v ≡ true → e ≡ leaf x r → e ≡ contentItem s c x r
+    pub content-fine : {e : Extent} → v ≡ Fine → e ≡ leaf x r → e ≡ contentItem s c x r
     unfolding contentItem
-    content-fine k l = rw (← h, i) (l ∙ go (verdict c s (x .a) (x .b)) (sym j ∙ k))
-      where
-        go : (v : Verdict) → isFine v ≡ true → leaf x r ≡ ruled v (leaf x r)
-        go Fine e = refl
-        go (Bad m) e = clash e refl
-
--- what the rule for content says, as a yes or no
-good-only : (ascii good : Bool) → (good ≡ true → ascii ≡ true) → good ≡ isFine (asciiThen ascii good)
-good-only true true h = refl
-good-only true false h = refl
-good-only false true h = clash (h refl) refl
-good-only false false h = refl
-
-fine-if : (good : Bool) → good ≡ isFine (fineIf good BadText)
-fine-if true = refl
-fine-if false = refl
-
-module _ {c : ContentOf} (s : List ℕ) {b : Bool} where
-  pub keeps-double : c ≡ Double → b ≡ isDouble s → b ≡ isFine (contentRule c s)
-  unfolding contentRule
-  keeps-double e h = h ∙ rw e (good-only (ascii s) (isDouble s) (double-ascii s))
-
-  pub keeps-date : c ≡ DateTime → b ≡ isDateTime s → b ≡ isFine (contentRule c s)
-  unfolding contentRule
-  keeps-date e h = h ∙ rw e (good-only (ascii s) (isDateTime s) (datetime-ascii s))
-
-  pub keeps-text : c ≡ Text → b ≡ wellFormed s → b ≡ isFine (contentRule c s)
-  unfolding contentRule
-  keeps-text e h = h ∙ rw e (fine-if (wellFormed s))
-
-pub keeps-binary : {c : ContentOf} (s : List ℕ) → c ≡ Binary → true ≡ isFine (contentRule c s)
-unfolding contentRule
-keeps-binary s e = rw e
-
-module _ (c : ContentOf) (s : List ℕ) (o n : ℕ) where
-  pub fine-past : length s < o → false ≡ isFine (verdict c s o n)
-  unfolding verdict
-  fine-past h = rw (lt-leb (o + n) (length s) (omega arith))
-
-  pub fine-over : o ≤ length s → length s - o < n → false ≡ isFine (verdict c s o n)
-  unfolding verdict
-  fine-over h k = rw (lt-leb (o + n) (length s) (omega arith))
-
-  pub fine-there : {t : List ℕ} {b : Bool} → o ≤ length s → n ≤ length s - o → t ≡ part s o n → b ≡ isFine (contentRule c t) → b ≡ isFine (verdict c s o n)
-  unfolding verdict
-  fine-there h k e f = f ∙ rw (le-leb (o + n) (length s) (omega arith), e)
+    content-fine k l = l ∙ rw (← h, i, ← j, k)
 
 -- content that was checked before
 module _ (c : ContentOf) (n r good : ℕ) where
@@ -238,4 +181,4 @@ row-few h l = omega (arith, h .stated, h .most)
 pub row-room : {r rows room words : ℕ} → Ready rows room words → r < rows → r < room
 row-room h l = omega (arith, h .stated)
 
-pub ruleset walking = (fit-eq, fit-ne, fit-le, fit-gt, none-found, some-found, closed-there, closed-else, leaf-is, holding-on, sized-double, sized-date, sized-binary, sized-text, content-large, content-bad, content-fine, keeps-double, keeps-date, keeps-text, keeps-binary, fine-past, fine-over, fine-there, checked-past, checked-short, checked-is, content-known, known-only, only-past, only-not, only-else, only-here, only-there, string-is, row-few, row-room)
+pub ruleset walking = (fit-eq, fit-ne, fit-le, fit-gt, none-found, some-found, closed-there, closed-else, leaf-is, holding-on, sized-double, sized-date, sized-binary, sized-text, content-large, content-bad, content-fine, checked-past, checked-short, checked-is, content-known, known-only, only-past, only-not, only-else, only-here, only-there, string-is, row-few, row-room)

@@ -5,8 +5,7 @@ use mathlib.Core.List.{List}
 use Prim.Native.Nat.{ℕ, _*_, _≤_, _<_}
 use lib.ListN.{length}
 use lib.Dec.{ltb, leb}
-use Rattle.draft.specs.declared.Verdict.{Verdict}
-use Rattle.draft.specs.declared.Verdict.the-variants.{Fine, Bad}
+use Rattle.draft.specs.declared.Verdict.the-variants.{Fine}
 use Rattle.draft.specs.declared.Content.{Content as ContentOf}
 use Rattle.draft.specs.declared.Content.the-variants.{Double, DateTime, Binary, Text}
 use Rattle.draft.specs.declared.Row.{Row}
@@ -28,10 +27,6 @@ pub record Checked (row : ℕ → Row) (s : List ℕ) (good : ℕ) : Type 0 wher
 pub record Walkable (s : List ℕ) (room rows : ℕ) (T : List ℕ) (good : ℕ) : Type 0 where
   pub ready : Ready rows room (length T)
   pub checked : Checked (rowAt room T) s good
-
-abbrev pub isFine : Verdict → Bool
-isFine Fine = true
-isFine (Bad m) = false
 
 abbrev pub isText : ContentOf → Bool
 isText Double = false

@@ -3,13 +3,13 @@
 // a number stays in a register where an enum would lie in memory. Long Strings in rows before row `good` were checked before.
 use draft::Content;
 use draft::Row;
+use draft::Verdict;
 ghost use mathlib.Core.Path.{_≡_};
 ghost use Prim.Native.Nat.{_+_, _<_};
 ghost use Rattle.draft.specs.Rows.{kindOf};
-ghost use Rattle.draft.specs.Content.{contentRule, verdict};
 ghost use Rattle.draft.specs.Table.{rowAt};
 ghost use Rattle.draft.specs.Writable.{closed, leaf, over, holding, integerItem, booleanItem, sized as sizedBy, contentItem, only, string};
-ghost use Rattle.extents.specs.Asked.{Walkable, Known, checkedBefore, isFine};
+ghost use Rattle.extents.specs.Asked.{Walkable, Known, checkedBefore};
 ghost use Rattle.extents.specs.Ends.{extentOf};
 
 // A String of at least so many bytes is long: it may have been checked before.
@@ -87,31 +87,6 @@ fn is_checked(content: Content, n: u32, r: usize, good: usize) -> bool
     }
 }
 
-// Whether bytes keep the rule for an item's content.
-fn keeps_rule(content: Content, s: &[u8]) -> bool
-    ensures { λ b. ⌜ b ≡ isFine (contentRule content (now (s .entry))) ⌝ }
-{
-    match content {
-        Content::Double => double::is_double(s),
-        Content::DateTime => date::is_datetime(s),
-        Content::Binary => true,
-        Content::Text => text_check::is_utf8(s),
-    }
-}
-
-// Whether the n bytes at o are all there and keep their rule. Why they do not is no matter here, so nothing but a yes or no comes back.
-fn is_fine(content: Content, s: &[u8], o: usize, n: usize) -> bool
-    ensures { λ b. ⌜ b ≡ isFine (verdict content (now (s .entry)) o n) ⌝ }
-{
-    if s.len() < o {
-        return false;
-    }
-    if s.len() - o < n {
-        return false;
-    }
-    keeps_rule(content, content::part(s, o, n))
-}
-
 // Content that lies inside the text bytes and keeps its rule.
 pub fn walk_content(text: &[u8], content: Content, row: Row, r: usize, good: usize) -> usize
     requires { ⌜ (r < 4096) × Known (now text) content row r good ⌝ }
@@ -121,12 +96,14 @@ pub fn walk_content(text: &[u8], content: Content, row: Row, r: usize, good: usi
         return walk_leaf(row, r);
     }
     if sized(content, row.b) {
-        if is_fine(content, text, row.a as usize, row.b as usize) {
-            return walk_leaf(row, r);
+        let verdict = content::inspect(content, text, row.a as usize, row.b as usize);
+        match verdict {
+            Verdict::Fine => walk_leaf(row, r),
+            Verdict::Bad(_) => 0,
         }
-        return 0;
+    } else {
+        0
     }
-    0
 }
 
 // Content of one kind, where nothing else is allowed.

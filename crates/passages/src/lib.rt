@@ -1,10 +1,10 @@
 // Whether parts of some bytes are well-formed UTF-8, with notes on what was passed before, so that bytes that many parts share are
 // checked once: a part costs at most 518 bytes checked and 256 notes read. See specs/Notes.antt for the notes.
 // Assumes an entry for each 256 bytes, and notes that are true.
-use text_check::is_utf8;
 ghost use mathlib.Core.Path.{_≡_};
 ghost use Prim.Native.Nat.{_+_, _*_, _%_, _≤_, _<_};
 ghost use lib.ListN.{length, getD};
+ghost use Rattle.text.specs.Utf8.{wellFormed};
 ghost use Rattle.passages.specs.Notes.{noted as notedBy, True, Notes, Passed, Judged};
 
 // A word as a number: the caller has no fit of the element to show.
@@ -12,6 +12,13 @@ fn word(x: u16) -> usize
     ensures { λ r. ⌜ r ≡ x ⌝ }
 {
     x as usize
+}
+
+// Whether the bytes are well-formed.
+fn is_utf8(s: &[u8]) -> bool
+    ensures { λ b. ⌜ b ≡ wellFormed (now (s .entry)) ⌝ }
+{
+    text_check::walk_from(s, 0)
 }
 
 // How many bytes from `here` on are noted as well-formed.

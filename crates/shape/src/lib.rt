@@ -17,7 +17,7 @@ pub const MOST_BYTES: usize = 65536;
 pub const MOST_NESTING: usize = 32;
 
 // Strings of fewer bytes altogether are checked one by one, as the rows are walked.
-const MANY_BYTES: usize = 2097152;
+const MANY_BYTES: usize = 8388608;
 
 // A fault's Struct, and what its rule says.
 fn walk_fault_struct(

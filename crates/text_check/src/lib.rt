@@ -58,8 +58,9 @@ fn walk_runs(table: &[u8; 256], s: &[u8], from: usize) -> bool
     true
 }
 
-// The same, with the table laid out here, so that it is only for texts that have a byte from 128 on.
-fn walk_from(s: &[u8], from: usize) -> bool
+// The same, with the table laid out here, so that it is only for texts that have a byte from 128 on. It has callers outside too, so that it
+// is compiled by itself: inside another function its loop was half as fast.
+pub fn walk_from(s: &[u8], from: usize) -> bool
     requires { ⌜ wellFormed (now s) ≡ wellFormed (drop from (now s)) ⌝ }
     ensures { λ r. ⌜ r ≡ wellFormed (now (s .entry)) ⌝ }
 {

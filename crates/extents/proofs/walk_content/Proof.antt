@@ -9,10 +9,12 @@ walk-content-spec = tie.close (tie.spec
     (λ c κs. search needs)  -- walk-leaf-requires
     (λ c. search walking)  -- returns
     (λ c κs. search needs)  -- sized-requires
-    (λ c. search needs)  -- cast-is-fine
-    (λ c. search needs)  -- cast-is-fine-2
-    (λ c κs. search needs)  -- is-fine-requires
+    (λ c. search needs)  -- cast-inspect
+    (λ c. search needs)  -- cast-inspect-2
+    (λ c κs. search needs)  -- inspect-requires
+    (λ c. search needs)  -- enum-told
     (λ c κs. search needs)  -- walk-leaf-requires-2
+    (λ c. search needs)  -- enum-told-2
     (λ c. search walking)  -- returns-2
     (λ c. search walking)  -- returns-3
     (λ c. search walking))  -- returns-4
