@@ -120,8 +120,8 @@ fn tables() -> Vec<(&'static str, Table)> {
             ),
         ),
         (
-            "29 Strings of 64 KB",
-            Table::strings(&any, (0..29).map(|i| (nth(i), end - nth(i)))),
+            "125 Strings of 64 KB, each checked",
+            Table::strings(&any, (0..125).map(|i| (nth(i), end - nth(i)))),
         ),
         ("equal Strings at different offsets", long(&ascii, 1)),
         ("Strings that differ in one byte", alike(1, MOST, ARRAY)),
