@@ -1,78 +1,21 @@
--- A state as six words and back, and what answers each return of the functions on messages in pieces. Assumes nothing.
-use mathlib.Core.Path.{_≡_, refl, sym, _∙_, ap}
-use mathlib.Core.List.{List, [], _∷_}
+-- What answers each return of the exported functions on messages in pieces. Assumes nothing.
+use mathlib.Core.Path.{_≡_, _∙_, ap}
+use mathlib.Core.List.{List}
 use Prim.Native.Nat.{ℕ}
-use native.Mathlib.Omega.{arith}
-use lib.ListN.{length, getD}
-use borrow.Author.Tests.{eq-eqb, ne-eqb}
-use Rattle.draft.specs.declared.Refusal.{Refusal}
-use Rattle.draft.specs.Refusals.{numberOf, refusalOf}
-use Rattle.draft.proofs.Naming.{number-some, number-own}
-use Rattle.pieces.specs.declared.PieceRefusal.{PieceRefusal}
-use Rattle.pieces.specs.declared.PieceRefusal.the-variants.{Message, ShortRoom}
 use Rattle.pieces.specs.declared.State.{State}
-use Rattle.pieces.specs.declared.State.the-variants.{More, Accepted, Refused}
-use Rattle.pieces.specs.Steps.{numberFor, refusalFor, Went, Closed}
+use Rattle.pieces.specs.Steps.{Went, Closed}
 use Rattle.pieces.specs.Runs.{begun}
-use Rattle.binmode.specs.InPieces.{answerFor, wordsOf, stateFor, stateOf, PieceReported, EndReported}
+use Rattle.piece_reports.specs.Words.{wordsOf, stateOf, Kept}
+use Rattle.binmode.specs.InPieces.{PieceReported, EndReported}
 
--- no refusal of a message has the number 4 or 255
-no-four : (m : Refusal) → numberOf m ≡ 4 → ⊥
-unfolding refusalOf
-no-four m e = let i : numberOf (refusalOf 4) ≡ 4 = ap (λ (n : ℕ). numberOf (refusalOf n)) (sym e) ∙ ap numberOf (number-own m) ∙ e in omega (arith, i)
+pub start-words : {state : State} {w : List ℕ} {n : ℕ} → state ≡ begun → Kept state w n → w ≡ wordsOf begun
+start-words e f = f .words ∙ ap wordsOf e
 
-no-more : (m : Refusal) → numberOf m ≡ 255 → ⊥
-unfolding refusalOf
-no-more m e = let i : numberOf (refusalOf 255) ≡ 255 = ap (λ (n : ℕ). numberOf (refusalOf n)) (sym e) ∙ ap numberOf (number-own m) ∙ e in omega (arith, i)
+module _ (w : List ℕ) {before after : State} {w′ : List ℕ} {n : ℕ} (b : before ≡ stateOf w) where
+  pub reports-piece : {p R T R′ T′ : List ℕ} → Went before p R T R′ T′ after → Kept after w′ n → PieceReported w p R T w′ R′ T′ n
+  reports-piece g e = record { state = after; went = rw b at g; kept = e }
 
--- THE STATE IS KEPT: the words of a state, handed back, are that state
-pub kept : (state : State) → stateOf (wordsOf state) ≡ state
-unfolding stateOf
-kept (More held wanted place) = refl
-kept (Accepted rows used) = refl
-kept (Refused ShortRoom place) = refl
-kept (Refused (Message m) place) =
-    rw (ne-eqb (numberOf m) 255 (no-more m), ne-eqb (numberOf m) 0 (number-some m), ne-eqb (numberOf m) 4 (no-four m), number-own m)
+  pub reports-end : {bytes : ℕ} {T T′ : List ℕ} → Closed before bytes T T′ after → Kept after w′ n → EndReported w bytes T w′ T′ n
+  reports-end g e = record { state = after; closed = rw b at g; kept = e }
 
-module _ (state : State) where
-  pub answer-more : {held wanted place : ℕ} → state ≡ More held wanted place → 255 ≡ answerFor state
-  answer-more e = rw e
-
-  pub answer-accepted : {rows used : ℕ} → state ≡ Accepted rows used → 0 ≡ answerFor state
-  answer-accepted e = rw e
-
-  pub answer-refused : {m : PieceRefusal} {place n : ℕ} → state ≡ Refused m place → n ≡ numberFor m → n ≡ answerFor state
-  answer-refused e f = rw (e, f)
-
-  pub words-more : {held wanted place : ℕ} → state ≡ More held wanted place → 255 ∷ 0 ∷ 0 ∷ place ∷ held ∷ wanted ∷ [] ≡ wordsOf state
-  words-more e = rw e
-
-  pub words-accepted : {rows used : ℕ} → state ≡ Accepted rows used → 0 ∷ rows ∷ used ∷ 0 ∷ 0 ∷ 0 ∷ [] ≡ wordsOf state
-  words-accepted e = rw e
-
-  pub words-refused : {m : PieceRefusal} {place n : ℕ} → state ≡ Refused m place → n ≡ numberFor m → n ∷ 0 ∷ 0 ∷ place ∷ 0 ∷ 0 ∷ [] ≡ wordsOf state
-  words-refused e f = rw (e, f)
-
-module _ (answer rows used place held wanted : ℕ) where
-  pub state-more : answer ≡ 255 → More held wanted place ≡ stateFor answer rows used place held wanted
-  state-more e = rw e
-
-  pub state-accepted : (answer ≡ 255 → ⊥) → answer ≡ 0 → Accepted rows used ≡ stateFor answer rows used place held wanted
-  state-accepted h e = rw (ne-eqb answer 255 h, e)
-
-  pub state-refused : {m : PieceRefusal} → (answer ≡ 255 → ⊥) → (answer ≡ 0 → ⊥) → m ≡ refusalFor answer → Refused m place ≡ stateFor answer rows used place held wanted
-  state-refused h k e = rw (ne-eqb answer 255 h, ne-eqb answer 0 k, e)
-
-pub start-words : {state : State} {w : List ℕ} → state ≡ begun → w ≡ wordsOf state → w ≡ wordsOf begun
-start-words e f = rw e at f
-
-module _ (w : List ℕ) {before after : State} {w′ : List ℕ} {n : ℕ} (b : before ≡ stateFor (getD w 0 0) (getD w 1 0) (getD w 2 0) (getD w 3 0) (getD w 4 0) (getD w 5 0)) where
-  pub reports-piece : {p R T R′ T′ : List ℕ} → Went before p R T R′ T′ after → w′ ≡ wordsOf after → n ≡ answerFor after → PieceReported w p R T w′ R′ T′ n
-  unfolding stateOf
-  reports-piece g e f = record { state = after; went = rw b at g; words = e; answer = f }
-
-  pub reports-end : {bytes : ℕ} {T T′ : List ℕ} → Closed before bytes T T′ after → w′ ≡ wordsOf after → n ≡ answerFor after → EndReported w bytes T w′ T′ n
-  unfolding stateOf
-  reports-end g e f = record { state = after; closed = rw b at g; words = e; answer = f }
-
-pub ruleset in-pieces = (answer-more, answer-accepted, answer-refused, words-more, words-accepted, words-refused, state-more, state-accepted, state-refused, start-words, reports-piece, reports-end)
+pub ruleset in-pieces = (start-words, reports-piece, reports-end)

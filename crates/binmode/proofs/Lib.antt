@@ -1,6 +1,4 @@
 pub mod AtStations
-pub mod Cards
-pub mod Choosing
 pub mod InPieces
 pub mod Looking
 pub mod Planning

@@ -1,24 +1,21 @@
--- What answers each return of the exported functions on lookups and positions. Assumes nothing.
+-- What answers each return of the exported functions on lookups, positions and job defaults. Assumes nothing.
 use mathlib.Core.Path.{_≡_, ap, _∙_}
-use mathlib.Core.List.{List}
 use Prim.Native.Nat.{ℕ}
-use lib.IntN.{ℤ}
-use mir.Syntax.{w64}
-use mir.Val.{SFits, toZ, ofZ}
-use mir.Facts.{toZ-ofZ}
 use Rattle.lookup.specs.declared.Answer.{Answer}
 use Rattle.lookup.specs.declared.Report.{Report}
-use Rattle.lookup.specs.Reports.{reported, reportOf}
+use Rattle.lookup.specs.Reports.{reportOf}
+use Rattle.position.specs.declared.Position.{Position}
 use Rattle.position.specs.declared.Placed.{Placed}
-use Rattle.position.specs.Placing.{outcomeNumber, at}
-use Rattle.binmode.specs.Positions.{PositionReported}
+use Rattle.choice.specs.declared.Choice.{Choice}
+use Rattle.lookup_reports.specs.Numbers.{PositionReported, TextReport, textReportOf}
 
-pub reports-answer : {a b : Answer} {r : Report} → a ≡ b → r ≡ reportOf a → SFits w64 (r .whole)
-    → reported (r .number) (r .sort) (toZ w64 (ofZ w64 (r .whole))) (r .decimal) (r .offset) (r .length) ≡ reportOf b
-reports-answer {a} {b} {r} e f g = ap (λ (z : ℤ). reported (r .number) (r .sort) z (r .decimal) (r .offset) (r .length)) (toZ-ofZ g) ∙ rw (f, e)
+pub reports-member : {a b : Answer} {r x : Report} → a ≡ b → r ≡ reportOf a → x ≡ r → x ≡ reportOf b
+reports-member e f g = g ∙ f ∙ ap reportOf e
 
-pub reports-position : {p q : Placed} {n : ℕ} → p ≡ q → n ≡ outcomeNumber (p .outcome)
-    → PositionReported q n (at (p .position .x) (p .position .y) (p .position .turn))
-reports-position e f = record { says = rw (f, e); gives = rw e }
+pub reports-position : {p q : Placed} {n : ℕ} {v : Position} → p ≡ q → PositionReported p n v → PositionReported q n v
+reports-position e f = rw e at f
 
-pub ruleset looking = (reports-answer, reports-position)
+pub reports-text : {c x : Choice} {t : TextReport} → c ≡ x → t ≡ textReportOf c → t ≡ textReportOf x
+reports-text e f = f ∙ ap textReportOf e
+
+pub ruleset looking = (reports-member, reports-position, reports-text)

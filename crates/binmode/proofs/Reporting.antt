@@ -1,30 +1,36 @@
--- What answers each return of the exported functions. Assumes nothing.
-use mathlib.Core.Path.{_≡_, refl, _∙_, sym}
+-- What answers each return of the exported functions that read and write. Assumes nothing.
+use mathlib.Core.Path.{_≡_, _∙_, ap}
 use mathlib.Core.List.{List}
 use Prim.Native.Nat.{ℕ}
-use Rattle.draft.specs.declared.Refusal.{Refusal}
-use Rattle.draft.specs.Refusals.{numberOf}
 use Rattle.draft.specs.Read.{Reading}
 use Rattle.reader.specs.declared.Answer.{Answer}
-use Rattle.reader.specs.declared.Answer.the-variants.{Accepted, Refused}
-use Rattle.reader.specs.Answers.{answerOf, reportOf, Answers}
-use Rattle.writer.specs.declared.Answer.the-variants as writer
-use Rattle.writer.specs.declared.Answer.{Answer as WriterAnswer}
-use Rattle.writer.specs.Answers.{Did}
-use Rattle.binmode.specs.Reported.{report, Reported, WriteReported}
+use Rattle.reader.specs.Answers.{reportOf, Answers}
+use Rattle.writer.specs.declared.Answer as W
+use Rattle.writer.specs.Answers as writer
+use Rattle.records.specs.declared.Found.{Found}
+use Rattle.job.specs.declared.Answer as J
+use Rattle.job.specs.Cards as job
+use Rattle.read_reports.specs.Numbers.{report, cardReport, Finding, findingOf}
+use Rattle.write_reports.specs.Numbers as writing
+use Rattle.binmode.specs.Reported.{Reported, WriteReported}
+use Rattle.binmode.specs.Cards.{CardReported}
 
-module _ (o : Reading) {words : ℕ} {T : List ℕ} {a : Answer} (d : Answers o words T a) where
-  pub reports-acceptance : {n m : ℕ} → a ≡ Accepted n m → Reported o words T 0 n m 0
-  reports-acceptance e = record { numbers = rw (← d .says, e); table = d .leaves }
+pub reports-reading :
+    (o : Reading) {words : ℕ} {T : List ℕ} {a : Answer} {n rows used place : ℕ} → Answers o words T a → report n rows used place ≡ reportOf a
+    → Reported o words T n rows used place
+reports-reading o d e = record { numbers = e ∙ ap reportOf (d .says); table = d .leaves }
 
-  pub reports-refusal : {m : Refusal} {p k : ℕ} → a ≡ Refused m p → k ≡ numberOf m → Reported o words T k 0 0 p
-  reports-refusal e f = record { numbers = rw (← d .says, e, f); table = d .leaves }
+pub reports-writing :
+    (T : List ℕ) (rows : ℕ) (s out : List ℕ) {out′ : List ℕ} {a : W.Answer} {n size : ℕ} → writer.Did T rows s out out′ a
+    → writing.report n size ≡ writer.reportOf a → WriteReported T rows s out out′ n size
+reports-writing T rows s out d e = record { numbers = e ∙ ap writer.reportOf (d .says); output = d .leaves ∙ rw (d .says) }
 
-module _ (T : List ℕ) (rows : ℕ) (s out : List ℕ) {out′ : List ℕ} {a : WriterAnswer} (d : Did T rows s out out′ a) where
-  pub reports-written : {n : ℕ} → a ≡ writer.Written n → WriteReported T rows s out out′ 0 n
-  reports-written e = record { numbers = rw (← d .says, e); output = d .leaves ∙ rw (d .says) }
+pub reports-card :
+    (s : List ℕ) (f : Found) {words : ℕ} {T : List ℕ} {a : J.Answer} {n rows used place body : ℕ} → job.Reads s words f T a
+    → cardReport n rows used place body ≡ job.reportOf a → CardReported s words f T n rows used place body
+reports-card s f d e = record { numbers = e ∙ ap job.reportOf (d .says); table = d .leaves }
 
-  pub reports-unwritten : {m : Refusal} {k : ℕ} → a ≡ writer.Refused m → k ≡ numberOf m → WriteReported T rows s out out′ k 0
-  reports-unwritten e f = record { numbers = rw (← d .says, e, f); output = d .leaves ∙ rw (d .says) }
+pub reports-found : {f g : Found} {t : Finding} → f ≡ g → t ≡ findingOf f → t ≡ findingOf g
+reports-found e h = h ∙ ap findingOf e
 
-pub ruleset reporting = (reports-acceptance, reports-refusal, reports-written, reports-unwritten)
+pub ruleset reporting = (reports-reading, reports-writing, reports-card, reports-found)

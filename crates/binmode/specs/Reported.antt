@@ -4,14 +4,10 @@ use mathlib.Core.List.{List}
 use Prim.Native.Nat.{ℕ}
 use lib.ListN.{length}
 use Rattle.draft.specs.Read.{Reading}
-use Rattle.reader.specs.Answers.{answerOf, tableOf, Report, reportOf}
+use Rattle.reader.specs.Answers.{answerOf, tableOf, reportOf}
 use Rattle.writer.specs.Answers as writer
-
-abbrev pub writeReport : ℕ → ℕ → writer.Report
-writeReport number size = record { number = number; length = size; place = 0 }
-
-abbrev pub report : ℕ → ℕ → ℕ → ℕ → Report
-report number rows used place = record { number = number; rows = rows; used = used; place = place }
+use Rattle.read_reports.specs.Numbers.{report}
+use Rattle.write_reports.specs.Numbers as writing
 
 -- of a reading into a table of so many words, which is T′ after the call
 pub record Reported (o : Reading) (words : ℕ) (T′ : List ℕ) (number rows used place : ℕ) : Type 0 where
@@ -20,5 +16,5 @@ pub record Reported (o : Reading) (words : ℕ) (T′ : List ℕ) (number rows u
 
 -- of writing a table with so many stated rows, whose texts lie in s, into an output that is out before the call and out′ after it
 pub record WriteReported (T : List ℕ) (rows : ℕ) (s out out′ : List ℕ) (number size : ℕ) : Type 0 where
-  pub numbers : writeReport number size ≡ writer.reportOf (writer.answerOf T rows s (length out))
+  pub numbers : writing.report number size ≡ writer.reportOf (writer.answerOf T rows s (length out))
   pub output : out′ ≡ writer.outputOf (writer.answerOf T rows s (length out)) (writer.formOf T rows s) (length out)

@@ -1,9 +1,8 @@
 // Job defaults behind a card, for programs in C and Rust. A slice passes as a pointer and then a length, a `&mut` to a number as a pointer; since no
 // slice can be returned, a text is told by which bytes it lies in, its offset and its length.
-use choice::Choice;
 ghost use mathlib.Core.Path.{_≡_};
 ghost use Rattle.defaults.specs.Defaults.{source as sourceIn, chosen};
-ghost use Rattle.binmode.specs.Defaults.{textReport, textReportOf};
+ghost use Rattle.lookup_reports.specs.Numbers.{textReport, textReportOf};
 
 // The text that a card has under a key, or behind it the defaults: the result is 0, or the refusal's number; every number lent is set.
 #[no_mangle]
@@ -34,30 +33,5 @@ pub extern "C" fn binmode_default_text(
         defaults_row,
         key,
     );
-    match choice {
-        Choice::Card {
-            offset: o,
-            length: n,
-        } => {
-            *source = 0;
-            *offset = o as u64;
-            *length = n as u64;
-            0
-        }
-        Choice::Defaults {
-            offset: o,
-            length: n,
-        } => {
-            *source = 1;
-            *offset = o as u64;
-            *length = n as u64;
-            0
-        }
-        Choice::Refused(refusal) => {
-            *source = 0;
-            *offset = 0;
-            *length = 0;
-            choice::number(refusal)
-        }
-    }
+    lookup_reports::text(choice, source, offset, length)
 }

@@ -1,4 +1,5 @@
-// Reading, writing and job files for programs in C and Rust. A slice passes as a pointer and then a length, a `&mut u64` as a pointer.
+// Reading, writing and job files for programs in C and Rust. A slice passes as a pointer and then a length, a `&mut u64` as a pointer. Each function
+// reports the answer of the call below it, in the numbers that are lent, by the crates of reports.
 mod in_pieces; // in_pieces.rt: messages in pieces
 mod job_defaults; // job_defaults.rt: job defaults behind a card
 mod lookups; // lookups.rt: looking up members, and positions
@@ -7,13 +8,13 @@ mod stations; // stations.rt: stations four and five on one table
 mod planned; // planned.rt: writing with a plan, and prices that prove it shortest
 mod version; // version.rt: the version of the interface
 
-use reader::Answer;
 ghost use mathlib.Core.Path.{_≡_};
 ghost use lib.ListN.{length, drop};
 ghost use Rattle.reader.specs.Answers.{reading};
 ghost use Rattle.records.specs.Job.{find, bodyOf};
 ghost use Rattle.binmode.specs.Reported.{Reported, WriteReported};
-ghost use Rattle.binmode.specs.Cards.{CardReported, finding, findingOf};
+ghost use Rattle.binmode.specs.Cards.{CardReported};
+ghost use Rattle.read_reports.specs.Numbers.{finding, findingOf};
 
 // Reads a message into a table, and reports document 01's numbers: the result is 0 for acceptance, or the refusal's number.
 #[no_mangle]
@@ -26,21 +27,7 @@ pub extern "C" fn binmode_read(
 ) -> u8
     ensures { λ n. ⌜ Reported (reading (now (message .entry)) (length (now (table .entry)))) (length (now (table .entry))) (now (table .exit)) n (now (rows .exit)) (now (used .exit)) (now (place .exit)) ⌝ }
 {
-    let answer = reader::read(message, table);
-    match answer {
-        Answer::Accepted { rows: n, used: m } => {
-            *rows = n as u64;
-            *used = m as u64;
-            *place = 0;
-            0
-        }
-        Answer::Refused { refusal, place: p } => {
-            *rows = 0;
-            *used = 0;
-            *place = p as u64;
-            draft::number(refusal)
-        }
-    }
+    read_reports::message(reader::read(message, table), rows, used, place)
 }
 
 // Writes a table with a stated number of rows, whose texts lie in the text bytes, and reports document 01's numbers: the result is 0
@@ -55,17 +42,7 @@ pub extern "C" fn binmode_write(
 ) -> u8
     ensures { λ n. ⌜ WriteReported (now (table .entry)) rows (now (text .entry)) (now (output .entry)) (now (output .exit)) n (now (length .exit)) ⌝ }
 {
-    let answer = writer::write(table, rows, text, output);
-    match answer {
-        writer::Answer::Written { length: n } => {
-            *length = n as u64;
-            0
-        }
-        writer::Answer::Refused(refusal) => {
-            *length = 0;
-            draft::number(refusal)
-        }
-    }
+    write_reports::written(writer::write(table, rows, text, output), length)
 }
 
 // Reads a card of a job file into a table, and reports document 02's numbers: the result is 0 for acceptance, or the refusal's number.
@@ -81,34 +58,7 @@ pub extern "C" fn binmode_read_card(
 ) -> u8
     ensures { λ n. ⌜ CardReported (now (file .entry)) (length (now (table .entry))) (bodyOf (now (file .entry)) number) (now (table .exit)) n (now (rows .exit)) (now (used .exit)) (now (place .exit)) (now (body .exit)) ⌝ }
 {
-    let answer = job::read_card(file, number, table);
-    match answer {
-        job::Answer::Accepted {
-            rows: n,
-            used: m,
-            body: b,
-        } => {
-            *rows = n as u64;
-            *used = m as u64;
-            *place = 0;
-            *body = b as u64;
-            0
-        }
-        job::Answer::Refused { refusal, place: p } => {
-            *rows = 0;
-            *used = 0;
-            *place = p as u64;
-            *body = 0;
-            draft::number(refusal)
-        }
-        job::Answer::Missing { refusal, place: p } => {
-            *rows = 0;
-            *used = 0;
-            *place = p as u64;
-            *body = 0;
-            records::number(refusal)
-        }
-    }
+    read_reports::card(job::read_card(file, number, table), rows, used, place, body)
 }
 
 // Finds the next card of a job file, for one who goes from card to card: `number` cards stand before the record at `from`. Reports where
@@ -124,22 +74,5 @@ pub extern "C" fn binmode_next_card(
 ) -> u8
     ensures { λ n. ⌜ finding n (now (start .exit)) (now (size .exit)) (now (place .exit)) ≡ findingOf (find number number from 0 (drop from (now (file .entry)))) ⌝ }
 {
-    let found = records::find_next(file, number, from);
-    match found {
-        records::Found::Body {
-            start: b,
-            length: n,
-        } => {
-            *start = b as u64;
-            *size = n as u64;
-            *place = 0;
-            0
-        }
-        records::Found::Missing { refusal, place: p } => {
-            *start = 0;
-            *size = 0;
-            *place = p as u64;
-            records::number(refusal)
-        }
-    }
+    read_reports::found(records::find_next(file, number, from), start, size, place)
 }

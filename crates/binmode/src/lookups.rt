@@ -3,7 +3,7 @@ ghost use mathlib.Core.Path.{_≡_};
 ghost use Rattle.lookup.specs.Answers.{lookup as lookupIn};
 ghost use Rattle.lookup.specs.Reports.{reported, reportOf};
 ghost use Rattle.position.specs.Placing.{at, position as positionIn};
-ghost use Rattle.binmode.specs.Positions.{PositionReported};
+ghost use Rattle.lookup_reports.specs.Numbers.{PositionReported};
 
 // Looks up a member of the Struct of a row, and reports document 02's numbers: the result is 0, or the refusal's number; every number lent is set.
 #[no_mangle]
@@ -22,13 +22,7 @@ pub extern "C" fn binmode_lookup(
     ensures { λ n. ⌜ reported n (now (sort .exit)) (now (number .exit)) (now (decimal .exit)) (now (offset .exit)) (now (length .exit)) ≡ reportOf (lookupIn (now (table .entry)) rows (now (text .entry)) row (now (key .entry))) ⌝ }
 {
     let report = lookup::report_of(lookup::lookup(table, rows, text, row, key));
-    *sort = report.sort;
-    let whole = report.whole;
-    *number = whole;
-    *decimal = report.decimal;
-    *offset = report.offset;
-    *length = report.length;
-    report.number
+    lookup_reports::member(report, sort, number, decimal, offset, length)
 }
 
 // The position in the Struct of a row: the result is 0, or the refusal's number and three plus zeros.
@@ -44,11 +38,5 @@ pub extern "C" fn binmode_position(
 ) -> u8
     ensures { λ n. ⌜ PositionReported (positionIn (now (table .entry)) rows (now (text .entry)) row) n (at (now (x .exit)) (now (y .exit)) (now (turn .exit))) ⌝ }
 {
-    let placed = position::position_of(table, rows, text, row);
-    let position = placed.position;
-    *x = position.x;
-    *y = position.y;
-    *turn = position.turn;
-    let outcome = placed.outcome;
-    position::number(outcome)
+    lookup_reports::position(position::position_of(table, rows, text, row), x, y, turn)
 }

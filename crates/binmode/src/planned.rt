@@ -17,21 +17,7 @@ pub extern "C" fn binmode_write_planned(
 ) -> u8
     ensures { λ n. ⌜ WritePlannedReported (now (table .entry)) rows (now (text .entry)) (now (plan .entry)) (now (output .entry)) (now (output .exit)) n (now (length .exit)) ⌝ }
 {
-    let answer = plan_writer::write(table, rows, text, plan, output);
-    match answer {
-        plan_writer::Answer::Written { length: n } => {
-            *length = n as u64;
-            0
-        }
-        plan_writer::Answer::Refused(refusal) => {
-            *length = 0;
-            draft::number(refusal)
-        }
-        plan_writer::Answer::NotTaken => {
-            *length = 0;
-            24
-        }
-    }
+    write_reports::plans::planned(plan_writer::write(table, rows, text, plan, output), length)
 }
 
 // Whether a plan and prices prove that no message with the table's meaning is shorter than the plan's: 1 for yes; 0 is no statement.

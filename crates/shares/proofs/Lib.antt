@@ -1,3 +1,4 @@
 pub mod Lent
 pub mod Lying
+pub mod Numbered
 pub mod Sharing

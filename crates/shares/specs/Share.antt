@@ -1,9 +1,9 @@
 -- Request E10: a table split at a row number, a station's share of it, and what a call on that share leaves of the table. Assumes nothing.
-use mathlib.Core.Bool.{Bool, _&&_, cond}
+use mathlib.Core.Bool.{Bool, _&&_, _||_, cond}
 use mathlib.Core.List.{List, _++_}
 use Prim.Native.Nat.{ℕ, _-_, _*_, _/_}
 use lib.ListN.{length, take, drop}
-use lib.Dec.{ltb}
+use lib.Dec.{ltb, eqb}
 use Rattle.shares.specs.declared.Station.{Station}
 use Rattle.shares.specs.declared.Station.the-variants.{Four, Five}
 use Rattle.shares.specs.declared.Share.{Share}
@@ -12,6 +12,13 @@ use Rattle.shares.specs.declared.Share.the-variants.{Words, NotSplit}
 abbrev pub other : Station → Station
 other Four = Five
 other Five = Four
+
+-- a station by its number; a number that is none's is taken with row 0, which splits no table
+abbrev pub stationOf : ℕ → Station
+stationOf number = cond (eqb number 5) Five Four
+
+abbrev pub splitFor : ℕ → ℕ → ℕ
+splitFor number split = cond (eqb number 4 || eqb number 5) split 0
 
 -- a table's whole rows, 'not cut to 4,096'
 abbrev pub wholeRows : ℕ → ℕ

@@ -1,7 +1,7 @@
 // One table for two stations: rows below a row number are station four's, the rest of the whole rows five's. Here it is judged whether a row
-// number splits a table, and where a station's share of it lies.
+// number splits a table, and where a station's share of it lies. Programs in C and Rust name a station by the number 4 or 5.
 ghost use mathlib.Core.Path.{_≡_};
-ghost use Rattle.shares.specs.Share.{shareFor};
+ghost use Rattle.shares.specs.Share.{stationOf, splitFor, shareFor};
 
 pub enum Station {
     Four,
@@ -12,6 +12,29 @@ pub enum Station {
 pub enum Share {
     Words { first: usize, end: usize },
     NotSplit,
+}
+
+// The station of a number: of one that is none's, four.
+pub fn station_of(number: u8) -> Station
+    ensures { λ s. ⌜ s ≡ stationOf number ⌝ }
+{
+    if number == 5 {
+        return Station::Five;
+    }
+    Station::Four
+}
+
+// The row to split at: for a number that is no station's, 0, which splits no table.
+pub fn split_for(number: u8, split: usize) -> usize
+    ensures { λ n. ⌜ n ≡ splitFor number split ⌝ }
+{
+    if number == 4 {
+        return split;
+    }
+    if number == 5 {
+        return split;
+    }
+    0
 }
 
 // A station's share of a table of so many words, which is split at a row.

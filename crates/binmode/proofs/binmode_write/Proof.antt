@@ -6,10 +6,6 @@ use Rattle.binmode.proofs.binmode_write.Tie as tie
 pub binmode-write-spec : {M : Type 1} → statement M
 binmode-write-spec = tie.close (tie.spec
     (λ c κs. search needs)  -- write-requires
-    (λ c. search needs)  -- enum-known-answer
-    (λ c. search needs)  -- enum-known-answer-2
-    (λ c κs. search needs)  -- number-requires
+    (λ c κs. search needs)  -- written-requires
     (λ c. search needs)  -- same-length
-    (λ c. search reporting)  -- returns
-    (λ c. search needs)  -- same-length-2
-    (λ c. search reporting))  -- returns-2
+    (λ c. search reporting))  -- returns

@@ -7,4 +7,5 @@ pub binmode-lookup-spec : {M : Type 1} → statement M
 binmode-lookup-spec = tie.close (tie.spec
     (λ c κs. search needs)  -- lookup-requires
     (λ c κs. search needs)  -- report-of-requires
+    (λ c κs. search needs)  -- member-requires
     (λ c. search looking))  -- returns

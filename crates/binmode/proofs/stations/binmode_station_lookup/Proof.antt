@@ -1,4 +1,4 @@
-use Rattle.binmode.proofs.AtStations.{member-there}
+use Rattle.binmode.proofs.AtStations.{at-stations}
 use borrow.Author.Needs.{needs}
 use Rattle.binmode.proofs.stations.binmode_station_lookup.Statement.{statement}
 use Rattle.binmode.proofs.stations.binmode_station_lookup.Tie as tie
@@ -8,5 +8,5 @@ binmode-station-lookup-spec = tie.close (tie.spec
     (λ c κs. search needs)  -- split-for-requires
     (λ c κs. search needs)  -- station-of-requires
     (λ c κs. search needs)  -- lookup-requires
-    (λ c κs. search needs)  -- report-of-requires
-    (λ c. search member-there))  -- returns
+    (λ c κs. search needs)  -- member-requires
+    (λ c. search at-stations))  -- returns

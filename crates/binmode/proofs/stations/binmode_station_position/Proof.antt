@@ -1,4 +1,4 @@
-use Rattle.binmode.proofs.AtStations.{position-there}
+use Rattle.binmode.proofs.AtStations.{at-stations}
 use borrow.Author.Needs.{needs}
 use Rattle.binmode.proofs.stations.binmode_station_position.Statement.{statement}
 use Rattle.binmode.proofs.stations.binmode_station_position.Tie as tie
@@ -8,8 +8,5 @@ binmode-station-position-spec = tie.close (tie.spec
     (λ c κs. search needs)  -- split-for-requires
     (λ c κs. search needs)  -- station-of-requires
     (λ c κs. search needs)  -- position-of-requires
-    (λ c. search needs)  -- enum-known-answer
-    (λ c κs. search needs)  -- number-requires
-    (λ c. search needs)  -- enum-told
-    (λ c. search position-there)  -- returns
-    (λ c. search position-there))  -- returns-2
+    (λ c κs. search needs)  -- position-requires
+    (λ c. search at-stations))  -- returns

@@ -1,4 +1,4 @@
-use Rattle.binmode.proofs.AtStations.{card-there}
+use Rattle.binmode.proofs.AtStations.{at-stations}
 use borrow.Author.Needs.{needs}
 use Rattle.binmode.proofs.stations.binmode_station_read_card.Statement.{statement}
 use Rattle.binmode.proofs.stations.binmode_station_read_card.Tie as tie
@@ -8,10 +8,6 @@ binmode-station-read-card-spec = tie.close (tie.spec
     (λ c κs. search needs)  -- split-for-requires
     (λ c κs. search needs)  -- station-of-requires
     (λ c κs. search needs)  -- read-card-requires
-    (λ c. search needs)  -- enum-known-answer
-    (λ c κs. search needs)  -- report-card-requires
-    (λ c. search needs)  -- enum-told
+    (λ c κs. search needs)  -- card-requires
     (λ c. search needs)  -- same-length
-    (λ c. search card-there)  -- returns
-    (λ c. search needs)  -- same-length-2
-    (λ c. search card-there))  -- returns-2
+    (λ c. search at-stations))  -- returns

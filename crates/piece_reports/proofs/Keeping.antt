@@ -1,0 +1,73 @@
+-- A state as six words and back, and what answers each return. Assumes nothing.
+use mathlib.Core.Path.{_≡_, refl, sym, _∙_, ap}
+use mathlib.Core.List.{List, [], _∷_}
+use Prim.Native.Nat.{ℕ}
+use native.Mathlib.Omega.{arith}
+use lib.ListN.{getD}
+use borrow.Author.Tests.{eq-eqb, ne-eqb}
+use Rattle.draft.specs.declared.Refusal.{Refusal}
+use Rattle.draft.specs.Refusals.{numberOf, refusalOf}
+use Rattle.draft.proofs.Naming.{number-some, number-own}
+use Rattle.pieces.specs.declared.PieceRefusal.{PieceRefusal}
+use Rattle.pieces.specs.declared.PieceRefusal.the-variants.{Message, ShortRoom}
+use Rattle.pieces.specs.declared.State.{State}
+use Rattle.pieces.specs.declared.State.the-variants.{More, Accepted, Refused}
+use Rattle.pieces.specs.Steps.{numberFor, refusalFor}
+use Rattle.piece_reports.specs.Words.{answerFor, wordsOf, stateFor, stateOf, Kept}
+
+-- no refusal of a message has the number 4 or 255
+no-four : (m : Refusal) → numberOf m ≡ 4 → ⊥
+unfolding refusalOf
+no-four m e = let i : numberOf (refusalOf 4) ≡ 4 = ap (λ (n : ℕ). numberOf (refusalOf n)) (sym e) ∙ ap numberOf (number-own m) ∙ e in omega (arith, i)
+
+no-more : (m : Refusal) → numberOf m ≡ 255 → ⊥
+unfolding refusalOf
+no-more m e = let i : numberOf (refusalOf 255) ≡ 255 = ap (λ (n : ℕ). numberOf (refusalOf n)) (sym e) ∙ ap numberOf (number-own m) ∙ e in omega (arith, i)
+
+-- THE STATE IS KEPT: the words of a state, handed back, are that state
+pub kept : (state : State) → stateOf (wordsOf state) ≡ state
+unfolding stateOf
+kept (More held wanted place) = refl
+kept (Accepted rows used) = refl
+kept (Refused ShortRoom place) = refl
+kept (Refused (Message m) place) =
+    rw (ne-eqb (numberOf m) 255 (no-more m), ne-eqb (numberOf m) 0 (number-some m), ne-eqb (numberOf m) 4 (no-four m), number-own m)
+
+module _ (state : State) where
+  pub answer-more : {held wanted place : ℕ} → state ≡ More held wanted place → 255 ≡ answerFor state
+  answer-more e = rw e
+
+  pub answer-accepted : {rows used : ℕ} → state ≡ Accepted rows used → 0 ≡ answerFor state
+  answer-accepted e = rw e
+
+  pub answer-refused : {m : PieceRefusal} {place n : ℕ} → state ≡ Refused m place → n ≡ numberFor m → n ≡ answerFor state
+  answer-refused e f = rw (e, f)
+
+  pub words-more : {held wanted place : ℕ} → state ≡ More held wanted place → 255 ∷ 0 ∷ 0 ∷ place ∷ held ∷ wanted ∷ [] ≡ wordsOf state
+  words-more e = rw e
+
+  pub words-accepted : {rows used : ℕ} → state ≡ Accepted rows used → 0 ∷ rows ∷ used ∷ 0 ∷ 0 ∷ 0 ∷ [] ≡ wordsOf state
+  words-accepted e = rw e
+
+  pub words-refused : {m : PieceRefusal} {place n : ℕ} → state ≡ Refused m place → n ≡ numberFor m → n ∷ 0 ∷ 0 ∷ place ∷ 0 ∷ 0 ∷ [] ≡ wordsOf state
+  words-refused e f = rw (e, f)
+
+module _ (answer rows used place held wanted : ℕ) where
+  pub state-more : answer ≡ 255 → More held wanted place ≡ stateFor answer rows used place held wanted
+  state-more e = rw e
+
+  pub state-accepted : (answer ≡ 255 → ⊥) → answer ≡ 0 → Accepted rows used ≡ stateFor answer rows used place held wanted
+  state-accepted h e = rw (ne-eqb answer 255 h, e)
+
+  pub state-refused : {m : PieceRefusal} → (answer ≡ 255 → ⊥) → (answer ≡ 0 → ⊥) → m ≡ refusalFor answer → Refused m place ≡ stateFor answer rows used place held wanted
+  state-refused h k e = rw (ne-eqb answer 255 h, ne-eqb answer 0 k, e)
+
+pub these-words :
+    (w : List ℕ) {state : State} → state ≡ stateFor (getD w 0 0) (getD w 1 0) (getD w 2 0) (getD w 3 0) (getD w 4 0) (getD w 5 0) → state ≡ stateOf w
+unfolding stateOf
+these-words w e = e
+
+pub keeps : {state : State} {w : List ℕ} {n : ℕ} → w ≡ wordsOf state → n ≡ answerFor state → Kept state w n
+keeps e f = record { words = e; answer = f }
+
+pub ruleset keeping = (answer-more, answer-accepted, answer-refused, words-more, words-accepted, words-refused, state-more, state-accepted, state-refused, these-words, keeps)
