@@ -1,8 +1,8 @@
 /*
  * Measures what the library's functions take of the stack, and ends with 1 if one takes more than link/binmode.h says: stack
  * Each runs in a thread whose stack is full of a pattern beforehand; what is no longer there afterwards was used. What a thread itself
- * uses is measured first and left out. The messages nest as deep as may be: Structs, Arrays, and both by turns, a Response's and a
- * Call's, with few and many items of every kind in the innermost.
+ * uses is measured first and left out. The messages nest as deep as may be, for calls that state the highest limit and for those that
+ * state none: Structs, Arrays, and both by turns, a Response's and a Call's, with few and many items of every kind in the innermost.
  * From the repository's root: cc -O2 -pthread -I link compare/stack.c target/staticlib/libbinmode.a -o target/stack
  */
 #include "binmode.h"
@@ -18,6 +18,7 @@
 static uint8_t message[BINMODE_MOST_BYTES], file[BINMODE_MOST_BYTES + 6], output[BINMODE_MOST_BYTES], room[BINMODE_MOST_BYTES];
 static uint32_t table[BINMODE_TABLE_WORDS], other[BINMODE_TABLE_WORDS];
 static size_t length, rows, used, place, offset, size;
+static size_t limit; /* of nesting, or 0 for calls that state none */
 static uint8_t answer, sort;
 static int64_t number;
 static double x, y, turn;
@@ -86,7 +87,7 @@ static void make(int is_call, int structs, size_t items)
         put_text("method");
         put_count('A', 1);
     }
-    put_nested(BINMODE_MOST_NESTING - (is_call ? 1 : 0), structs, items);
+    put_nested((limit != 0 ? limit : BINMODE_USUAL_NESTING) - (is_call ? 1 : 0), structs, items);
     uint32_t body = (uint32_t)length;
     memcpy(file, &body, 4);
     memcpy(file + 4, "\1\0", 2);
@@ -95,7 +96,11 @@ static void make(int is_call, int structs, size_t items)
 
 /* The calls. */
 static void no_call(void) { answer = 0; }
-static void read_message(void) { answer = binmode_read(message, length, table, BINMODE_TABLE_WORDS, &rows, &used, &place); }
+static void read_message(void)
+{
+    answer = limit != 0 ? binmode_read_within(message, length, table, BINMODE_TABLE_WORDS, limit, &rows, &used, &place)
+                        : binmode_read(message, length, table, BINMODE_TABLE_WORDS, &rows, &used, &place);
+}
 static void read_card(void)
 {
     answer = binmode_read_card(file, length + 6, 0, table, BINMODE_TABLE_WORDS, &rows, &used, &place, &offset);
@@ -103,12 +108,19 @@ static void read_card(void)
 static void next_card(void) { answer = binmode_next_card(file, length + 6, 0, 0, &offset, &size, &place); }
 static void take_piece(void)
 {
-    answer = binmode_pieces_next(&state, message, length, room, sizeof room, table, BINMODE_TABLE_WORDS);
+    answer = limit != 0 ? binmode_pieces_next_within(&state, message, length, room, sizeof room, table, BINMODE_TABLE_WORDS, limit)
+                        : binmode_pieces_next(&state, message, length, room, sizeof room, table, BINMODE_TABLE_WORDS);
 }
-static void end_pieces(void) { answer = binmode_pieces_end(&state, room, sizeof room, table, BINMODE_TABLE_WORDS); }
+static void end_pieces(void)
+{
+    answer = limit != 0 ? binmode_pieces_end_within(&state, room, sizeof room, table, BINMODE_TABLE_WORDS, limit)
+                        : binmode_pieces_end(&state, room, sizeof room, table, BINMODE_TABLE_WORDS);
+}
 static void write_message(void)
 {
-    answer = binmode_write(table, BINMODE_TABLE_WORDS, rows, message, length, output, sizeof output, &size);
+    answer = limit != 0
+                 ? binmode_write_within(table, BINMODE_TABLE_WORDS, rows, message, length, limit, output, sizeof output, &size)
+                 : binmode_write(table, BINMODE_TABLE_WORDS, rows, message, length, output, sizeof output, &size);
 }
 static void look_up(void)
 {
@@ -135,7 +147,11 @@ static void find_in_index(void)
 /* Calls for a station, whose share has all rows but one. */
 #define SHARE BINMODE_TABLE_WORDS, BINMODE_MOST_ROWS - 1, BINMODE_STATION_FOUR
 static void find_share(void) { answer = binmode_share(SHARE, &offset, &size); }
-static void station_read(void) { answer = binmode_station_read(message, length, table, SHARE, &rows, &used, &place); }
+static void station_read(void)
+{
+    answer = limit != 0 ? binmode_station_read_within(message, length, table, SHARE, limit, &rows, &used, &place)
+                        : binmode_station_read(message, length, table, SHARE, &rows, &used, &place);
+}
 static void station_read_card(void)
 {
     answer = binmode_station_read_card(file, length + 6, 0, table, SHARE, &rows, &used, &place, &offset);
@@ -143,12 +159,18 @@ static void station_read_card(void)
 static void station_take_piece(void)
 {
     binmode_pieces_start(&state);
-    answer = binmode_station_pieces_next(&state, message, length, room, sizeof room, table, SHARE);
+    answer = limit != 0 ? binmode_station_pieces_next_within(&state, message, length, room, sizeof room, table, SHARE, limit)
+                        : binmode_station_pieces_next(&state, message, length, room, sizeof room, table, SHARE);
 }
-static void station_end_pieces(void) { answer = binmode_station_pieces_end(&state, room, sizeof room, table, SHARE); }
+static void station_end_pieces(void)
+{
+    answer = limit != 0 ? binmode_station_pieces_end_within(&state, room, sizeof room, table, SHARE, limit)
+                        : binmode_station_pieces_end(&state, room, sizeof room, table, SHARE);
+}
 static void station_write(void)
 {
-    answer = binmode_station_write(table, SHARE, rows, message, length, output, sizeof output, &size);
+    answer = limit != 0 ? binmode_station_write_within(table, SHARE, rows, message, length, limit, output, sizeof output, &size)
+                        : binmode_station_write(table, SHARE, rows, message, length, output, sizeof output, &size);
 }
 static void station_look_up(void)
 {
@@ -170,7 +192,18 @@ static size_t strings(void)
 }
 static void write_planned(void)
 {
-    answer = binmode_write_planned(table, BINMODE_TABLE_WORDS, rows, message, length, plan, 2 * strings(), output, sizeof output, &size);
+    size_t pairs = 2 * strings();
+    answer = limit != 0 ? binmode_write_planned_within(table, BINMODE_TABLE_WORDS, rows, message, length, plan, pairs, limit, output,
+                                                       sizeof output, &size)
+                        : binmode_write_planned(table, BINMODE_TABLE_WORDS, rows, message, length, plan, pairs, output, sizeof output,
+                                                &size);
+}
+static void station_write_planned(void)
+{
+    size_t pairs = 2 * strings();
+    answer = limit != 0 ? binmode_station_write_planned_within(table, SHARE, rows, message, length, plan, pairs, limit, output,
+                                                               sizeof output, &size)
+                        : binmode_station_write_planned(table, SHARE, rows, message, length, plan, pairs, output, sizeof output, &size);
 }
 static void prove_shortest(void)
 {
@@ -200,6 +233,7 @@ static struct {
     {"binmode_share", find_share, 1024, 0},
     {"binmode_station_read", station_read, BINMODE_STACK_READ, 0},
     {"binmode_station_write", station_write, BINMODE_STACK_WRITE, 0},
+    {"binmode_station_write_planned", station_write_planned, BINMODE_STACK_PLAN, 0},
     {"binmode_station_lookup", station_look_up, BINMODE_STACK_LOOKUP, 0},
     {"binmode_station_position", station_find_position, BINMODE_STACK_LOOKUP, 0},
     {"binmode_station_read_card", station_read_card, BINMODE_STACK_READ, 0},
@@ -238,8 +272,9 @@ int main(void)
 {
     static const size_t items[] = {1, 60, 300, 1000};
     size_t thread = used_by(no_call);
-    for (size_t i = 0; i < 2 * 3 * 4; i++) {
-        make(i % 2, (int)(i / 2 % 3), items[i / 6]);
+    for (size_t i = 0; i < 2 * 3 * 4 * 2; i++) {
+        limit = i / 24 == 0 ? BINMODE_MOST_NESTING : 0;
+        make(i % 2, (int)(i / 2 % 3), items[i / 6 % 4]);
         binmode_pieces_start(&state);
         for (size_t c = 0; c < CALLS; c++) {
             size_t taken = used_by(calls[c].call) - thread;

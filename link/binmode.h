@@ -62,32 +62,48 @@ extern "C" {
  * reaches rows through the helpers below needs no change for another layout.
  *
  * No program links to another major version unaware: whatever includes this header refers to a function whose name has the
- * version's number, and an archive of another version does not have it ("undefined reference to `binmode_version_1'").
+ * version's number, and an archive of another version does not have it ("undefined reference to `binmode_version_2'").
  */
-#define BINMODE_VERSION_MAJOR 1
-#define BINMODE_VERSION_MINOR 1
+#define BINMODE_VERSION_MAJOR 2
+#define BINMODE_VERSION_MINOR 0
 
 /* Gives the minor version of the archive. */
-uint32_t binmode_version_1(void);
+uint32_t binmode_version_2(void);
 
-static uint32_t (*const binmode_linked_version)(void) BINMODE_KEPT = binmode_version_1;
+static uint32_t (*const binmode_linked_version)(void) BINMODE_KEPT = binmode_version_2;
 
 /* The limits. */
 #define BINMODE_MOST_BYTES 65536 /* of a message, and of a writer's text bytes */
 #define BINMODE_MOST_ROWS 4096   /* of a table, however many words it has */
-#define BINMODE_MOST_NESTING 32  /* an Array or Struct stands in at most so many, itself counted */
-#define BINMODE_ROW_WORDS 4      /* words of a row: kind, a, b, end */
+#define BINMODE_MOST_NESTING 32  /* the highest limit of nesting */
+#define BINMODE_USUAL_NESTING 8  /* the limit of nesting of a call that states none */
+#define BINMODE_ROW_WORDS 4      /* words of a row: kind, a, b, end; each stands in a column of the table */
 #define BINMODE_TABLE_WORDS (BINMODE_MOST_ROWS * BINMODE_ROW_WORDS) /* words of a table that has room for any message */
 
 /*
- * What a call takes of the stack, in bytes, its buffers not counted: bounds, above what compare/stack measures. It grows with the
- * nesting, and hardly with anything else. The other functions take under 1,024.
+ * The limit of nesting: an Array or Struct stands in at most so many Arrays and Structs, itself counted; a Call's Array and a fault's
+ * Struct count. The functions whose names end in _within take it, 1 to 32, and refuse any other number with
+ * BINMODE_REFUSED_NO_LIMIT. The functions of the same names without _within are these with a limit of BINMODE_USUAL_NESTING, 8. A message
+ * that is nested deeper is refused with BINMODE_REFUSED_TOO_DEEP, a table with BINMODE_REFUSED_NOT_WRITABLE. The functions that
+ * read a card of a job file, look up, fill an index or ask for a text with defaults behind it have no limit to choose: for them it
+ * is BINMODE_MOST_NESTING, and so it is for binmode_proves_shortest.
+ *
+ * A table that was read at some limit is never BINMODE_REFUSED_NOT_WRITABLE at that limit or a higher one, but may be at a lower one: what
+ * binmode_read_within read at 32, or a card of a job file, is written by binmode_write_within at 32. What is written is read again at the
+ * limit that it was written at, or a higher one. An answer of reading stays, with its place and rows, at a higher limit or with a larger
+ * table, unless it is BINMODE_REFUSED_TOO_DEEP, BINMODE_REFUSED_NO_ROW, BINMODE_REFUSED_NOT_SPLIT or BINMODE_REFUSED_NO_LIMIT.
+ */
+
+/*
+ * What a call takes of the stack, in bytes, its buffers not counted: bounds, above what compare/stack measures at the highest limit. It
+ * grows with the nesting, and hardly with anything else. The other functions take under 1,024. What is said of a function is said of
+ * the one of its name with _within too.
  */
 #define BINMODE_STACK_READ 65536   /* binmode_read, binmode_read_card, binmode_pieces_next; binmode_station_* that read */
 #define BINMODE_STACK_LOOKUP 49152 /* binmode_lookup, binmode_position, binmode_default_text; binmode_station_* that look up */
 #define BINMODE_STACK_WRITE 65536  /* binmode_write, binmode_station_write */
 #define BINMODE_STACK_INDEX 65536  /* binmode_index_fill, binmode_index_find */
-#define BINMODE_STACK_PLAN 131072  /* binmode_write_planned, binmode_proves_shortest */
+#define BINMODE_STACK_PLAN 131072  /* binmode_write_planned, binmode_station_write_planned, binmode_proves_shortest */
 
 /* The answers: acceptance, or the number of a refusal; for a message in pieces also that more is wanted. */
 #define BINMODE_ACCEPTED 0
@@ -98,7 +114,7 @@ static uint32_t (*const binmode_linked_version)(void) BINMODE_KEPT = binmode_ver
 #define BINMODE_REFUSED_BAD_TEXT 5          /* read: bad UTF-8, or a byte of 128 or more in a Double or DateTime */
 #define BINMODE_REFUSED_UNSET_POSITION 6    /* read: recall of a position never set in this message */
 #define BINMODE_REFUSED_STANDARD_NAME 7     /* read: an Other with a standard name */
-#define BINMODE_REFUSED_TOO_DEEP 8          /* read: an Array or Struct in more than 32, itself counted */
+#define BINMODE_REFUSED_TOO_DEEP 8          /* read: an Array or Struct in more than the limit, itself counted */
 #define BINMODE_REFUSED_NO_ROW 9            /* read: no row left in the table */
 #define BINMODE_REFUSED_TOO_LONG 10         /* both: message or text bytes over 65,536 */
 #define BINMODE_REFUSED_NOT_WRITABLE 11     /* write, lookup, index, default text: a table is not writable */
@@ -113,9 +129,18 @@ static uint32_t (*const binmode_linked_version)(void) BINMODE_KEPT = binmode_ver
 #define BINMODE_REFUSED_REPEATED_KEY 20     /* read: a key that its Struct has already, compared as bytes */
 #define BINMODE_REFUSED_SHORT_LIST 21       /* index: the list is shorter than the member count */
 #define BINMODE_REFUSED_NOT_SPLIT 22        /* station: the row gives no shares, being 0 or not below the table's whole rows */
+#define BINMODE_REFUSED_NO_LIMIT 23         /* read, pieces, write: the limit of nesting is not 1 to 32 */
 #define BINMODE_REFUSED_NOT_TAKEN 24        /* write with a plan: the plan is not taken */
 #define BINMODE_REFUSED_NO_CARD 26          /* job file: a sound job ends before the card asked for */
 #define BINMODE_MORE_WANTED 255             /* pieces: no answer yet */
+
+/*
+ * The layout of a table. With room for c rows (its words divided by four, rounded down, and 4,096 at most) a table is four columns
+ * of c words each: c kinds, then c a's, then c b's, then c ends, so that word j of row r, 0 to 3 for kind, a, b and end, stands at
+ * c * j + r. Words after the fourth column belong to no row. c is the table's room and not its number of rows: of a table that was
+ * read, the words of each column behind its rows are zeros, and so are the words after the columns. binmode_word_place, below, is
+ * this rule, binmode_column gives a column, and binmode_row_at a row.
+ */
 
 /*
  * The kinds of rows. Rows stand in message order, parents before children; `end` is the row number just after the item's
@@ -137,11 +162,11 @@ static uint32_t (*const binmode_linked_version)(void) BINMODE_KEPT = binmode_ver
 #define BINMODE_KIND_OTHER 12     /*          0                       2        type name (a String), Binary */
 
 /*
- * Reads a message into a table.
+ * Reads a message into a table, at the limit of nesting 8.
  *
  *   message, message_len  the bytes of the message; bytes after its end are ignored, but count for BINMODE_REFUSED_TOO_LONG
  *   table, table_words    the table; it has room for table_words / 4 rows, rounded down, and 4,096 at most. binmode_row_at
- *                         gives a row of it
+ *                         gives a row of it, binmode_column a column
  *   rows                  is set to the number of rows; 0 on a refusal
  *   used                  is set to the number of message bytes used, those after its end not counted; 0 on a refusal
  *   place                 is set to 0 on acceptance; on a refusal to the offset of the first byte of the item that is
@@ -154,17 +179,24 @@ static uint32_t (*const binmode_linked_version)(void) BINMODE_KEPT = binmode_ver
  *                            the others: the item's, which is 12 for the Call or Response, 13 for what follows `R` and 14
  *                            for what follows `RF`.
  *
- * Gives BINMODE_ACCEPTED, and the table has the rows and then zeros; or a refusal's number (1 to 3, 5 to 10, 14, 17 or 20), and
- * the whole table is zeros. The first failure from left to right decides.
+ * Gives BINMODE_ACCEPTED, and the table has the rows, and zeros in all other words; or a refusal's number (1 to 3, 5 to 10, 14, 17 or
+ * 20), and the whole table is zeros. The first failure from left to right decides.
  */
 uint8_t binmode_read(const uint8_t *message, size_t message_len, uint32_t *table, size_t table_words, size_t *rows,
                      size_t *used, size_t *place) BINMODE_NO_NULL;
 
 /*
- * Writes the rows of a table as a message, in the one written form: texts that occur at least twice as strings get the
- * positions 0, 1, 2 .. (256 at most) in order of first occurrence, and nothing follows the message.
+ * binmode_read at another limit of nesting, 1 to 32. Any other gives BINMODE_REFUSED_NO_LIMIT, before all other refusals, with place 0 and a
+ * table of zeros.
+ */
+uint8_t binmode_read_within(const uint8_t *message, size_t message_len, uint32_t *table, size_t table_words, size_t limit,
+                            size_t *rows, size_t *used, size_t *place) BINMODE_NO_NULL;
+
+/*
+ * Writes the rows of a table as a message, at the limit of nesting 8, in the one written form: texts that occur at least twice as
+ * strings get the positions 0, 1, 2 .. (256 at most) in order of first occurrence, and nothing follows the message.
  *
- *   table, table_words    the table; words after the stated rows are not looked at
+ *   table, table_words    the table; words behind the stated rows are looked at in no column
  *   rows                  the stated number of rows; a table with 0 rows, over 4,096, or more than its words hold is not
  *                         writable
  *   text, text_len        the bytes in which the contents lie; for a table made by binmode_read, the message
@@ -178,8 +210,15 @@ uint8_t binmode_write(const uint32_t *table, size_t table_words, size_t rows, co
                       uint8_t *output, size_t output_len, size_t *length) BINMODE_NO_NULL;
 
 /*
- * Writes the rows of a table as a message, by a plan: for jobs in which more than 256 texts repeat. A plan says how each string is sent, two
- * bytes for each in row order (method, keys and type names are strings too): its form and its position.
+ * binmode_write at another limit of nesting, 1 to 32. Any other gives BINMODE_REFUSED_NO_LIMIT, before all other refusals, with an output of
+ * zeros.
+ */
+uint8_t binmode_write_within(const uint32_t *table, size_t table_words, size_t rows, const uint8_t *text, size_t text_len,
+                             size_t limit, uint8_t *output, size_t output_len, size_t *length) BINMODE_NO_NULL;
+
+/*
+ * Writes the rows of a table as a message, at the limit of nesting 8, by a plan: for jobs in which more than 256 texts repeat. A plan says
+ * how each string is sent, two bytes for each in row order (method, keys and type names are strings too): its form and its position.
  *
  *   table .. text_len     as for binmode_write
  *   plan, plan_len        the plan. A form is BINMODE_PLAN_REGULAR, and the position is 0; BINMODE_PLAN_RECORDED, and the position holds
@@ -201,6 +240,14 @@ uint8_t binmode_write_planned(const uint32_t *table, size_t table_words, size_t 
                               size_t *length) BINMODE_NO_NULL;
 
 /*
+ * binmode_write_planned at another limit of nesting, 1 to 32. Any other gives BINMODE_REFUSED_NO_LIMIT, before all other refusals. Whether a
+ * plan is taken does not depend on the limit.
+ */
+uint8_t binmode_write_planned_within(const uint32_t *table, size_t table_words, size_t rows, const uint8_t *text,
+                                     size_t text_len, const uint8_t *plan, size_t plan_len, size_t limit, uint8_t *output,
+                                     size_t output_len, size_t *length) BINMODE_NO_NULL;
+
+/*
  * Whether a plan and prices prove that the plan's message is the shortest: that no byte string that reads with the table's meaning has fewer
  * bytes, whatever forms and positions it has, and whatever follows its end.
  *
@@ -208,8 +255,8 @@ uint8_t binmode_write_planned(const uint32_t *table, size_t table_words, size_t 
  *   prices, prices_len    a price for each string in row order: what it is worth to hold one position until the next string. Any may be
  *                         given; the program `plan` finds those that prove
  *
- * Gives 1 for yes. 0 is no statement: the table is not writable, the plan is not taken, there are not as many prices as strings, the strings
- * take over 65,536 bytes, or these prices do not prove it.
+ * Gives 1 for yes, which does not depend on a limit of nesting. 0 is no statement: the table is not writable at 32, the plan is not taken,
+ * there are not as many prices as strings, the strings take over 65,536 bytes, or these prices do not prove it.
  */
 uint8_t binmode_proves_shortest(const uint32_t *table, size_t table_words, size_t rows, const uint8_t *text, size_t text_len,
                                 const uint8_t *plan, size_t plan_len, const uint32_t *prices, size_t prices_len) BINMODE_NO_NULL;
@@ -219,7 +266,7 @@ uint8_t binmode_proves_shortest(const uint32_t *table, size_t table_words, size_
  * then the body. Kind 1 is one card, a message; kind 2 ends the job, and its body is four bytes, the number of kind 1
  * records before it; other kinds are stepped over, and bytes after kind 2 are ignored. A file may have any length.
  *
- * Reads a card into a table, as binmode_read would read its body alone.
+ * Reads a card into a table, as binmode_read_within would read its body alone, at the limit of nesting 32.
  *
  *   file, file_len        the bytes of the job file
  *   number                the card's number, counted from 0
@@ -259,8 +306,8 @@ uint8_t binmode_next_card(const uint8_t *file, size_t file_len, size_t number, s
 
 /*
  * Looking up. A member of a Struct is a key and a value; it is asked for by the bytes of its key, which no other member
- * of the Struct has. Both functions take any table, as binmode_write does, and judge it first: one that is not writable is
- * refused, so nothing has to be tested before. For a table made by binmode_read, the text bytes are the message.
+ * of the Struct has. Both functions take any table, as binmode_write does, and judge it first: one that is not writable at the
+ * limit of nesting 32 is refused, so nothing has to be tested before. For a table made by binmode_read, the text bytes are the message.
  *
  * The sorts of answers.
  */
@@ -273,7 +320,7 @@ uint8_t binmode_next_card(const uint8_t *file, size_t file_len, size_t number, s
 /*
  * Looks up a member of a Struct.
  *
- *   table, table_words    the table; words after the stated rows are not looked at
+ *   table, table_words    the table; words behind the stated rows are looked at in no column
  *   rows                  the stated number of rows
  *   text, text_len        the bytes in which the contents lie
  *   row                   the Struct's row
@@ -421,7 +468,7 @@ void binmode_pieces_start(struct binmode_pieces *state) BINMODE_NO_NULL;
  *   BINMODE_REFUSED_SHORT_ROOM  before all else, whatever the state: the room is shorter than 65,536. The room is unchanged, the
  *                               table zeros, the place 0
  * Nothing is read again until state->wanted bytes are held. A state that no call gave, or a room or table that was changed in
- * between, has an answer too, but it says nothing of any message.
+ * between, has an answer too, but it says nothing of any message. The limit of nesting is 8.
  */
 uint8_t binmode_pieces_next(struct binmode_pieces *state, const uint8_t *piece, size_t piece_len, uint8_t *room,
                             size_t room_len, uint32_t *table, size_t table_words) BINMODE_NO_NULL;
@@ -435,10 +482,21 @@ uint8_t binmode_pieces_end(struct binmode_pieces *state, const uint8_t *room, si
                            size_t table_words) BINMODE_NO_NULL;
 
 /*
+ * binmode_pieces_next and binmode_pieces_end at another limit of nesting, 1 to 32, which is to be the same in all calls for one message: with
+ * more than one, the answers say nothing of any message. Any other limit gives BINMODE_REFUSED_NO_LIMIT, before all else and whatever the
+ * state, also BINMODE_REFUSED_SHORT_ROOM: the room is unchanged, the table zeros, the place 0.
+ */
+uint8_t binmode_pieces_next_within(struct binmode_pieces *state, const uint8_t *piece, size_t piece_len, uint8_t *room,
+                                   size_t room_len, uint32_t *table, size_t table_words, size_t limit) BINMODE_NO_NULL;
+
+uint8_t binmode_pieces_end_within(struct binmode_pieces *state, const uint8_t *room, size_t room_len, uint32_t *table,
+                                  size_t table_words, size_t limit) BINMODE_NO_NULL;
+
+/*
  * Two stations on one table. The table is split at a row: the rows below it are station four's share, the rest of the whole rows
  * station five's. On its share a station's call does and tells what the call without a station does and tells for a table that is
- * as long as the share: the share's room is its own rows, 4,096 at most, its rows are counted from its first, and all its words
- * are settled. No other word of the table is changed, neither of the other's share nor beyond the last whole row.
+ * as long as the share: the share's room is its own rows, 4,096 at most, its columns are inside its own words and as long as its
+ * room, its rows are counted from its first, and all its words are settled. No other word of the table is changed, neither of the other's share nor beyond the last whole row.
  *
  *     uint32_t table[BINMODE_TABLE_WORDS];
  *     binmode_station_read(message, length, table, BINMODE_TABLE_WORDS, 1024, BINMODE_STATION_FOUR, &rows, &used, &place);
@@ -467,6 +525,11 @@ uint8_t binmode_share(size_t table_words, size_t split, uint8_t station, size_t 
 uint8_t binmode_station_read(const uint8_t *message, size_t message_len, uint32_t *table, size_t table_words, size_t split,
                              uint8_t station, size_t *rows, size_t *used, size_t *place) BINMODE_NO_NULL;
 
+/* binmode_read_within into a station's share. BINMODE_REFUSED_NO_LIMIT comes behind BINMODE_REFUSED_NOT_SPLIT, and makes the share zeros. */
+uint8_t binmode_station_read_within(const uint8_t *message, size_t message_len, uint32_t *table, size_t table_words,
+                                    size_t split, uint8_t station, size_t limit, size_t *rows, size_t *used,
+                                    size_t *place) BINMODE_NO_NULL;
+
 /* binmode_read_card into a station's share. */
 uint8_t binmode_station_read_card(const uint8_t *file, size_t file_len, size_t number, uint32_t *table, size_t table_words,
                                   size_t split, uint8_t station, size_t *rows, size_t *used, size_t *place,
@@ -484,10 +547,34 @@ uint8_t binmode_station_pieces_next(struct binmode_pieces *state, const uint8_t 
 uint8_t binmode_station_pieces_end(struct binmode_pieces *state, const uint8_t *room, size_t room_len, uint32_t *table,
                                    size_t table_words, size_t split, uint8_t station) BINMODE_NO_NULL;
 
+/* binmode_pieces_next_within and binmode_pieces_end_within into a station's share; BINMODE_REFUSED_NOT_SPLIT comes first here too. */
+uint8_t binmode_station_pieces_next_within(struct binmode_pieces *state, const uint8_t *piece, size_t piece_len, uint8_t *room,
+                                           size_t room_len, uint32_t *table, size_t table_words, size_t split, uint8_t station,
+                                           size_t limit) BINMODE_NO_NULL;
+
+uint8_t binmode_station_pieces_end_within(struct binmode_pieces *state, const uint8_t *room, size_t room_len, uint32_t *table,
+                                          size_t table_words, size_t split, uint8_t station, size_t limit) BINMODE_NO_NULL;
+
 /* binmode_write of a station's share: `rows` are stated from the share's first row on. */
 uint8_t binmode_station_write(const uint32_t *table, size_t table_words, size_t split, uint8_t station, size_t rows,
                               const uint8_t *text, size_t text_len, uint8_t *output, size_t output_len,
                               size_t *length) BINMODE_NO_NULL;
+
+/* binmode_write_within of a station's share. */
+uint8_t binmode_station_write_within(const uint32_t *table, size_t table_words, size_t split, uint8_t station, size_t rows,
+                                     const uint8_t *text, size_t text_len, size_t limit, uint8_t *output, size_t output_len,
+                                     size_t *length) BINMODE_NO_NULL;
+
+/* binmode_write_planned of a station's share. */
+uint8_t binmode_station_write_planned(const uint32_t *table, size_t table_words, size_t split, uint8_t station, size_t rows,
+                                      const uint8_t *text, size_t text_len, const uint8_t *plan, size_t plan_len,
+                                      uint8_t *output, size_t output_len, size_t *length) BINMODE_NO_NULL;
+
+/* binmode_write_planned_within of a station's share. */
+uint8_t binmode_station_write_planned_within(const uint32_t *table, size_t table_words, size_t split, uint8_t station,
+                                             size_t rows, const uint8_t *text, size_t text_len, const uint8_t *plan,
+                                             size_t plan_len, size_t limit, uint8_t *output, size_t output_len,
+                                             size_t *length) BINMODE_NO_NULL;
 
 /* binmode_lookup in a station's share: `row` is counted from the share's first, and so is a row that is the answer. */
 uint8_t binmode_station_lookup(const uint32_t *table, size_t table_words, size_t split, uint8_t station, size_t rows,
@@ -541,8 +628,13 @@ static inline size_t binmode_room(size_t table_words)
 /* Where the word of a row stands, 0 to 3 for kind, a, b and end. The one place that knows the layout of a table. */
 static inline size_t binmode_word_place(size_t table_words, size_t row, size_t word)
 {
-    (void)table_words;
-    return row * BINMODE_ROW_WORDS + word;
+    return binmode_room(table_words) * word + row;
+}
+
+/* A column of a table, 0 to 3 for kind, a, b and end: word r of it is that of row r. It has binmode_room(table_words) words. */
+static inline const uint32_t *binmode_column(const uint32_t *table, size_t table_words, size_t word)
+{
+    return table + binmode_word_place(table_words, 0, word);
 }
 
 /* The row of that number; four zeros if it is past the stated rows or the table's room. */
@@ -665,7 +757,7 @@ static inline const char *binmode_answer_words(size_t answer)
     case BINMODE_REFUSED_BAD_TEXT: return "a text that is not UTF-8, or a Double or DateTime that is not ASCII";
     case BINMODE_REFUSED_UNSET_POSITION: return "a position of the codebook is recalled that this message has not set";
     case BINMODE_REFUSED_STANDARD_NAME: return "an Other has the name of a standard type";
-    case BINMODE_REFUSED_TOO_DEEP: return "Arrays and Structs nested more than 32 deep";
+    case BINMODE_REFUSED_TOO_DEEP: return "Arrays and Structs nested deeper than the limit";
     case BINMODE_REFUSED_NO_ROW: return "the table has no row left; the most is 4,096";
     case BINMODE_REFUSED_TOO_LONG: return "over 65,536 bytes";
     case BINMODE_REFUSED_NOT_WRITABLE: return "the table is not writable";
@@ -680,6 +772,7 @@ static inline const char *binmode_answer_words(size_t answer)
     case BINMODE_REFUSED_REPEATED_KEY: return "a key that its Struct has already";
     case BINMODE_REFUSED_SHORT_LIST: return "the list is shorter than the number of members";
     case BINMODE_REFUSED_NOT_SPLIT: return "the row number does not split the table, or there is no such station";
+    case BINMODE_REFUSED_NO_LIMIT: return "the limit of nesting is not 1 to 32";
     case BINMODE_REFUSED_NOT_TAKEN: return "the plan does not send the table's strings";
     case BINMODE_REFUSED_NO_CARD: return "the job has no card of this number";
     case BINMODE_MORE_WANTED: return "more bytes are wanted";

@@ -1,14 +1,16 @@
 //! Texts of cards with defaults behind them, by the library and by the second
 //! implementation. What the library reports on is rubbish before the call.
 
+use crate::both;
 use crate::gather::gathered_table;
 use crate::lent::{Lent, rubbish};
 use crate::reading::Compared;
 use crate::tally::Run;
 use binmode::sys;
-use second::defaults::{Asked, Source, Text, default_text};
+use second::defaults::{Asked, Source, Text};
 use second::generate::{Random, Table, damage, key, row, structs, table};
 use second::hex;
+use second::layout::columns_of;
 use second::rules::{ROW_WORDS, kind};
 use std::ops::Range;
 
@@ -88,7 +90,7 @@ impl Shelf {
 
     fn lend(&mut self, rubbish: u32, table: &Table) {
         let words = self.words.lend(table.words.len(), rubbish);
-        words.copy_from_slice(&table.words);
+        words.copy_from_slice(&columns_of(&table.words));
         let text = self.text.lend(table.text.len(), rubbish as u8);
         text.copy_from_slice(&table.text);
     }
@@ -103,7 +105,8 @@ impl Shelf {
     }
 
     fn is_untouched(&self, table: &Table) -> bool {
-        let same = self.words.content() == table.words && self.text.content() == table.text;
+        let same =
+            self.words.content() == columns_of(&table.words) && self.text.content() == table.text;
         same && self.words.is_whole() && self.text.is_whole()
     }
 }
@@ -158,7 +161,7 @@ impl Texts {
         let own = self.card.asked(card.rows, row);
         let other = self.defaults.asked(defaults.rows, defaults_row);
         let by_library = by_library(rubbish, own, other, self.key.content());
-        let text = default_text(own, other, key);
+        let text = both::default_text(own, other, key);
         let by_second = reported(text);
         let by_wrapper = wrapped(own, other, key);
         let expected = text.map(|text| part(own, other, text));

@@ -25,7 +25,8 @@ pub fn read(random: &mut Random, reading: &mut Reading) -> Compared {
         put(&mut message, 0, year, 4);
         days += in_year(&mut message, |message| {
             dates += 1;
-            reading.compare(random, message, 8)
+            let answer = reading.compare(random, message, 8, None)?;
+            Ok(answer.number)
         })?;
     }
     expect("days", days, 25 * DAYS_OF_A_CYCLE)?;
@@ -35,13 +36,13 @@ pub fn read(random: &mut Random, reading: &mut Reading) -> Compared {
         put(&mut message, 9, time / 10_000, 2);
         put(&mut message, 12, time / 100 % 100, 2);
         put(&mut message, 15, time % 100, 2);
-        seconds += usize::from(reading.compare(random, &message, 8)? == 0);
+        seconds += usize::from(reading.compare(random, &message, 8, None)?.number == 0);
     }
     expect("seconds of a day", seconds, 24 * 60 * 60)?;
     let mut texts = 0;
     for length in 0..=6 {
         for text in short(b"+-.09/:e", length) {
-            reading.compare(random, &response(b'D', &text), 8)?;
+            reading.compare(random, &response(b'D', &text), 8, None)?;
             texts += 1;
         }
     }
@@ -50,7 +51,7 @@ pub fn read(random: &mut Random, reading: &mut Reading) -> Compared {
             for value in 0..=u8::MAX {
                 let mut message = response(tag, text);
                 message[place] = value;
-                reading.compare(random, &message, 8)?;
+                reading.compare(random, &message, 8, None)?;
                 texts += 1;
             }
         }
@@ -74,7 +75,7 @@ pub fn written(random: &mut Random, writing: &mut Writing) -> Compared {
         put(&mut message, 0, year, 4);
         days += in_year(&mut message, |message| {
             table.text.copy_from_slice(message);
-            writing.compare(random, &table, 40)
+            writing.compare(random, &table, 40, None)
         })?;
     }
     expect("days written", days, DAYS_OF_A_CYCLE)?;

@@ -1,9 +1,10 @@
 //! Long messages of all kinds of items: the Values of many good messages in
 //! one Array. They may come out nested too deep, or just over a limit.
 
-use second::Read;
+use crate::limits::{HIGHEST, read_at};
 use second::generate::{Random, Table, valid};
 use second::rules::{BYTE_LIMIT, PREFIX, ROW_LIMIT, ROW_WORDS};
+use second::{ByRows, Read};
 
 pub fn gathered(random: &mut Random) -> Vec<u8> {
     let most_rows = *random.pick(&[200, 1_000, ROW_LIMIT, ROW_LIMIT]) - 2;
@@ -46,7 +47,7 @@ pub fn gathered(random: &mut Random) -> Vec<u8> {
 /// The Value that a Response holds, and its number of rows.
 fn value_of<'m>(message: &'m [u8], table: &mut [u32]) -> Option<(&'m [u8], usize)> {
     let value = PREFIX.len() + 1;
-    match second::read(message, table) {
+    match read_at::<ByRows>(message, table, HIGHEST) {
         Read::Accepted { rows, used } if table[0] == 2 => Some((&message[value..used], rows - 1)),
         _ => None,
     }
@@ -56,7 +57,7 @@ fn value_of<'m>(message: &'m [u8], table: &mut [u32]) -> Option<(&'m [u8], usize
 pub fn gathered_table(random: &mut Random) -> Table {
     let text = gathered(random);
     let mut words = vec![0; ROW_LIMIT * ROW_WORDS];
-    let rows = match second::read(&text, &mut words) {
+    let rows = match read_at::<ByRows>(&text, &mut words, HIGHEST) {
         Read::Accepted { rows, .. } => rows,
         Read::Refused { .. } => 1,
     };

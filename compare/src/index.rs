@@ -3,6 +3,7 @@
 //! foreign list the papers leave the answer free; it is held to what they
 //! allow.
 
+use crate::both;
 use crate::gather::gathered_table;
 use crate::lent::{Lent, rubbish};
 use crate::library;
@@ -13,6 +14,7 @@ use binmode::sys::{Entry, Report};
 use second::generate::{Random, Table, damage, key, row, structs, table};
 use second::hex;
 use second::index;
+use second::layout::columns_of;
 use second::rules::ROW_WORDS;
 
 pub struct Indexes {
@@ -68,13 +70,14 @@ impl Indexes {
 
     fn lend(&mut self, rubbish: u32, table: &Table) {
         let words = self.words.lend(table.words.len(), rubbish);
-        words.copy_from_slice(&table.words);
+        words.copy_from_slice(&columns_of(&table.words));
         let text = self.text.lend(table.text.len(), rubbish as u8);
         text.copy_from_slice(&table.text);
     }
 
     fn is_untouched(&self, table: &Table) -> bool {
-        let same = self.words.content() == table.words && self.text.content() == table.text;
+        let same =
+            self.words.content() == columns_of(&table.words) && self.text.content() == table.text;
         same && self.words.is_whole() && self.text.is_whole()
     }
 
@@ -91,7 +94,7 @@ impl Indexes {
         let list = self.list.lend(length, entry(rubbish, !rubbish));
         let (words, text) = (self.words.content(), self.text.content());
         let number = library::index_fill(words, table.rows, text, row, list);
-        let by_second = index::fill(&table.words, table.rows, &table.text, row, length);
+        let by_second = both::fill(&table.words, table.rows, &table.text, row, length);
         let (refusal, entries) = match &by_second {
             Ok(list) => (0, list.iter().map(of_second).collect()),
             Err(refusal) => (*refusal, vec![entry(0, 0); length]),
@@ -153,7 +156,7 @@ impl Indexes {
         let (text, rows) = (&table.text[..], table.rows);
         let mut numbers = Vec::new();
         for (key, &report) in keys.iter().zip(self.reports.content()) {
-            let allowed = index::allowed(&table.words, rows, text, row, &entries, key);
+            let allowed = both::allowed(&table.words, rows, text, row, &entries, key);
             let given = library::looked(report);
             let front = allowed.front.map(reported);
             let absent = reported(Err(18));

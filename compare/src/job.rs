@@ -1,13 +1,14 @@
 //! Job files, by the library and by the second implementation: their cards by
 //! number, and from one to the next.
 
+use crate::both;
 use crate::lent::{Lent, rubbish};
 use crate::library::{self, CardAnswer, CardFound};
 use crate::reading::Compared;
 use crate::tally::Run;
 use second::generate::{Random, message, table_words, valid};
 use second::hex;
-use second::job::{Card, Job, read_card, record};
+use second::job::{Card, Job, record};
 
 /// Files up to here are cut at every byte.
 const SMALL: usize = 700;
@@ -37,7 +38,7 @@ impl Jobs {
         given.copy_from_slice(file);
         let by_library = library::read_card(given, number, self.library.lend(words, rubbish));
         let table = self.second.lend(words, !rubbish);
-        let by_second = reported(read_card(file, number, table));
+        let by_second = reported(both::read_card(file, number, table));
         if let Some(difference) = self.difference(file, by_library, by_second) {
             let file = hex::encode(file);
             return Err(format!(

@@ -4,6 +4,9 @@
 
 use binmode::sys;
 
+/// The limit of nesting that a call states, if it states one.
+pub type Limit = Option<usize>;
+
 /// What a reported count is before the call: none that is ever reported.
 const NOT_REPORTED: usize = usize::MAX;
 
@@ -60,20 +63,20 @@ pub struct Placed {
     pub parts: [u64; 3],
 }
 
-pub fn read(message: &[u8], table: &mut [u32]) -> Answer {
+pub fn read(message: &[u8], table: &mut [u32], limit: Limit) -> Answer {
     let (mut rows, mut used, mut place) = (NOT_REPORTED, NOT_REPORTED, NOT_REPORTED);
     // SAFETY: the slices and the three numbers are valid for the call, and
     // those that are written overlap nothing. So it is in all that follow.
     let number = unsafe {
-        sys::binmode_read(
-            message.as_ptr(),
-            message.len(),
-            table.as_mut_ptr(),
-            table.len(),
-            &mut rows,
-            &mut used,
-            &mut place,
-        )
+        let (bytes, length) = (message.as_ptr(), message.len());
+        let (words, count) = (table.as_mut_ptr(), table.len());
+        let (rows, used, place) = (&mut rows, &mut used, &mut place);
+        match limit {
+            None => sys::binmode_read(bytes, length, words, count, rows, used, place),
+            Some(limit) => {
+                sys::binmode_read_within(bytes, length, words, count, limit, rows, used, place)
+            }
+        }
     };
     Answer {
         number,
@@ -83,20 +86,20 @@ pub fn read(message: &[u8], table: &mut [u32]) -> Answer {
     }
 }
 
-pub fn write(table: &[u32], rows: usize, text: &[u8], output: &mut [u8]) -> Written {
+pub fn write(table: &[u32], rows: usize, text: &[u8], limit: Limit, output: &mut [u8]) -> Written {
     let mut length = NOT_REPORTED;
     // SAFETY: as above.
     let number = unsafe {
-        sys::binmode_write(
-            table.as_ptr(),
-            table.len(),
-            rows,
-            text.as_ptr(),
-            text.len(),
-            output.as_mut_ptr(),
-            output.len(),
-            &mut length,
-        )
+        let (words, count) = (table.as_ptr(), table.len());
+        let (text, size) = (text.as_ptr(), text.len());
+        let (to, room) = (output.as_mut_ptr(), output.len());
+        let length = &mut length;
+        match limit {
+            None => sys::binmode_write(words, count, rows, text, size, to, room, length),
+            Some(limit) => {
+                sys::binmode_write_within(words, count, rows, text, size, limit, to, room, length)
+            }
+        }
     };
     Written { number, length }
 }
@@ -106,23 +109,25 @@ pub fn write_planned(
     rows: usize,
     text: &[u8],
     plan: &[u8],
+    limit: Limit,
     output: &mut [u8],
 ) -> Written {
     let mut length = NOT_REPORTED;
     // SAFETY: as above.
     let number = unsafe {
-        sys::binmode_write_planned(
-            table.as_ptr(),
-            table.len(),
-            rows,
-            text.as_ptr(),
-            text.len(),
-            plan.as_ptr(),
-            plan.len(),
-            output.as_mut_ptr(),
-            output.len(),
-            &mut length,
-        )
+        let (words, count) = (table.as_ptr(), table.len());
+        let (text, size) = (text.as_ptr(), text.len());
+        let (plan, pairs) = (plan.as_ptr(), plan.len());
+        let (to, room) = (output.as_mut_ptr(), output.len());
+        let length = &mut length;
+        match limit {
+            None => sys::binmode_write_planned(
+                words, count, rows, text, size, plan, pairs, to, room, length,
+            ),
+            Some(limit) => sys::binmode_write_planned_within(
+                words, count, rows, text, size, plan, pairs, limit, to, room, length,
+            ),
+        }
     };
     Written { number, length }
 }

@@ -1,6 +1,7 @@
 //! Looking up members and positions, by the library and by the second
 //! implementation.
 
+use crate::both;
 use crate::gather::gathered_table;
 use crate::lent::{Lent, rubbish};
 use crate::library::{self, Looked, Placed};
@@ -9,7 +10,8 @@ use crate::tally::Run;
 use crate::writing::read_table;
 use second::generate::{Random, Table, card, damage, decimal, key, row, structs, table};
 use second::hex;
-use second::lookup::{Member, Position, lookup, position};
+use second::layout::columns_of;
+use second::lookup::{Member, Position};
 use second::rules::{ROW_WORDS, kind};
 
 pub struct Lookups {
@@ -30,7 +32,7 @@ impl Lookups {
     /// The table in buffers with rubbish around them.
     fn lend(&mut self, rubbish: u32, table: &Table, key: &[u8]) {
         let words = self.words.lend(table.words.len(), rubbish);
-        words.copy_from_slice(&table.words);
+        words.copy_from_slice(&columns_of(&table.words));
         let text = self.text.lend(table.text.len(), rubbish as u8);
         text.copy_from_slice(&table.text);
         let given = self.key.lend(key.len(), rubbish as u8);
@@ -38,7 +40,7 @@ impl Lookups {
     }
 
     fn is_untouched(&self, table: &Table, key: &[u8]) -> bool {
-        let same = self.words.content() == table.words
+        let same = self.words.content() == columns_of(&table.words)
             && self.text.content() == table.text
             && self.key.content() == key;
         same && self.words.is_whole() && self.text.is_whole() && self.key.is_whole()
@@ -62,7 +64,7 @@ impl Lookups {
             row,
             self.key.content(),
         );
-        let found = lookup(&table.words, table.rows, &table.text, row, key);
+        let found = both::lookup(&table.words, table.rows, &table.text, row, key);
         let by_second = reported(found);
         if by_library == by_second && self.is_untouched(table, key) {
             return Ok(by_library.refusal);
@@ -89,7 +91,7 @@ impl Lookups {
             self.text.content(),
             row,
         );
-        let by_second = placed(position(&table.words, table.rows, &table.text, row));
+        let by_second = placed(both::position(&table.words, table.rows, &table.text, row));
         if by_library == by_second && self.is_untouched(table, b"") {
             return Ok(by_library.refusal);
         }

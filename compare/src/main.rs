@@ -2,6 +2,7 @@
 //! messages, whole and in pieces, tables, plans, job files, members, indexes
 //! and shares of a table: `compare SEED CALLS`. Ends with 1 where they differ.
 
+mod both;
 mod change;
 mod defaults;
 mod doubles_and_dates;
@@ -11,6 +12,7 @@ mod index;
 mod job;
 mod lent;
 mod library;
+mod limits;
 mod lookup;
 mod pieces;
 mod plans;
@@ -25,6 +27,7 @@ mod writing;
 use defaults::Texts;
 use index::Indexes;
 use job::Jobs;
+use limits::Limits;
 use lookup::Lookups;
 use pieces::InPieces;
 use plans::Plans;
@@ -88,6 +91,14 @@ fn compare(run: &mut Run) -> Compared {
     pieces.limit(run)?;
     stations.every_split(run)?;
     stations.many_rows(run)?;
+    let mut limits = Limits {
+        reading: &mut reading,
+        writing: &mut writing,
+        pieces: &mut pieces,
+        stations: &mut stations,
+        plans: &mut plans,
+    };
+    limits.every(run)?;
     while !run.tally.is_over() {
         reading.round(run)?;
         lookups.round(run)?;

@@ -3,22 +3,18 @@
 use crate::change::changed;
 use crate::gather::gathered;
 use crate::lent::{Lent, rubbish};
-use crate::library;
+use crate::library::{self, Limit};
+use crate::limits::{HIGHEST, any_limit, end_at, next_at, read_at};
 use crate::reading::Compared;
 use crate::state::{self, MORE_WANTED, State};
 use crate::tally::Run;
 use second::generate::{Random, message, table_words, valid};
 use second::pieces::{Outcome, Pieces};
-use second::rules::{BYTE_LIMIT, PREFIX, ROW_LIMIT, ROW_WORDS, refusal};
-use second::{Read, hex, papers};
+use second::rules::{BYTE_LIMIT, PREFIX, ROW_LIMIT, ROW_WORDS, is_limit, refusal};
+use second::{ByRows, Read, hex, papers};
 
 /// Messages up to here are cut at every byte.
 const SMALL: usize = 160;
-
-const SHORT_ROOM: Outcome = Outcome::Refused {
-    number: refusal::ROOM,
-    place: 0,
-};
 
 /// What is lent to both for one message: rooms that are full of the same
 /// rubbish, since their rest has to stay, and tables that are not.
@@ -32,7 +28,7 @@ pub struct InPieces {
 }
 
 /// How one message is handed over.
-struct Cut<'m> {
+pub struct Cut<'m> {
     message: &'m [u8],
     /// Lengths of the pieces; the rest of the message is the last one.
     lengths: Vec<usize>,
@@ -41,7 +37,7 @@ struct Cut<'m> {
 }
 
 impl<'m> Cut<'m> {
-    fn new(message: &'m [u8], lengths: Vec<usize>, room: usize, words: usize) -> Self {
+    pub fn new(message: &'m [u8], lengths: Vec<usize>, room: usize, words: usize) -> Self {
         Cut {
             message,
             lengths,
@@ -80,12 +76,17 @@ impl InPieces {
         }
     }
 
-    /// One message by both, if any calls are left.
+    /// One message by both, at any limit of nesting, if any calls are left.
     fn call(&mut self, run: &mut Run, cut: &Cut) -> Compared {
+        let limit = any_limit(&mut run.random);
+        self.call_at(run, cut, limit)
+    }
+
+    pub fn call_at(&mut self, run: &mut Run, cut: &Cut, limit: Limit) -> Compared {
         if run.tally.is_over() {
             return Ok(());
         }
-        match self.compare(rubbish(&mut run.random), cut) {
+        match self.compare(rubbish(&mut run.random), cut, limit) {
             Ok(number) => {
                 run.tally.read_pieces(number);
                 Ok(())
@@ -93,7 +94,7 @@ impl InPieces {
             Err(difference) => Err(format!(
                 "in pieces: {difference}\n\
                  message {}\n\
-                 pieces of {:?}, room of {} bytes, table of {} words",
+                 pieces of {:?}, room of {} bytes, table of {} words, limit {limit:?}",
                 hex::encode(cut.message),
                 cut.lengths,
                 cut.room,
@@ -104,7 +105,7 @@ impl InPieces {
 
     /// All pieces and the end, by both, compared after each call; and then the
     /// whole at once, where it fits. Gives the number of the last answer.
-    fn compare(&mut self, rubbish: u32, cut: &Cut) -> Result<u8, String> {
+    fn compare(&mut self, rubbish: u32, cut: &Cut, limit: Limit) -> Result<u8, String> {
         self.room.lend(cut.room, rubbish as u8);
         self.second_room.lend(cut.room, rubbish as u8);
         self.table.lend(cut.words, rubbish);
@@ -114,29 +115,36 @@ impl InPieces {
             return Err(format!("the start is {state:?}"));
         }
         for (call, piece) in cut.pieces().into_iter().enumerate() {
-            let number = self.next_by_library(&mut state, rubbish, piece);
+            let number = self.next_by_library(&mut state, rubbish, piece, limit);
             let (room, table) = (self.second_room.again(), self.second_table.again());
-            let outcome = pieces.next(piece, room, table);
+            let outcome = next_at(&mut pieces, piece, room, table, limit);
             self.same(number, state, outcome, pieces.held())
                 .map_err(|why| format!("piece {call} differs: {why}"))?;
             if self.piece.content() != piece || !self.piece.is_whole() {
                 return Err(format!("the library wrote to piece {call}"));
             }
         }
-        let number = state::end(&mut state, self.room.content(), self.table.again());
-        let outcome = pieces.end(self.second_room.content(), self.second_table.again());
+        let number = state::end(&mut state, self.room.content(), self.table.again(), limit);
+        let (room, table) = (self.second_room.content(), self.second_table.again());
+        let outcome = end_at(&mut pieces, room, table, limit);
         self.same(number, state, outcome, pieces.held())
             .map_err(|why| format!("the end differs: {why}"))?;
         if cut.fits() {
-            self.same_as_whole(cut.message, state)?;
+            self.same_as_whole(cut.message, state, limit)?;
         }
         Ok(number)
     }
 
-    fn next_by_library(&mut self, state: &mut State, rubbish: u32, piece: &[u8]) -> u8 {
+    fn next_by_library(
+        &mut self,
+        state: &mut State,
+        rubbish: u32,
+        piece: &[u8],
+        limit: Limit,
+    ) -> u8 {
         let given = self.piece.lend(piece.len(), rubbish as u8);
         given.copy_from_slice(piece);
-        state::next(state, given, self.room.again(), self.table.again())
+        state::next(state, given, self.room.again(), self.table.again(), limit)
     }
 
     fn same(&self, number: u8, state: State, outcome: Outcome, held: usize) -> Compared {
@@ -159,8 +167,8 @@ impl InPieces {
     }
 
     /// The library reads the whole message alike.
-    fn same_as_whole(&mut self, message: &[u8], state: State) -> Compared {
-        let whole = library::read(message, self.second_table.again());
+    fn same_as_whole(&mut self, message: &[u8], state: State, limit: Limit) -> Compared {
+        let whole = library::read(message, self.second_table.again(), limit);
         let answer = State {
             answer: whole.number.into(),
             rows: whole.rows,
@@ -215,6 +223,66 @@ impl InPieces {
         Ok(())
     }
 
+    /// A limit that is none in a later call, once bytes are held, and once the
+    /// message is decided; with rooms that are long enough and too short.
+    pub fn no_limits(&mut self, run: &mut Run) -> Compared {
+        let messages = [papers::FOUR, papers::UNSET_RECALL].map(papers::bytes_of);
+        let held = messages[0][..7].to_vec();
+        for first in messages.iter().chain([&held, &Vec::new()]) {
+            for limit in [0, 33, 40, (1 << 32) + 8, usize::MAX] {
+                for room in [0, BYTE_LIMIT - 1, BYTE_LIMIT, BYTE_LIMIT + 1] {
+                    for is_end in [false, true] {
+                        if run.tally.is_over() {
+                            return Ok(());
+                        }
+                        let rubbish = rubbish(&mut run.random);
+                        self.no_limit(rubbish, first, limit, room, is_end)?;
+                        run.tally.read_pieces(refusal::LIMIT);
+                    }
+                }
+            }
+        }
+        Ok(())
+    }
+
+    /// A first piece, then a call with no limit.
+    fn no_limit(
+        &mut self,
+        rubbish: u32,
+        first: &[u8],
+        limit: usize,
+        room: usize,
+        is_end: bool,
+    ) -> Compared {
+        self.room.lend(BYTE_LIMIT, rubbish as u8);
+        self.second_room.lend(BYTE_LIMIT, rubbish as u8);
+        self.table.lend(12, rubbish);
+        self.second_table.lend(12, rubbish);
+        let (mut state, mut pieces) = (state::start(rubbish), Pieces::start());
+        self.next_by_library(&mut state, rubbish, first, None);
+        let (held, table) = (self.second_room.again(), self.second_table.again());
+        next_at(&mut pieces, first, held, table, None);
+        self.room.lend(room, rubbish as u8);
+        self.second_room.lend(room, rubbish as u8);
+        let limit = Some(limit);
+        let (number, outcome) = match is_end {
+            true => {
+                let (room, table) = (self.second_room.content(), self.second_table.again());
+                let outcome = end_at(&mut pieces, room, table, limit);
+                let (room, table) = (self.room.content(), self.table.again());
+                (state::end(&mut state, room, table, limit), outcome)
+            }
+            false => {
+                let (room, table) = (self.second_room.again(), self.second_table.again());
+                let outcome = next_at(&mut pieces, b"xyz", room, table, limit);
+                let number = self.next_by_library(&mut state, rubbish, b"xyz", limit);
+                (number, outcome)
+            }
+        };
+        self.same(number, state, outcome, pieces.held())
+            .map_err(|why| format!("{limit:?} after {first:?}, room of {room} bytes: {why}"))
+    }
+
     /// In two at every place, one byte at a time, and with empty pieces.
     fn every_cut(&mut self, run: &mut Run, message: &[u8], words: usize) -> Compared {
         let room = BYTE_LIMIT + run.random.below(3);
@@ -241,7 +309,7 @@ impl InPieces {
             _ => message(random),
         };
         let within = &message[..message.len().min(BYTE_LIMIT)];
-        let need = match second::read(within, &mut self.wide) {
+        let need = match read_at::<ByRows>(within, &mut self.wide, HIGHEST) {
             Read::Accepted { rows, .. } => rows,
             Read::Refused { .. } => random.below(20),
         };
@@ -267,7 +335,8 @@ impl InPieces {
         let held = random.below(message.len().min(BYTE_LIMIT) + 1);
         let mut state = state::start(7);
         let (room, table) = (self.room.lend(BYTE_LIMIT, 7), self.table.lend(16_384, 7));
-        state::next(&mut state, &message[..held], room, table);
+        let limit = any_limit(random);
+        state::next(&mut state, &message[..held], room, table, limit);
         if state.answer != MORE_WANTED {
             return Ok(());
         }
@@ -278,17 +347,18 @@ impl InPieces {
             number: refusal::CUT,
             place: state.place,
         };
-        match second::read(&bytes, &mut self.wide) == cut {
+        match read_at::<ByRows>(&bytes, &mut self.wide, limit) == cut {
             true => Ok(()),
             false => Err(format!(
-                "after {held} bytes {state:?}, but fewer than are wanted decide\nmessage {}",
+                "after {held} bytes {state:?}, limit {limit:?}, but fewer than are wanted decide\n\
+                 message {}",
                 hex::encode(&bytes)
             )),
         }
     }
 
-    /// A state, a room and a table that no call left. The answer is free, but 4
-    /// comes before all else, and the room keeps its rest.
+    /// A state, a room and a table that no call left. The answer is free, but 23
+    /// comes before all else, and then 4; and the room keeps its rest.
     fn any_state(&mut self, random: &mut Random, piece: &[u8], words: usize) -> Compared {
         let before = any_state(random);
         let mut state = before;
@@ -296,27 +366,32 @@ impl InPieces {
         let room = room(random);
         self.room.lend(room, rubbish as u8);
         self.table.lend(words, rubbish);
+        let limit = any_limit(random);
         let number = match random.one_in(4) {
-            true => state::end(&mut state, self.room.content(), self.table.again()),
-            false => self.next_by_library(&mut state, rubbish, piece),
+            true => state::end(&mut state, self.room.content(), self.table.again(), limit),
+            false => self.next_by_library(&mut state, rubbish, piece, limit),
         };
-        let is_short = room < BYTE_LIMIT;
-        let rest = &self.room.content()[if is_short { 0 } else { BYTE_LIMIT }..];
-        let is_refused = || {
+        let refused = match limit {
+            Some(limit) if !is_limit(limit) => Some(refusal::LIMIT),
+            _ => (room < BYTE_LIMIT).then_some(refusal::ROOM),
+        };
+        let rest = &self.room.content()[if refused.is_some() { 0 } else { BYTE_LIMIT }..];
+        let is_refused = |number| {
             let mut words = self.table.content().iter();
-            state::is(&state, SHORT_ROOM, 0) && words.all(|&word| word == 0)
+            let refused = Outcome::Refused { number, place: 0 };
+            state::is(&state, refused, 0) && words.all(|&word| word == 0)
         };
         if rest.iter().all(|&byte| byte == rubbish as u8)
             && self.room.is_whole()
             && self.table.is_whole()
-            && (!is_short || is_refused())
+            && refused.is_none_or(is_refused)
         {
             return Ok(());
         }
         let piece = hex::encode(piece);
         Err(format!(
             "from {before:?}, which no call gave, {number} {state:?}\n\
-             room of {room} bytes, table of {words} words\n\
+             room of {room} bytes, table of {words} words, limit {limit:?}\n\
              piece {piece}"
         ))
     }

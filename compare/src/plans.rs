@@ -2,13 +2,15 @@
 //! implementation: plans that are good, damaged, cut and of other tables; every
 //! plan of small tables; and plans for many texts, with prices that prove them.
 
+use crate::both;
 use crate::lent::{Lent, rubbish};
-use crate::library::{self, Written};
+use crate::library::{self, Limit};
+use crate::limits::{HIGHEST, any_limit};
 use crate::reading::Compared;
 use crate::tally::Run;
-use second::Write;
+use crate::writing::reported;
 use second::generate::{Random, Table, few_strings, output_length, table, writable};
-use second::plan::{proves_shortest, write_planned};
+use second::layout::columns_of;
 use second::rules::{BYTE_LIMIT, ROW_WORDS, kind};
 
 #[path = "../../link/rust/examples/plan/solver.rs"]
@@ -50,11 +52,27 @@ impl Plans {
         for _ in 0..3 {
             if !run.tally.is_over() {
                 let room = output_length(&mut run.random, plan.len() * 4);
-                let number = self.compare(&mut run.random, &table, &plan, room)?;
-                run.tally.planned(number);
+                let limit = any_limit(&mut run.random);
+                self.call_at(run, &table, &plan, room, limit)?;
             }
         }
         self.prove(&table, &plan, &prices).map(|_| ())
+    }
+
+    /// One call of each, if any are left.
+    pub fn call_at(
+        &mut self,
+        run: &mut Run,
+        table: &Table,
+        plan: &[u8],
+        room: usize,
+        limit: Limit,
+    ) -> Compared {
+        if !run.tally.is_over() {
+            let number = self.compare(&mut run.random, table, plan, room, limit)?;
+            run.tally.planned(number);
+        }
+        Ok(())
     }
 
     /// One call of each; gives the answer's number.
@@ -64,17 +82,16 @@ impl Plans {
         table: &Table,
         plan: &[u8],
         room: usize,
+        limit: Limit,
     ) -> Result<u8, String> {
         let rubbish = rubbish(random);
+        let words = columns_of(&table.words);
         let output = self.library.lend(room, rubbish as u8);
-        let by_library =
-            library::write_planned(&table.words, table.rows, &table.text, plan, output);
+        let (rows, text) = (table.rows, &table.text);
+        let by_library = library::write_planned(&words, rows, text, plan, limit, output);
         let output = self.second.lend(room, !rubbish as u8);
-        let by_second = write_planned(&table.words, table.rows, &table.text, plan, output);
-        let by_second = match by_second {
-            Write::Accepted { length } => Written { number: 0, length },
-            Write::Refused { number } => Written { number, length: 0 },
-        };
+        let by_second = both::write_planned(&table.words, rows, text, plan, limit, output);
+        let by_second = reported(by_second);
         let same = by_library == by_second
             && self.library.content() == self.second.content()
             && self.library.is_whole();
@@ -82,16 +99,16 @@ impl Plans {
             true => Ok(by_library.number),
             false => Err(format!(
                 "writing with a plan differs: library {by_library:?}, second {by_second:?}, \
-                 output of {room} bytes\nplan {plan:?}\n{table:?}"
+                 output of {room} bytes, limit {limit:?}\nplan {plan:?}\n{table:?}"
             )),
         }
     }
 
     /// Whether plan and prices prove the plan shortest, by both.
     fn prove(&mut self, table: &Table, plan: &[u8], prices: &[u32]) -> Result<bool, String> {
-        let by_library =
-            library::proves_shortest(&table.words, table.rows, &table.text, plan, prices);
-        let by_second = proves_shortest(&table.words, table.rows, &table.text, plan, prices);
+        let words = columns_of(&table.words);
+        let by_library = library::proves_shortest(&words, table.rows, &table.text, plan, prices);
+        let by_second = both::proves_shortest(&table.words, table.rows, &table.text, plan, prices);
         match by_library == by_second {
             true => Ok(by_library),
             false => Err(format!(
@@ -116,7 +133,7 @@ impl Plans {
             for number in 0..pairs.len().pow(texts.len() as u32) {
                 let pair = |place| pairs[number / pairs.len().pow(place) % pairs.len()];
                 let plan: Vec<u8> = (0..texts.len() as u32).flat_map(pair).collect();
-                if self.compare(random, &table, &plan, BYTE_LIMIT)? == 0 {
+                if self.compare(random, &table, &plan, BYTE_LIMIT, HIGHEST)? == 0 {
                     let length = cost(&texts, &plan);
                     least = least.min(length);
                     let prices: Vec<u32> = texts.iter().map(|_| random.below(3) as u32).collect();
@@ -152,7 +169,7 @@ impl Plans {
                 mut plan,
                 mut prices,
             } = solver::solve(&texts);
-            self.compare(random, &table, &plan, BYTE_LIMIT)?;
+            self.compare(random, &table, &plan, BYTE_LIMIT, None)?;
             if !self.prove(&table, &plan, &prices)? {
                 return Err(format!("{strings} strings, {different} texts: not proved"));
             }
@@ -162,7 +179,7 @@ impl Plans {
                 self.prove(&table, &plan, &prices)?;
                 let at = random.below(plan.len());
                 plan[at] = plan[at].wrapping_add([1, 255][random.below(2)]);
-                self.compare(random, &table, &plan, BYTE_LIMIT)?;
+                self.compare(random, &table, &plan, BYTE_LIMIT, None)?;
             }
         }
         println!("plans: {jobs} jobs in which more than 256 texts repeat, each proved shortest");
@@ -181,6 +198,13 @@ fn texts(table: &Table) -> Vec<&[u8]> {
             rest.get(..b as usize).unwrap_or_default()
         })
         .collect()
+}
+
+/// A plan for a table, good or damaged.
+pub fn any_plan(random: &mut Random, table: &Table) -> Vec<u8> {
+    let mut plan = good(random, &texts(table));
+    damage(random, &mut plan);
+    plan
 }
 
 /// A plan that sends the texts, each string in a way that is legal there.

@@ -1,14 +1,17 @@
 //! Reading, by the library and by the second implementation.
 
+use crate::both;
 use crate::change::changed;
 use crate::gather::gathered;
 use crate::lent::{Lent, rubbish};
-use crate::library::{self, Answer};
+use crate::library::{self, Answer, Limit};
+use crate::limits::{HIGHEST, any_limit, no_lower, read_at};
 use crate::tally::Run;
-use binmode::MOST_BYTES;
+use binmode::{MOST_BYTES, USUAL_NESTING};
 use second::generate::{BAD_TEXTS, Random, message, table_words};
+use second::layout::{Layout, Rows};
 use second::rules::{NESTING_LIMIT, PREFIX, ROW_LIMIT, ROW_WORDS};
-use second::{Read, hex, papers};
+use second::{ByColumns, ByRows, Read, hex, papers};
 
 /// A comparison that failed, in words.
 pub type Compared = Result<(), String>;
@@ -33,62 +36,109 @@ impl Reading {
         }
     }
 
-    /// One call of each, if any are left, with this message and a table of so
-    /// many words.
+    /// One call of each, if any are left, with this message, a table of so many
+    /// words and any limit of nesting; now and then, what is said of a higher
+    /// limit and a larger table.
     fn call(&mut self, run: &mut Run, message: &[u8], words: usize) -> Compared {
+        let limit = any_limit(&mut run.random);
+        if run.random.one_in(6) {
+            return self.grown(run, message, words, limit);
+        }
         if !run.tally.is_over() {
-            let number = self.compare(&mut run.random, message, words)?;
-            run.tally.read(number);
+            let answer = self.compare(&mut run.random, message, words, limit)?;
+            run.tally.read(answer.number);
         }
         Ok(())
     }
 
-    /// One call of each; gives the answer's number.
+    /// One call of each; then another, with a limit that is no lower and a table
+    /// that is no smaller: an answer other than 8, 9, 22 and 23 stays, with its
+    /// place and rows.
+    pub fn grown(&mut self, run: &mut Run, message: &[u8], words: usize, limit: Limit) -> Compared {
+        if run.tally.is_over() {
+            return Ok(());
+        }
+        let before = self.compare(&mut run.random, message, words, limit)?;
+        run.tally.read(before.number);
+        if matches!(before.number, 8 | 9 | 22 | 23) || run.tally.is_over() {
+            return Ok(());
+        }
+        let rows = rows_of(self.library.content(), before.rows);
+        let higher = no_lower(&mut run.random, limit);
+        let larger = words + run.random.below(40);
+        let after = self.compare(&mut run.random, message, larger, higher)?;
+        run.tally.read(after.number);
+        if after == before && rows_of(self.library.content(), after.rows) == rows {
+            return Ok(());
+        }
+        let message = hex::encode(message);
+        Err(format!(
+            "an answer does not stay\n\
+             message {message}\n\
+             table of {words} words, limit {limit:?}: {before:?}\n\
+             table of {larger} words, limit {higher:?}: {after:?}"
+        ))
+    }
+
+    /// One call of each; gives the answer.
     pub fn compare(
         &mut self,
         random: &mut Random,
         message: &[u8],
         words: usize,
-    ) -> Result<u8, String> {
+        limit: Limit,
+    ) -> Result<Answer, String> {
         let rubbish = rubbish(random);
         let given = self.message.lend(message.len(), rubbish as u8);
         given.copy_from_slice(message);
-        let by_library = library::read(given, self.library.lend(words, rubbish));
-        let by_second = reported(second::read(message, self.second.lend(words, !rubbish)));
+        let by_library = library::read(given, self.library.lend(words, rubbish), limit);
+        let table = self.second.lend(words, !rubbish);
+        let by_second = reported(both::read(message, table, limit));
         if let Some(difference) = self.difference(message, by_library, by_second) {
             let message = hex::encode(message);
             return Err(format!(
                 "reading differs: {difference}\n\
                  message {message}\n\
-                 table of {words} words\n\
+                 table of {words} words, limit {limit:?}\n\
                  library {by_library:?}\n\
                  second  {by_second:?}"
             ));
         }
-        if random.one_in(8) && !self.is_wrapped_alike(message, words, by_second) {
+        if random.one_in(8) && !self.is_wrapped_alike(message, words, limit, by_second) {
             let message = hex::encode(message);
             return Err(format!(
-                "the wrapper differs\nmessage {message}\ntable of {words} words\nsecond  {by_second:?}"
+                "the wrapper differs\nmessage {message}\ntable of {words} words, limit {limit:?}\nsecond  {by_second:?}"
             ));
         }
-        Ok(by_library.number)
+        Ok(by_library)
     }
 
     /// Whether the Rust wrapper answers with the same numbers, and its items
     /// are the rows that the second implementation left.
-    fn is_wrapped_alike(&mut self, message: &[u8], words: usize, second: Answer) -> bool {
+    fn is_wrapped_alike(
+        &mut self,
+        message: &[u8],
+        words: usize,
+        limit: Limit,
+        second: Answer,
+    ) -> bool {
         let Answer {
             number,
             rows,
             used,
             place,
         } = second;
-        match binmode::read(message, self.library.lend(words, 0)) {
+        let mut table = vec![0; words];
+        let read = match limit {
+            None => binmode::read(message, &mut table),
+            Some(limit) => binmode::read_within(message, &mut table, limit),
+        };
+        match read {
             Ok(message) => {
-                let (all, _) = self.second.content().as_chunks::<ROW_WORDS>();
+                let all = ByColumns::rows(self.second.content()).all().take(rows);
                 let counts = (message.rows(), message.bytes().len()) == (rows, used);
                 let items = message.items().map(binmode::Item::words);
-                number == 0 && counts && items.eq(all[..rows].iter().copied())
+                number == 0 && counts && items.eq(all)
             }
             Err(refusal) => (refusal.reason.number(), refusal.place) == (number, place),
         }
@@ -132,8 +182,8 @@ impl Reading {
         Ok(())
     }
 
-    /// Each sort of bad text by itself, and nesting at its limit with tables
-    /// of every size around the need.
+    /// Each sort of bad text by itself, and nesting at the usual and at the
+    /// highest limit with tables of every size around the need.
     pub fn edges(&mut self, run: &mut Run) -> Compared {
         for text in BAD_TEXTS {
             for head in [&b"RU"[..], b"R>\0", b"RD", b"CU"] {
@@ -143,10 +193,13 @@ impl Reading {
                 self.call(run, &message, 16)?;
             }
         }
-        for levels in NESTING_LIMIT - 1..=NESTING_LIMIT + 2 {
+        let usual = USUAL_NESTING - 1..=USUAL_NESTING + 2;
+        for levels in usual.chain(NESTING_LIMIT - 1..=NESTING_LIMIT + 2) {
             let message = [PREFIX, &b"R"[..], &b"A\x01\0\0\0".repeat(levels), b"t"].concat();
             for words in 0..ROW_WORDS * (levels + 4) {
-                self.call(run, &message, words)?;
+                for limit in [None, HIGHEST] {
+                    self.grown(run, &message, words, limit)?;
+                }
             }
         }
         Ok(())
@@ -181,7 +234,7 @@ impl Reading {
 
     /// How many rows a message needs; a few, if it is refused.
     fn need(&mut self, random: &mut Random, message: &[u8]) -> usize {
-        match second::read(message, &mut self.wide) {
+        match read_at::<ByRows>(message, &mut self.wide, HIGHEST) {
             Read::Accepted { rows, .. } => rows,
             Read::Refused { .. } => random.below(50),
         }
@@ -218,6 +271,13 @@ impl Reading {
         }
         Ok(())
     }
+}
+
+/// The rows that stand in a table, each by its four words.
+fn rows_of(words: &[u32], rows: usize) -> Vec<[u32; ROW_WORDS]> {
+    let text = b"";
+    let table = binmode::Table { words, rows, text };
+    table.items().map(binmode::Item::words).collect()
 }
 
 /// Of any size that is of interest.

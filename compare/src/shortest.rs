@@ -2,8 +2,11 @@
 //! strings, for small tables.
 
 use crate::library;
+use crate::limits::HIGHEST;
 use crate::reading::Compared;
+use second::ByRows;
 use second::generate::{Random, Table, few_strings};
+use second::layout::columns_of;
 use second::shortest::{shortest_by_counting, shortest_by_reading};
 
 /// Tries all small Arrays over three texts, and generated tables.
@@ -35,16 +38,18 @@ pub fn tried(random: &mut Random) -> Compared {
 }
 
 fn by_reading(table: &Table) -> Option<usize> {
-    shortest_by_reading(&table.words, table.rows, &table.text).map(|message| message.len())
+    shortest_by_reading::<ByRows>(&table.words, table.rows, &table.text)
+        .map(|message| message.len())
 }
 
 fn by_counting(table: &Table) -> Option<usize> {
-    shortest_by_counting(&table.words, table.rows, &table.text)
+    shortest_by_counting::<ByRows>(&table.words, table.rows, &table.text)
 }
 
 fn compare(table: &Table, least: Option<usize>) -> Compared {
     let mut output = vec![0; 2_000];
-    let written = library::write(&table.words, table.rows, &table.text, &mut output);
+    let words = columns_of(&table.words);
+    let written = library::write(&words, table.rows, &table.text, HIGHEST, &mut output);
     if written.number == 0 && Some(written.length) == least {
         return Ok(());
     }

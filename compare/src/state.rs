@@ -1,5 +1,6 @@
 //! The library's state of a message in pieces, and its functions for these.
 
+use crate::library::Limit;
 use binmode::sys;
 use second::pieces::Outcome;
 
@@ -24,33 +25,38 @@ pub fn start(rubbish: u32) -> State {
     state
 }
 
-pub fn next(state: &mut State, piece: &[u8], room: &mut [u8], table: &mut [u32]) -> u8 {
+pub fn next(
+    state: &mut State,
+    piece: &[u8],
+    room: &mut [u8],
+    table: &mut [u32],
+    limit: Limit,
+) -> u8 {
     // SAFETY: the state and the slices are valid for the call, and those
     // that are written overlap nothing.
     unsafe {
-        sys::binmode_pieces_next(
-            state,
-            piece.as_ptr(),
-            piece.len(),
-            room.as_mut_ptr(),
-            room.len(),
-            table.as_mut_ptr(),
-            table.len(),
-        )
+        let (bytes, length) = (piece.as_ptr(), piece.len());
+        let (to, size) = (room.as_mut_ptr(), room.len());
+        let (words, count) = (table.as_mut_ptr(), table.len());
+        match limit {
+            None => sys::binmode_pieces_next(state, bytes, length, to, size, words, count),
+            Some(limit) => {
+                sys::binmode_pieces_next_within(state, bytes, length, to, size, words, count, limit)
+            }
+        }
     }
 }
 
-pub fn end(state: &mut State, room: &[u8], table: &mut [u32]) -> u8 {
+pub fn end(state: &mut State, room: &[u8], table: &mut [u32], limit: Limit) -> u8 {
     // SAFETY: the state and the slices are valid for the call, and those
     // that are written overlap nothing.
     unsafe {
-        sys::binmode_pieces_end(
-            state,
-            room.as_ptr(),
-            room.len(),
-            table.as_mut_ptr(),
-            table.len(),
-        )
+        let (from, size) = (room.as_ptr(), room.len());
+        let (words, count) = (table.as_mut_ptr(), table.len());
+        match limit {
+            None => sys::binmode_pieces_end(state, from, size, words, count),
+            Some(limit) => sys::binmode_pieces_end_within(state, from, size, words, count, limit),
+        }
     }
 }
 

@@ -1,6 +1,6 @@
 //! The library's functions for a station, with all that each reports.
 
-use crate::library::{Answer, CardAnswer, Looked, Placed, Written};
+use crate::library::{Answer, CardAnswer, Limit, Looked, Placed, Written};
 use crate::state::State;
 use binmode::sys;
 
@@ -35,22 +35,23 @@ impl Whose {
         }
     }
 
-    pub fn read(self, message: &[u8], table: &mut [u32]) -> Answer {
+    pub fn read(self, message: &[u8], table: &mut [u32], limit: Limit) -> Answer {
+        let Whose { split, station } = self;
         let (mut rows, mut used, mut place) = (NOT_REPORTED, NOT_REPORTED, NOT_REPORTED);
         // SAFETY: the slices and the numbers are valid for the call, and those
         // that are written overlap nothing. So it is in all that follow.
         let number = unsafe {
-            sys::binmode_station_read(
-                message.as_ptr(),
-                message.len(),
-                table.as_mut_ptr(),
-                table.len(),
-                self.split,
-                self.station,
-                &mut rows,
-                &mut used,
-                &mut place,
-            )
+            let (bytes, length) = (message.as_ptr(), message.len());
+            let (words, count) = (table.as_mut_ptr(), table.len());
+            let (rows, used, place) = (&mut rows, &mut used, &mut place);
+            match limit {
+                None => sys::binmode_station_read(
+                    bytes, length, words, count, split, station, rows, used, place,
+                ),
+                Some(limit) => sys::binmode_station_read_within(
+                    bytes, length, words, count, split, station, limit, rows, used, place,
+                ),
+            }
         };
         Answer {
             number,
@@ -88,54 +89,103 @@ impl Whose {
         }
     }
 
-    pub fn next(self, state: &mut State, piece: &[u8], room: &mut [u8], table: &mut [u32]) -> u8 {
+    pub fn next(
+        self,
+        state: &mut State,
+        piece: &[u8],
+        room: &mut [u8],
+        table: &mut [u32],
+        limit: Limit,
+    ) -> u8 {
+        let Whose { split, station } = self;
         // SAFETY: as above.
         unsafe {
-            sys::binmode_station_pieces_next(
-                state,
-                piece.as_ptr(),
-                piece.len(),
-                room.as_mut_ptr(),
-                room.len(),
-                table.as_mut_ptr(),
-                table.len(),
-                self.split,
-                self.station,
-            )
+            let (bytes, length) = (piece.as_ptr(), piece.len());
+            let (to, size) = (room.as_mut_ptr(), room.len());
+            let (words, count) = (table.as_mut_ptr(), table.len());
+            match limit {
+                None => sys::binmode_station_pieces_next(
+                    state, bytes, length, to, size, words, count, split, station,
+                ),
+                Some(limit) => sys::binmode_station_pieces_next_within(
+                    state, bytes, length, to, size, words, count, split, station, limit,
+                ),
+            }
         }
     }
 
-    pub fn end(self, state: &mut State, room: &[u8], table: &mut [u32]) -> u8 {
+    pub fn end(self, state: &mut State, room: &[u8], table: &mut [u32], limit: Limit) -> u8 {
+        let Whose { split, station } = self;
         // SAFETY: as above.
         unsafe {
-            sys::binmode_station_pieces_end(
-                state,
-                room.as_ptr(),
-                room.len(),
-                table.as_mut_ptr(),
-                table.len(),
-                self.split,
-                self.station,
-            )
+            let (from, size) = (room.as_ptr(), room.len());
+            let (words, count) = (table.as_mut_ptr(), table.len());
+            match limit {
+                None => {
+                    sys::binmode_station_pieces_end(state, from, size, words, count, split, station)
+                }
+                Some(limit) => sys::binmode_station_pieces_end_within(
+                    state, from, size, words, count, split, station, limit,
+                ),
+            }
         }
     }
 
-    pub fn write(self, table: &[u32], rows: usize, text: &[u8], output: &mut [u8]) -> Written {
+    pub fn write(
+        self,
+        table: &[u32],
+        rows: usize,
+        text: &[u8],
+        limit: Limit,
+        output: &mut [u8],
+    ) -> Written {
+        let Whose { split, station } = self;
         let mut length = NOT_REPORTED;
         // SAFETY: as above.
         let number = unsafe {
-            sys::binmode_station_write(
-                table.as_ptr(),
-                table.len(),
-                self.split,
-                self.station,
-                rows,
-                text.as_ptr(),
-                text.len(),
-                output.as_mut_ptr(),
-                output.len(),
-                &mut length,
-            )
+            let (words, count) = (table.as_ptr(), table.len());
+            let (text, size) = (text.as_ptr(), text.len());
+            let (to, room) = (output.as_mut_ptr(), output.len());
+            let length = &mut length;
+            match limit {
+                None => sys::binmode_station_write(
+                    words, count, split, station, rows, text, size, to, room, length,
+                ),
+                Some(limit) => sys::binmode_station_write_within(
+                    words, count, split, station, rows, text, size, limit, to, room, length,
+                ),
+            }
+        };
+        Written { number, length }
+    }
+
+    pub fn write_planned(
+        self,
+        table: &[u32],
+        rows: usize,
+        text: &[u8],
+        plan: &[u8],
+        limit: Limit,
+        output: &mut [u8],
+    ) -> Written {
+        let Whose { split, station } = self;
+        let mut length = NOT_REPORTED;
+        // SAFETY: as above.
+        let number = unsafe {
+            let (words, count) = (table.as_ptr(), table.len());
+            let (text, size) = (text.as_ptr(), text.len());
+            let (plan, pairs) = (plan.as_ptr(), plan.len());
+            let (to, room) = (output.as_mut_ptr(), output.len());
+            let length = &mut length;
+            match limit {
+                None => sys::binmode_station_write_planned(
+                    words, count, split, station, rows, text, size, plan, pairs, to, room, length,
+                ),
+                Some(limit) => sys::binmode_station_write_planned_within(
+                    words, count, split, station, rows, text, size, plan, pairs, limit, to, room,
+                    length,
+                ),
+            }
         };
         Written { number, length }
     }

@@ -1,14 +1,17 @@
 //! Stations four and five in turns on one table, by the library and by the
 //! second implementation.
 
+use crate::both;
 use crate::lent::{Lent, rubbish};
-use crate::library::{Answer, CardAnswer, Written};
+use crate::library::{Answer, CardAnswer, Limit, Written};
+use crate::limits::{any_limit, end_at, next_at};
 use crate::reading::Compared;
 use crate::state::{self, State};
 use crate::station_calls::{Lying, Whose};
 use crate::tally::Run;
-use crate::{job, lookup, reading, writing};
+use crate::{job, lookup, plans, reading, writing};
 use second::generate::{Random, Table, card, key, message, row, valid};
+use second::layout::{columns_of, rows_of};
 use second::lookup::Position;
 use second::pieces::Pieces;
 use second::rules::{BYTE_LIMIT, PREFIX, ROW_LIMIT, ROW_WORDS};
@@ -37,6 +40,8 @@ struct AtWork {
     is_broken_off: bool,
     rows: usize,
     text: Vec<u8>,
+    /// Of nesting, in all calls of a message in pieces.
+    limit: Limit,
 }
 
 impl AtWork {
@@ -50,10 +55,12 @@ impl AtWork {
             is_broken_off: false,
             rows: 0,
             text: Vec::new(),
+            limit: None,
         }
     }
 
-    fn begin(&mut self, rubbish: u32, room: usize, message: Vec<u8>) {
+    fn begin(&mut self, rubbish: u32, room: usize, message: Vec<u8>, limit: Limit) {
+        self.limit = limit;
         self.state = state::start(rubbish);
         self.pieces = Pieces::start();
         self.room.lend(room, rubbish as u8);
@@ -98,10 +105,10 @@ impl Stations {
         self.table.content() == self.second && self.table.is_whole()
     }
 
-    fn read(&mut self, whose: Whose, message: &[u8]) -> Result<u8, String> {
-        let by_library = whose.read(message, self.table.again());
+    fn read(&mut self, whose: Whose, message: &[u8], limit: Limit) -> Result<u8, String> {
+        let by_library = whose.read(message, self.table.again(), limit);
         let by_second = match self.share(whose) {
-            Ok(words) => reading::reported(second::read(message, words)),
+            Ok(words) => reading::reported(both::read(message, words, limit)),
             Err(number) => Answer {
                 number,
                 rows: 0,
@@ -120,7 +127,7 @@ impl Stations {
         Err(format!(
             "reading for a station differs\n\
              message {}\n\
-             {whose:?}, table of {words} words\n\
+             {whose:?}, table of {words} words, limit {limit:?}\n\
              library {by_library:?}\n\
              second  {by_second:?}",
             hex::encode(message)
@@ -130,7 +137,7 @@ impl Stations {
     fn read_card(&mut self, whose: Whose, file: &[u8], number: usize) -> Result<u8, String> {
         let by_library = whose.read_card(file, number, self.table.again());
         let by_second = match self.share(whose) {
-            Ok(words) => job::reported(second::job::read_card(file, number, words)),
+            Ok(words) => job::reported(both::read_card(file, number, words)),
             Err(number) => CardAnswer {
                 number,
                 rows: 0,
@@ -165,20 +172,23 @@ impl Stations {
         let is_end = work.to_come.is_empty();
         let length = length.min(work.to_come.len());
         let piece: Vec<u8> = work.to_come.drain(..length).collect();
-        let before = work.state;
+        let (before, limit) = (work.state, work.limit);
         let by_library = match is_end {
             true => {
                 let room = work.room.content();
-                whose.end(&mut work.state, room, self.table.again())
+                whose.end(&mut work.state, room, self.table.again(), limit)
             }
             false => {
                 let room = work.room.again();
-                whose.next(&mut work.state, &piece, room, self.table.again())
+                whose.next(&mut work.state, &piece, room, self.table.again(), limit)
             }
         };
         let by_second = self.share(whose).map(|words| match is_end {
-            true => work.pieces.end(&work.second_room, words),
-            false => work.pieces.next(&piece, &mut work.second_room, words),
+            true => end_at(&mut work.pieces, &work.second_room, words, limit),
+            false => {
+                let room = &mut work.second_room;
+                next_at(&mut work.pieces, &piece, room, words, limit)
+            }
         });
         let same = match by_second {
             Ok(outcome) => {
@@ -191,7 +201,7 @@ impl Stations {
         let difference = format!(
             "a piece for a station differs: {by_library} {:?}\n\
              second {by_second:?}\n\
-             {whose:?}, piece {}, end {is_end}",
+             {whose:?}, piece {}, end {is_end}, limit {limit:?}",
             work.state,
             hex::encode(&piece)
         );
@@ -206,16 +216,50 @@ impl Stations {
         }
     }
 
+    /// Writes what the station read, now and then with a plan.
     fn write(&mut self, whose: Whose, random: &mut Random) -> Result<u8, String> {
         let work = &self.at_work[usize::from(whose.station == 5)];
         let (rows, text) = (work.rows, work.text.clone());
-        let (rubbish, room) = (rubbish(random), random.below(2 * text.len() + 20));
-        let output = self.output.lend(room, rubbish as u8);
-        let by_library = whose.write(self.table.content(), rows, &text, output);
+        let room = random.below(2 * text.len() + 20);
+        let limit = any_limit(random);
+        let plan = random.one_in(2).then(|| {
+            let words = self.share(whose).map_or(Vec::new(), |words| rows_of(words));
+            let text = text.clone();
+            plans::any_plan(random, &Table { words, rows, text })
+        });
+        let rubbish = rubbish(random);
+        self.write_at(whose, rubbish, rows, &text, plan.as_deref(), limit, room)
+    }
+
+    #[allow(clippy::too_many_arguments)] // the library's
+    fn write_at(
+        &mut self,
+        whose: Whose,
+        rubbish: u32,
+        rows: usize,
+        text: &[u8],
+        plan: Option<&[u8]>,
+        limit: Limit,
+        room: usize,
+    ) -> Result<u8, String> {
+        let (table, output) = (self.table.content(), self.output.lend(room, rubbish as u8));
+        let by_library = match plan {
+            None => whose.write(table, rows, text, limit, output),
+            Some(plan) => whose.write_planned(table, rows, text, plan, limit, output),
+        };
         let mut output = vec![rubbish as u8; room];
-        let by_second = match self.share(whose) {
-            Ok(words) => writing::reported(second::write(words, rows, &text, &mut output)),
-            Err(number) => Written { number, length: 0 },
+        let by_second = match (self.share(whose), plan) {
+            (Ok(words), None) => {
+                let by_rows = rows_of(words);
+                writing::reported(both::write(&by_rows, rows, text, limit, &mut output))
+            }
+            (Ok(words), Some(plan)) => {
+                let (by_rows, output) = (rows_of(words), &mut output);
+                writing::reported(both::write_planned(
+                    &by_rows, rows, text, plan, limit, output,
+                ))
+            }
+            (Err(number), _) => Written { number, length: 0 },
         };
         let same_output = self.output.content() == output && self.output.is_whole();
         if by_library == by_second && same_output && self.same_table() {
@@ -223,11 +267,11 @@ impl Stations {
         }
         Err(format!(
             "writing from a share differs\n\
-             {whose:?}, {rows} rows, output of {room} bytes\n\
+             {whose:?}, {rows} rows, output of {room} bytes, limit {limit:?}, plan {plan:?}\n\
              text {}\n\
              library {by_library:?}\n\
              second  {by_second:?}",
-            hex::encode(&text)
+            hex::encode(text)
         ))
     }
 
@@ -238,7 +282,7 @@ impl Stations {
             table.ok()
         });
         let table = Table {
-            words: words.unwrap_or_default().to_vec(),
+            words: rows_of(words.unwrap_or_default()),
             rows: work.rows,
             text: work.text.clone(),
         };
@@ -248,9 +292,9 @@ impl Stations {
         let by_library = whose.lookup(rubbish, self.table.content(), *rows, text, row, &key);
         let placed = whose.position(rubbish, self.table.content(), *rows, text, row);
         let (member, position) = match words {
-            Some(words) => (
-                second::lookup::lookup(words, *rows, text, row, &key),
-                second::lookup::position(words, *rows, text, row),
+            Some(_) => (
+                both::lookup(&table.words, *rows, text, row, &key),
+                both::position(&table.words, *rows, text, row),
             ),
             None => (Err(NOT_SPLIT), Err::<Position, u8>(NOT_SPLIT)),
         };
@@ -312,7 +356,8 @@ impl Stations {
                         }
                         self.lend(words, rubbish(&mut run.random));
                         self.lies(whose)?;
-                        let answer = self.read(whose, message);
+                        let limit = any_limit(&mut run.random);
+                        let answer = self.read(whose, message, limit);
                         Self::noted(run, answer)?;
                     }
                 }
@@ -334,7 +379,53 @@ impl Stations {
                     let spare = run.random.below(ROW_WORDS);
                     let rows = split + ROW_LIMIT + run.random.below(3);
                     self.lend(ROW_WORDS * rows + spare, rubbish(&mut run.random));
-                    let answer = self.read(Whose { split, station }, &message);
+                    let answer = self.read(Whose { split, station }, &message, None);
+                    Self::noted(run, answer)?;
+                }
+            }
+        }
+        Ok(())
+    }
+
+    /// A message read into each share of a table that is split behind so many
+    /// rows, and into one that is split nowhere.
+    pub fn both_read(
+        &mut self,
+        run: &mut Run,
+        message: &[u8],
+        rows: usize,
+        limit: Limit,
+    ) -> Compared {
+        self.lend(ROW_WORDS * 2 * rows, rubbish(&mut run.random));
+        for (split, station) in [(rows, 4), (rows, 5), (0, 4), (rows, 6)] {
+            if !run.tally.is_over() {
+                let answer = self.read(Whose { split, station }, message, limit);
+                Self::noted(run, answer)?;
+            }
+        }
+        Ok(())
+    }
+
+    /// A table written from each share of one that holds it twice, with and
+    /// without a plan; and from no share.
+    pub fn both_write(
+        &mut self,
+        run: &mut Run,
+        table: &Table,
+        plan: &[u8],
+        room: usize,
+        limit: Limit,
+    ) -> Compared {
+        let Table { words, rows, text } = table;
+        let own = columns_of(&words[..ROW_WORDS * rows]);
+        self.second = [&own[..], &own].concat();
+        let both = self.table.lend(self.second.len(), 0);
+        both.copy_from_slice(&self.second);
+        for (split, station) in [(*rows, 4), (*rows, 5), (0, 4), (*rows, 6)] {
+            for plan in [None, Some(plan)] {
+                if !run.tally.is_over() {
+                    let (whose, rubbish) = (Whose { split, station }, rubbish(&mut run.random));
+                    let answer = self.write_at(whose, rubbish, *rows, text, plan, limit, room);
                     Self::noted(run, answer)?;
                 }
             }
@@ -355,7 +446,7 @@ impl Stations {
         self.lend(words, rubbish(random));
         for work in &mut self.at_work {
             let (rubbish, message) = (rubbish(random), message(random));
-            work.begin(rubbish, BYTE_LIMIT, message);
+            work.begin(rubbish, BYTE_LIMIT, message, any_limit(random));
             (work.rows, work.text) = (random.below(6), random.text(20));
         }
         for _ in 0..16 {
@@ -382,7 +473,7 @@ impl Stations {
                     _ => valid(random),
                 };
                 self.at_work[at].is_broken_off = true;
-                self.read(whose, &text)
+                self.read(whose, &text, any_limit(random))
             }
             2 => {
                 let cards = [message(random), valid(random)];
@@ -394,7 +485,7 @@ impl Stations {
                 if self.at_work[at].is_broken_off || random.one_in(12) {
                     let room = *random.pick(&[BYTE_LIMIT, BYTE_LIMIT, BYTE_LIMIT + 1, 100]);
                     let (rubbish, message) = (rubbish(random), message(random));
-                    self.at_work[at].begin(rubbish, room, message);
+                    self.at_work[at].begin(rubbish, room, message, any_limit(random));
                 }
                 self.piece(whose, random.below(40))
             }

@@ -29,7 +29,7 @@ const MEANINGS: [&str; NUMBERS] = [
     "the same key twice",
     "list too short",
     "row splits no table",
-    "",
+    "no limit of nesting",
     "plan not taken",
     "",
     "no such card",

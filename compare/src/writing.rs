@@ -1,14 +1,17 @@
 //! Writing, by the library and by the second implementation.
 
+use crate::both;
 use crate::edges::at_the_edges;
 use crate::gather::gathered_table;
 use crate::lent::{Lent, rubbish};
-use crate::library::{self, Written};
+use crate::library::{self, Limit, Written};
+use crate::limits::{HIGHEST, any_limit, read_at, write_at};
 use crate::reading::Compared;
 use crate::tally::Run;
 use second::generate::{Random, Table, few_strings, output_length, table};
+use second::layout::columns_of;
 use second::rules::{BYTE_LIMIT, ROW_LIMIT, ROW_WORDS, kind};
-use second::{Read, Write, hex, papers};
+use second::{ByRows, Read, Write, hex, papers};
 
 pub struct Writing {
     words: Lent<u32>,
@@ -29,11 +32,16 @@ impl Writing {
         }
     }
 
-    /// One call of each, if any are left, with this table and an output of so
-    /// many bytes.
+    /// One call of each, if any are left, with this table, an output of so many
+    /// bytes and any limit of nesting.
     fn call(&mut self, run: &mut Run, table: &Table, room: usize) -> Compared {
+        let limit = any_limit(&mut run.random);
+        self.call_at(run, table, room, limit)
+    }
+
+    pub fn call_at(&mut self, run: &mut Run, table: &Table, room: usize, limit: Limit) -> Compared {
         if !run.tally.is_over() {
-            let number = self.compare(&mut run.random, table, room)?;
+            let number = self.compare(&mut run.random, table, room, limit)?;
             run.tally.wrote(number);
         }
         Ok(())
@@ -45,16 +53,18 @@ impl Writing {
         random: &mut Random,
         table: &Table,
         room: usize,
+        limit: Limit,
     ) -> Result<u8, String> {
         let rubbish = rubbish(random);
         let words = self.words.lend(table.words.len(), rubbish);
-        words.copy_from_slice(&table.words);
+        words.copy_from_slice(&columns_of(&table.words));
         let text = self.text.lend(table.text.len(), rubbish as u8);
         text.copy_from_slice(&table.text);
         let output = self.library.lend(room, rubbish as u8);
-        let by_library = library::write(words, table.rows, text, output);
+        let by_library = library::write(words, table.rows, text, limit, output);
         let output = self.second.lend(room, !rubbish as u8);
-        let by_second = reported(second::write(&table.words, table.rows, &table.text, output));
+        let by_second = both::write(&table.words, table.rows, &table.text, limit, output);
+        let by_second = reported(by_second);
         if let Some(difference) = self.difference(table, by_library, by_second) {
             let text = hex::encode(&table.text);
             return Err(format!(
@@ -62,7 +72,7 @@ impl Writing {
                  table {words:?}\n\
                  rows {rows}\n\
                  text {text}\n\
-                 output of {room} bytes\n\
+                 output of {room} bytes, limit {limit:?}\n\
                  library {by_library:?}\n\
                  second  {by_second:?}",
                 words = table.words,
@@ -88,7 +98,8 @@ impl Writing {
         if !self.library.is_whole() {
             return Some("the library wrote outside the output".into());
         }
-        let table_is_whole = self.words.content() == table.words && self.words.is_whole();
+        let table_is_whole =
+            self.words.content() == columns_of(&table.words) && self.words.is_whole();
         if !table_is_whole || self.text.content() != table.text || !self.text.is_whole() {
             return Some("the library wrote to the table or the text".into());
         }
@@ -132,7 +143,8 @@ impl Writing {
 
     /// How many bytes a table needs; a few, if it is refused.
     fn need(&mut self, random: &mut Random, table: &Table) -> usize {
-        match second::write(&table.words, table.rows, &table.text, &mut self.wide) {
+        let (words, rows, text) = (&table.words, table.rows, &table.text);
+        match write_at::<ByRows>(words, rows, text, HIGHEST, &mut self.wide) {
             Write::Accepted { length } => length,
             Write::Refused { .. } => random.below(100),
         }
@@ -185,7 +197,7 @@ impl Writing {
 /// The table that reading a message gives, with the message as text bytes.
 pub fn read_table(text: Vec<u8>) -> Table {
     let mut words = vec![0; ROW_LIMIT * ROW_WORDS];
-    let rows = match second::read(&text, &mut words) {
+    let rows = match read_at::<ByRows>(&text, &mut words, HIGHEST) {
         Read::Accepted { rows, .. } => rows,
         Read::Refused { .. } => 0,
     };

@@ -88,14 +88,14 @@ static inline void print_rows(const struct binmode_view *view)
 }
 
 /*
- * Reads a message, or of a job file the card of a number, into a table of BINMODE_TABLE_WORDS words: FINE, and what is to be looked at; or
- * REFUSED, which is printed.
+ * Reads a message, or of a job file the card of a number, into a table of BINMODE_TABLE_WORDS words, nested as deep as may be: FINE, and
+ * what is to be looked at; or REFUSED, which is printed.
  */
 static inline int load(const uint8_t *file, size_t length, const size_t *card, uint32_t *table, struct binmode_view *view)
 {
     size_t rows, used, place, body = 0;
     uint8_t number = card == NULL
-                         ? binmode_read(file, length, table, BINMODE_TABLE_WORDS, &rows, &used, &place)
+                         ? binmode_read_within(file, length, table, BINMODE_TABLE_WORDS, BINMODE_MOST_NESTING, &rows, &used, &place)
                          : binmode_read_card(file, length, *card, table, BINMODE_TABLE_WORDS, &rows, &used, &place, &body);
     if (number != BINMODE_ACCEPTED)
         return print_refusal(number, place);

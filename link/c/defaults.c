@@ -24,7 +24,8 @@ static struct message card, defaults;
 static uint8_t read_message(struct message *message, const uint8_t *bytes, size_t length, size_t *place)
 {
     message->text = bytes;
-    return binmode_read(bytes, length, message->table, BINMODE_TABLE_WORDS, &message->rows, &message->used, place);
+    return binmode_read_within(bytes, length, message->table, BINMODE_TABLE_WORDS, BINMODE_MOST_NESTING, &message->rows,
+                               &message->used, place);
 }
 
 /* What the card has under the key, or behind it the defaults. */

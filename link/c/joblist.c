@@ -9,7 +9,7 @@ static uint32_t table[BINMODE_TABLE_WORDS];
 static int list_card(const uint8_t *body, size_t size)
 {
     size_t rows, used, place;
-    uint8_t number = binmode_read(body, size, table, BINMODE_TABLE_WORDS, &rows, &used, &place);
+    uint8_t number = binmode_read_within(body, size, table, BINMODE_TABLE_WORDS, BINMODE_MOST_NESTING, &rows, &used, &place);
     if (number != BINMODE_ACCEPTED)
         return print_refusal(number, place);
     printf("rows %zu used %zu\n", rows, used);

@@ -22,9 +22,10 @@ static int take_pieces(int input, struct binmode_pieces *state)
         if (length < 0)
             return -1;
         if (length == 0)
-            binmode_pieces_end(state, room, sizeof room, table, BINMODE_TABLE_WORDS);
+            binmode_pieces_end_within(state, room, sizeof room, table, BINMODE_TABLE_WORDS, BINMODE_MOST_NESTING);
         else
-            binmode_pieces_next(state, piece, (size_t)length, room, sizeof room, table, BINMODE_TABLE_WORDS);
+            binmode_pieces_next_within(state, piece, (size_t)length, room, sizeof room, table, BINMODE_TABLE_WORDS,
+                                       BINMODE_MOST_NESTING);
     }
     return 0;
 }

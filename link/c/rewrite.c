@@ -17,10 +17,11 @@ static int refused(uint8_t number, size_t place)
 static int rewrite(const uint8_t *message, size_t length)
 {
     size_t rows, used, place, size;
-    uint8_t number = binmode_read(message, length, table, BINMODE_TABLE_WORDS, &rows, &used, &place);
+    uint8_t number =
+        binmode_read_within(message, length, table, BINMODE_TABLE_WORDS, BINMODE_MOST_NESTING, &rows, &used, &place);
     if (number != BINMODE_ACCEPTED)
         return refused(number, place);
-    number = binmode_write(table, BINMODE_TABLE_WORDS, rows, message, used, output, sizeof output, &size);
+    number = binmode_write_within(table, BINMODE_TABLE_WORDS, rows, message, used, BINMODE_MOST_NESTING, output, sizeof output, &size);
     if (number != BINMODE_ACCEPTED)
         return refused(number, 0);
     fwrite(output, 1, size, stdout);

@@ -180,7 +180,8 @@ static int looks_like_job(const uint8_t *file, size_t length)
 static int show_message(const uint8_t *message, size_t length)
 {
     size_t rows, used, place;
-    uint8_t number = binmode_read(message, length, table, BINMODE_TABLE_WORDS, &rows, &used, &place);
+    uint8_t number =
+        binmode_read_within(message, length, table, BINMODE_TABLE_WORDS, BINMODE_MOST_NESTING, &rows, &used, &place);
     if (number != BINMODE_ACCEPTED)
         return show_refusal(message, length, number, place);
     struct binmode_view view = {table, BINMODE_TABLE_WORDS, rows, message, used};

@@ -41,8 +41,8 @@ static int print_card(const uint8_t *file, size_t split, const struct card *card
     if (card->answer != BINMODE_ACCEPTED)
         return print_refusal(card->answer, card->place);
     printf("at %zu rows %zu used %zu ", card->body, card->rows, card->used);
-    uint8_t answer = binmode_station_write(table, BINMODE_TABLE_WORDS, split, card->station, card->rows, file + card->body,
-                                           card->used, output, sizeof output, &written);
+    uint8_t answer = binmode_station_write_within(table, BINMODE_TABLE_WORDS, split, card->station, card->rows, file + card->body,
+                                                  card->used, BINMODE_MOST_NESTING, output, sizeof output, &written);
     if (answer != BINMODE_ACCEPTED)
         return print_refusal(answer, 0);
     printf("written %zu\n", written);

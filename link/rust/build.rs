@@ -4,7 +4,7 @@
 use std::path::PathBuf;
 
 /// Only the library of this major version has it.
-const VERSION: &[u8] = b"binmode_version_1\0";
+const VERSION: &[u8] = b"binmode_version_2\0";
 
 fn main() {
     println!("cargo::rerun-if-env-changed=BINMODE_LIB_DIR");

@@ -8,12 +8,14 @@
 //! length, the number (0 if accepted), the length, and the bytes written. All
 //! other bytes are 0.
 //!
+//! Both are answered at the highest limit of nesting.
+//!
 //! Bytes stand in hexadecimal, words in decimal with commas between, and `-`
 //! for none of them.
 
 use crate::generate::{Random, message, output_length, table, table_words};
-use crate::rules::{BYTE_LIMIT, PREFIX, ROW_LIMIT, ROW_WORDS};
-use crate::{Read, Write, hex, papers, read, write};
+use crate::rules::{BYTE_LIMIT, NESTING_LIMIT, PREFIX, ROW_LIMIT, ROW_WORDS};
+use crate::{ByRows, Read, Write, hex, papers, read_within, write_within};
 
 /// The stored lines.
 pub const MESSAGES: &str = include_str!("../corpus/read.txt");
@@ -21,7 +23,8 @@ pub const TABLES: &str = include_str!("../corpus/write.txt");
 
 pub fn message_line(message: &[u8], words: usize) -> String {
     let mut table = vec![u32::MAX; words];
-    let (number, place, rows, used) = match read(message, &mut table) {
+    let answer = read_within::<ByRows>(message, &mut table, NESTING_LIMIT);
+    let (number, place, rows, used) = match answer {
         Read::Accepted { rows, used } => (0, 0, rows, used),
         Read::Refused { number, place } => (number, place, 0, 0),
     };
@@ -32,7 +35,8 @@ pub fn message_line(message: &[u8], words: usize) -> String {
 
 pub fn table_line(table: &[u32], rows: usize, text: &[u8], room: usize) -> String {
     let mut output = vec![u8::MAX; room];
-    let (number, length) = match write(table, rows, text, &mut output) {
+    let answer = write_within::<ByRows>(table, rows, text, NESTING_LIMIT, &mut output);
+    let (number, length) = match answer {
         Write::Accepted { length } => (0, length),
         Write::Refused { number } => (number, 0),
     };
@@ -71,7 +75,8 @@ pub fn papers_lines() -> Vec<String> {
 
 pub fn generated_message_line(random: &mut Random) -> String {
     let message = message(random);
-    let need = match read(&message, &mut [0; ROW_LIMIT * ROW_WORDS]) {
+    let mut words = [0; ROW_LIMIT * ROW_WORDS];
+    let need = match read_within::<ByRows>(&message, &mut words, NESTING_LIMIT) {
         Read::Accepted { rows, .. } => rows,
         Read::Refused { .. } => random.below(10),
     };
@@ -80,7 +85,9 @@ pub fn generated_message_line(random: &mut Random) -> String {
 
 pub fn generated_table_line(random: &mut Random) -> String {
     let table = table(random);
-    let need = match write(&table.words, table.rows, &table.text, &mut [0; BYTE_LIMIT]) {
+    let (words, rows, text) = (&table.words, table.rows, &table.text);
+    let mut output = [0; BYTE_LIMIT];
+    let need = match write_within::<ByRows>(words, rows, text, NESTING_LIMIT, &mut output) {
         Write::Accepted { length } => length,
         Write::Refused { .. } => random.below(100),
     };

@@ -1,8 +1,9 @@
 //! Job defaults behind the card, written from document 02 (request E9) only.
 
+use crate::layout::{Layout, Rows};
 use crate::lookup::{find, sought};
 use crate::rules::{kind, refusal};
-use crate::writer::{Row, writable};
+use crate::writer::writable;
 
 /// What a text is asked of, the card or the defaults: a table with a stated
 /// number of rows, the bytes its contents lie in, and the Struct's row.
@@ -31,19 +32,19 @@ pub struct Text {
 
 /// The card's text if the card's Struct has the key, otherwise the defaults';
 /// or the number of a refusal.
-pub fn default_text(card: Asked, defaults: Asked, key: &[u8]) -> Result<Text, u8> {
-    let own = judged(card)?;
-    let other = judged(defaults)?;
+pub fn default_text<L: Layout>(card: Asked, defaults: Asked, key: &[u8]) -> Result<Text, u8> {
+    let own = judged::<L>(card)?;
+    let other = judged::<L>(defaults)?;
     for (rows, row) in [(own, card.row), (other, defaults.row)] {
         if rows.get(row).is_none_or(|row| row[0] != kind::STRUCT) {
             return Err(sought::NO_MEMBER);
         }
     }
     let (source, value) = match find(own, card.text, card.row, key) {
-        Some(value) => (Source::Card, own[value]),
+        Some(value) => (Source::Card, own.at(value)),
         None => {
             let value = find(other, defaults.text, defaults.row, key);
-            (Source::Defaults, other[value.ok_or(sought::NO_MEMBER)?])
+            (Source::Defaults, other.at(value.ok_or(sought::NO_MEMBER)?))
         }
     };
     match value {
@@ -56,13 +57,14 @@ pub fn default_text(card: Asked, defaults: Asked, key: &[u8]) -> Result<Text, u8
     }
 }
 
-fn judged(asked: Asked<'_>) -> Result<&[Row], u8> {
-    writable(asked.table, asked.rows, asked.text, |_| {}).ok_or(refusal::TABLE)
+fn judged<L: Layout>(asked: Asked<'_>) -> Result<L::Rows<'_>, u8> {
+    writable::<L>(asked.table, asked.rows, asked.text).ok_or(refusal::TABLE)
 }
 
 #[cfg(test)]
 mod tests {
     use super::*;
+    use crate::layout::ByRows;
     use crate::reader::{Read, read};
 
     /// A Response of a Struct with these members, read.
@@ -83,7 +85,7 @@ mod tests {
                 text.extend(*value);
             }
             let mut table = vec![0; 400];
-            let Read::Accepted { rows, .. } = read(&text, &mut table) else {
+            let Read::Accepted { rows, .. } = read::<ByRows>(&text, &mut table) else {
                 panic!("{text:?}");
             };
             Message { table, rows, text }
@@ -114,7 +116,8 @@ mod tests {
             ("b", b"U\x02\0\0\0de"),
             ("m", b"I\0\0\0\0"),
         ]);
-        let text = |key: &str| default_text(card.asked(1), behind.asked(1), key.as_bytes());
+        let text =
+            |key: &str| default_text::<ByRows>(card.asked(1), behind.asked(1), key.as_bytes());
         for (key, source, bytes) in [
             ("a", Source::Card, &b"c"[..]),
             ("e", Source::Card, b""),
@@ -137,7 +140,8 @@ mod tests {
     #[test]
     fn refusals_in_order() {
         let (card, behind) = (Message::of(&[("a", b"U\x01\0\0\0c")]), Message::of(&[]));
-        let text = |card, behind| default_text(card, behind, b"a").map(|text| text.source);
+        let text =
+            |card, behind| default_text::<ByRows>(card, behind, b"a").map(|text| text.source);
         assert_eq!(text(card.asked(1), behind.asked(1)), Ok(Source::Card));
         // Either row is no Struct, though the card has the key.
         for row in [0, 2, 4, usize::MAX] {

@@ -6,9 +6,11 @@ mod structs;
 mod tables;
 
 pub use ascii::{decimal, doubtful, good};
-pub use messages::{BAD_TEXTS, beyond, card, damaged, message, valid};
+pub use messages::{BAD_TEXTS, beyond, card, damaged, deep as deep_message, message, valid};
 pub use structs::{key, row, structs};
-pub use tables::{Table, damage, few_strings, key_again, output_length, table, writable};
+pub use tables::{
+    Table, damage, deep as deep_table, few_strings, key_again, output_length, table, writable,
+};
 
 /// A small seeded source of numbers (splitmix64).
 pub struct Random(u64);

@@ -1,10 +1,11 @@
 //! An index of a Struct's members, and keys looked up through a list of
 //! entries, written from document 02 (request E8) only.
 
+use crate::layout::{Layout, Rows};
 use crate::lookup::{self, Member, answer, sought};
 use crate::meaning::content;
 use crate::rules::{kind, refusal};
-use crate::writer::{Row, writable};
+use crate::writer::writable;
 
 /// The list is shorter than the member count.
 pub const SHORT_LIST: u8 = 21;
@@ -17,15 +18,15 @@ pub struct Entry {
 }
 
 /// The key row and the value row of each member of the Struct in a row.
-pub fn members(rows: &[Row], row: usize) -> Option<Vec<Entry>> {
-    let &[kind, _, pairs, _] = rows.get(row)?;
+pub fn members(rows: impl Rows, row: usize) -> Option<Vec<Entry>> {
+    let [kind, _, pairs, _] = rows.get(row)?;
     let mut at = row as u32 + 1;
     let mut member = |_| {
         let entry = Entry {
             key: at,
             value: at + 1,
         };
-        at = rows[at as usize + 1][3];
+        at = rows.at(at as usize + 1)[3];
         entry
     };
     (kind == kind::STRUCT).then(|| (0..pairs).map(&mut member).collect())
@@ -33,20 +34,20 @@ pub fn members(rows: &[Row], row: usize) -> Option<Vec<Entry>> {
 
 /// The whole list of `length` entries, or the number of a refusal; then all
 /// entries are zero.
-pub fn fill(
+pub fn fill<L: Layout>(
     table: &[u32],
     rows: usize,
     text: &[u8],
     row: usize,
     length: usize,
 ) -> Result<Vec<Entry>, u8> {
-    let rows = writable(table, rows, text, |_| {}).ok_or(refusal::TABLE)?;
+    let rows = writable::<L>(table, rows, text).ok_or(refusal::TABLE)?;
     let mut list = members(rows, row).ok_or(sought::NO_MEMBER)?;
     if length < list.len() {
         return Err(SHORT_LIST);
     }
     let key = |entry: &Entry| {
-        let [_, offset, size, _] = rows[entry.key as usize];
+        let [_, offset, size, _] = rows.at(entry.key as usize);
         content(text, offset, size).expect("a writable table's text")
     };
     list.sort_by_key(key);
@@ -57,12 +58,13 @@ pub fn fill(
 /// The answers that document 02 allows for a key looked up through a list:
 /// that of the search from the front; and 18, unless the list is the Struct's
 /// own index. The first is allowed only if an entry names the key's two rows.
+#[derive(PartialEq)]
 pub struct Allowed {
     pub front: Option<Result<Member, u8>>,
     pub absent: bool,
 }
 
-pub fn allowed(
+pub fn allowed<L: Layout>(
     table: &[u32],
     rows: usize,
     text: &[u8],
@@ -71,7 +73,7 @@ pub fn allowed(
     key: &[u8],
 ) -> Allowed {
     let stated = rows;
-    let Some(rows) = writable(table, rows, text, |_| {}) else {
+    let Some(rows) = writable::<L>(table, rows, text) else {
         let front = Some(Err(refusal::TABLE));
         return Allowed {
             front,
@@ -84,7 +86,7 @@ pub fn allowed(
         list.contains(&Entry { key, value })
     });
     let front = value.map(|value| answer(rows, text, value));
-    let own = fill(table, stated, text, row, list.len()).is_ok_and(|index| index == list);
+    let own = fill::<L>(table, stated, text, row, list.len()).is_ok_and(|index| index == list);
     Allowed {
         front: front.filter(|_| named),
         absent: !own || value.is_none(),
@@ -93,7 +95,7 @@ pub fn allowed(
 
 /// Keys looked up through a list by halves, the table judged once. This is how
 /// it is done here; of a foreign list others may find more, or less.
-pub fn find(
+pub fn find<L: Layout>(
     table: &[u32],
     rows: usize,
     text: &[u8],
@@ -101,13 +103,13 @@ pub fn find(
     list: &[Entry],
     keys: &[&[u8]],
 ) -> Vec<Result<Member, u8>> {
-    let Some(rows) = writable(table, rows, text, |_| {}) else {
+    let Some(rows) = writable::<L>(table, rows, text) else {
         return vec![Err(refusal::TABLE); keys.len()];
     };
     let used = list.partition_point(|entry| entry.key != 0);
     let members = members(rows, row).unwrap_or_default();
     let of = |entry: &Entry| {
-        let &[_, offset, size, _] = rows.get(entry.key as usize).unwrap_or(&[0; 4]);
+        let [_, offset, size, _] = rows.get(entry.key as usize).unwrap_or_default();
         content(text, offset, size).unwrap_or_default()
     };
     let one = |key: &&[u8]| {
@@ -123,6 +125,7 @@ pub fn find(
 #[cfg(test)]
 mod tests {
     use super::*;
+    use crate::layout::ByRows;
     use crate::reader::{Read, read};
 
     /// A Response of a Struct of Booleans with these keys, and of one Struct in
@@ -141,7 +144,7 @@ mod tests {
         message.extend([string("~"), b"S\x01\0\0\0".to_vec(), string(keys[0])].concat());
         message.push(b'f');
         let mut table = vec![0; 400];
-        let Read::Accepted { rows, .. } = read(&message, &mut table) else {
+        let Read::Accepted { rows, .. } = read::<ByRows>(&message, &mut table) else {
             panic!("{message:?}");
         };
         (table, rows, message)
@@ -158,25 +161,28 @@ mod tests {
     #[test]
     fn byte_order() {
         let (table, rows, text) = card(&["b", "ab", "", "a", "é", "B"]);
-        let filled = fill(&table, rows, &text, 1, 9);
+        let filled = fill::<ByRows>(&table, rows, &text, 1, 9);
         // "", B, a, ab, b, ~, é
         assert_eq!(filled, Ok(entries(&[6, 12, 8, 4, 2, 14, 10, 0, 0])));
-        assert_eq!(fill(&table, rows, &text, 1, 7).unwrap().len(), 7);
-        assert_eq!(fill(&table, rows, &text, 1, 6), Err(21));
-        assert_eq!(fill(&table, rows, &text, 2, 0), Err(18));
-        assert_eq!(fill(&table, rows, &text, 99, 0), Err(18));
-        assert_eq!(fill(&table, rows + 1, &text, 1, 0), Err(11));
-        assert_eq!(fill(&table, rows, &text, 15, 1), Ok(entries(&[16])));
+        assert_eq!(fill::<ByRows>(&table, rows, &text, 1, 7).unwrap().len(), 7);
+        assert_eq!(fill::<ByRows>(&table, rows, &text, 1, 6), Err(21));
+        assert_eq!(fill::<ByRows>(&table, rows, &text, 2, 0), Err(18));
+        assert_eq!(fill::<ByRows>(&table, rows, &text, 99, 0), Err(18));
+        assert_eq!(fill::<ByRows>(&table, rows + 1, &text, 1, 0), Err(11));
+        assert_eq!(
+            fill::<ByRows>(&table, rows, &text, 15, 1),
+            Ok(entries(&[16]))
+        );
     }
 
     #[test]
     fn foreign_lists() {
         let (table, rows, text) = card(&["b", "a"]);
         let of = |list: &[Entry], key: &str| {
-            let of = allowed(&table, rows, &text, 1, list, key.as_bytes());
+            let of = allowed::<ByRows>(&table, rows, &text, 1, list, key.as_bytes());
             (of.front.is_some(), of.absent)
         };
-        let index = fill(&table, rows, &text, 1, 4).unwrap();
+        let index = fill::<ByRows>(&table, rows, &text, 1, 4).unwrap();
         assert_eq!(of(&index, "a"), (true, false));
         assert_eq!(of(&index, "x"), (false, true));
         assert_eq!(of(&entries(&[2, 4, 6, 0]), "a"), (true, true));
@@ -189,12 +195,18 @@ mod tests {
     #[test]
     fn through_an_index() {
         let (table, rows, text) = card(&["b", "ab", "", "a", "B"]);
-        let index = fill(&table, rows, &text, 1, 8).unwrap();
+        let index = fill::<ByRows>(&table, rows, &text, 1, 8).unwrap();
         let keys: [&[u8]; 7] = [b"b", b"ab", b"", b"a", b"B", b"~", b"x"];
-        let found = find(&table, rows, &text, 1, &index, &keys);
+        let found = find::<ByRows>(&table, rows, &text, 1, &index, &keys);
         for (key, found) in keys.iter().zip(found) {
-            assert_eq!(found, crate::lookup::lookup(&table, rows, &text, 1, key));
+            assert_eq!(
+                found,
+                crate::lookup::lookup::<ByRows>(&table, rows, &text, 1, key)
+            );
         }
-        assert_eq!(find(&table, rows + 1, &text, 1, &index, &keys), [Err(11); 7]);
+        assert_eq!(
+            find::<ByRows>(&table, rows + 1, &text, 1, &index, &keys),
+            [Err(11); 7]
+        );
     }
 }

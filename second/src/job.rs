@@ -1,7 +1,9 @@
 //! Whole job files, written from document 02 (request E2) only: a row of
 //! records, of which those of kind 1 are card messages.
 
-use crate::reader::{Read, read};
+use crate::layout::Layout;
+use crate::reader::{Read, read_within};
+use crate::rules::NESTING_LIMIT;
 
 /// Refusals that the file gives, and not a card.
 pub mod refusal {
@@ -111,9 +113,9 @@ pub enum Card {
 
 /// Reads card `number` of a file into a table, which is all zeros on a
 /// refusal. Looks no further than the card's record.
-pub fn read_card(file: &[u8], number: usize, table: &mut [u32]) -> Card {
+pub fn read_card<L: Layout>(file: &[u8], number: usize, table: &mut [u32]) -> Card {
     match find(file, number) {
-        Ok((body, message)) => match read(message, table) {
+        Ok((body, message)) => match read_within::<L>(message, table, NESTING_LIMIT) {
             Read::Accepted { rows, used } => Card::Accepted { rows, used, body },
             Read::Refused { number, place } => Card::Refused { number, place },
         },
@@ -156,11 +158,12 @@ pub fn job(cards: &[&[u8]]) -> Vec<u8> {
 #[cfg(test)]
 mod tests {
     use super::*;
+    use crate::layout::ByRows;
 
     const CARD: &[u8] = b"binmode-rpc:RI\x04\0\0\0";
 
     fn asked(file: &[u8], number: usize) -> Card {
-        read_card(file, number, &mut [7; 8])
+        read_card::<ByRows>(file, number, &mut [7; 8])
     }
 
     fn refused(number: u8, place: usize) -> Card {

@@ -8,6 +8,7 @@ pub mod hex;
 pub mod index;
 pub mod job;
 pub mod keys;
+pub mod layout;
 pub mod lookup;
 pub mod meaning;
 pub mod papers;
@@ -20,6 +21,7 @@ pub mod shortest;
 pub mod stations;
 pub mod writer;
 
+pub use layout::{ByColumns, ByRows};
 pub use meaning::same_meaning;
-pub use reader::{Read, read};
-pub use writer::{Write, write};
+pub use reader::{Read, read, read_within};
+pub use writer::{Write, write, write_within};

@@ -2,9 +2,10 @@
 //! document 02 (requests E5 and E7) only. The keys of a writable table's
 //! Structs are distinct, so that a member found is the only one.
 
+use crate::layout::{Layout, Rows};
 use crate::meaning::content;
 use crate::rules::{kind, refusal};
-use crate::writer::{Row, writable};
+use crate::writer::writable;
 
 /// Refusals that only looking up gives.
 pub mod sought {
@@ -39,21 +40,21 @@ pub struct Position {
 
 /// The member with this key of the Struct in a row of a table, whose
 /// contents lie in `text`; or the number of a refusal.
-pub fn lookup(
+pub fn lookup<L: Layout>(
     table: &[u32],
     rows: usize,
     text: &[u8],
     row: usize,
     key: &[u8],
 ) -> Result<Member, u8> {
-    let rows = writable(table, rows, text, |_| {}).ok_or(refusal::TABLE)?;
+    let rows = writable::<L>(table, rows, text).ok_or(refusal::TABLE)?;
     let value = find(rows, text, row, key).ok_or(sought::NO_MEMBER)?;
     answer(rows, text, value)
 }
 
 /// What the value in a row answers.
-pub(crate) fn answer(rows: &[Row], text: &[u8], value: usize) -> Result<Member, u8> {
-    let [kind, a, b, _] = rows[value];
+pub(crate) fn answer(rows: impl Rows, text: &[u8], value: usize) -> Result<Member, u8> {
+    let [kind, a, b, _] = rows.at(value);
     Ok(match kind {
         kind::INTEGER => Member::Whole(a as i32),
         kind::DOUBLE => Member::Decimal(decimal(double(rows, text, value)?)?),
@@ -67,8 +68,13 @@ pub(crate) fn answer(rows: &[Row], text: &[u8], value: usize) -> Result<Member, 
 }
 
 /// The members x, y and turn of the Struct in a row, each a Double.
-pub fn position(table: &[u32], rows: usize, text: &[u8], row: usize) -> Result<Position, u8> {
-    let rows = writable(table, rows, text, |_| {}).ok_or(refusal::TABLE)?;
+pub fn position<L: Layout>(
+    table: &[u32],
+    rows: usize,
+    text: &[u8],
+    row: usize,
+) -> Result<Position, u8> {
+    let rows = writable::<L>(table, rows, text).ok_or(refusal::TABLE)?;
     let mut texts = Vec::new();
     for key in ["x", "y", "turn"] {
         let value = find(rows, text, row, key.as_bytes()).ok_or(sought::NO_MEMBER)?;
@@ -82,25 +88,25 @@ pub fn position(table: &[u32], rows: usize, text: &[u8], row: usize) -> Result<P
 }
 
 /// The row of the value that stands with this key in the Struct.
-pub(crate) fn find(rows: &[Row], text: &[u8], row: usize, key: &[u8]) -> Option<usize> {
-    let &[kind, _, pairs, _] = rows.get(row)?;
+pub(crate) fn find(rows: impl Rows, text: &[u8], row: usize, key: &[u8]) -> Option<usize> {
+    let [kind, _, pairs, _] = rows.get(row)?;
     if kind != kind::STRUCT {
         return None;
     }
     let mut at = row + 1;
     for _ in 0..pairs {
-        let [_, offset, length, _] = rows[at];
+        let [_, offset, length, _] = rows.at(at);
         if content(text, offset, length)? == key {
             return Some(at + 1);
         }
-        at = rows[at + 1][3] as usize;
+        at = rows.at(at + 1)[3] as usize;
     }
     None
 }
 
 /// The text of a Double.
-fn double<'t>(rows: &[Row], text: &'t [u8], row: usize) -> Result<&'t str, u8> {
-    let [kind, offset, length, _] = rows[row];
+fn double<'t>(rows: impl Rows, text: &'t [u8], row: usize) -> Result<&'t str, u8> {
+    let [kind, offset, length, _] = rows.at(row);
     let text = content(text, offset, length).filter(|_| kind == kind::DOUBLE);
     text.and_then(|text| std::str::from_utf8(text).ok())
         .ok_or(sought::NO_MEMBER)
@@ -125,6 +131,7 @@ fn decimal(text: &str) -> Result<f64, u8> {
 #[cfg(test)]
 mod tests {
     use super::*;
+    use crate::layout::ByRows;
     use crate::reader::{Read, read};
 
     /// A Response of a Struct with these members, each a key and a Value's
@@ -139,7 +146,7 @@ mod tests {
             message.extend(*value);
         }
         let mut table = vec![0; 400];
-        let Read::Accepted { rows, .. } = read(&message, &mut table) else {
+        let Read::Accepted { rows, .. } = read::<ByRows>(&message, &mut table) else {
             panic!("{message:?}");
         };
         (table, rows, message)
@@ -147,7 +154,7 @@ mod tests {
 
     fn found(members: &[(&str, &[u8])], key: &str) -> Result<Member, u8> {
         let (table, rows, text) = card(members);
-        lookup(&table, rows, &text, 1, key.as_bytes())
+        lookup::<ByRows>(&table, rows, &text, 1, key.as_bytes())
     }
 
     fn double_of(text: &str) -> Vec<u8> {
@@ -195,15 +202,15 @@ mod tests {
     fn a_key_twice() {
         let (mut table, rows, text) = card(&[("x", &double_of("1.0")), ("y", b"t")]);
         assert_eq!(
-            lookup(&table, rows, &text, 1, b"y"),
+            lookup::<ByRows>(&table, rows, &text, 1, b"y"),
             Ok(Member::YesOrNo(true))
         );
         // The second key's row names the first one's text.
         table[17] = table[9];
         for key in [&b"x"[..], b"y"] {
             for row in [1, 9] {
-                assert_eq!(lookup(&table, rows, &text, row, key), Err(11));
-                assert_eq!(position(&table, rows, &text, row), Err(11));
+                assert_eq!(lookup::<ByRows>(&table, rows, &text, row, key), Err(11));
+                assert_eq!(position::<ByRows>(&table, rows, &text, row), Err(11));
             }
         }
     }
@@ -257,7 +264,7 @@ mod tests {
         let at = |x: &str, y: &str, turn: &str, more: (&str, &[u8])| {
             let [x, y, turn] = [x, y, turn].map(double_of);
             let (table, rows, text) = card(&[("turn", &turn), more, ("y", &y), ("x", &x)]);
-            position(&table, rows, &text, 1)
+            position::<ByRows>(&table, rows, &text, 1)
         };
         let (other, many) = (("z", &b"t"[..]), "1234567890123456.0");
         let (x, y, turn) = (1.0, 2.5, -0.5);
@@ -274,10 +281,10 @@ mod tests {
             [("x", many), ("y", many), ("turns", many)],
         ] {
             let (table, rows, text) = card(&members);
-            assert_eq!(position(&table, rows, &text, 1), Err(18));
+            assert_eq!(position::<ByRows>(&table, rows, &text, 1), Err(18));
         }
         let (table, rows, text) = card(&[("x", many), ("y", b"D\x031.5")]);
-        assert_eq!(position(&table, rows, &text, 1), Err(18));
+        assert_eq!(position::<ByRows>(&table, rows, &text, 1), Err(18));
     }
 
     #[test]
@@ -290,23 +297,30 @@ mod tests {
             (5, Err(18)),
             (6, Err(18)),
         ] {
-            assert_eq!(lookup(&table, rows, &text, row, b"x"), answer, "{row}");
-            assert_eq!(position(&table, rows, &text, row), Err(18));
+            assert_eq!(
+                lookup::<ByRows>(&table, rows, &text, row, b"x"),
+                answer,
+                "{row}"
+            );
+            assert_eq!(position::<ByRows>(&table, rows, &text, row), Err(18));
         }
-        assert_eq!(lookup(&table, rows, &text, usize::MAX, b"x"), Err(18));
         assert_eq!(
-            lookup(&table, rows, &text, 1, b"x"),
+            lookup::<ByRows>(&table, rows, &text, usize::MAX, b"x"),
+            Err(18)
+        );
+        assert_eq!(
+            lookup::<ByRows>(&table, rows, &text, 1, b"x"),
             Ok(Member::Decimal(1.5))
         );
         // A table that is not writable, or text bytes over the limit.
-        assert_eq!(lookup(&table, rows + 1, &text, 9, b"x"), Err(11));
+        assert_eq!(lookup::<ByRows>(&table, rows + 1, &text, 9, b"x"), Err(11));
         let mut long = text.clone();
         long.resize(65_536, 0);
-        assert_eq!(lookup(&table, rows, &long, 9, b"x"), Err(18));
+        assert_eq!(lookup::<ByRows>(&table, rows, &long, 9, b"x"), Err(18));
         long.push(0);
-        assert_eq!(lookup(&table, rows, &long, 9, b"x"), Err(11));
-        assert_eq!(position(&table, rows, &long, 9), Err(11));
+        assert_eq!(lookup::<ByRows>(&table, rows, &long, 9, b"x"), Err(11));
+        assert_eq!(position::<ByRows>(&table, rows, &long, 9), Err(11));
         table[3] += 1;
-        assert_eq!(lookup(&table, rows, &text, 9, b"x"), Err(11));
+        assert_eq!(lookup::<ByRows>(&table, rows, &text, 9, b"x"), Err(11));
     }
 }

@@ -1,21 +1,21 @@
 //! When two tables, each with its own bytes, mean the same.
 
-use crate::rules::{ROW_WORDS, kind};
+use crate::layout::{Layout, Rows};
+use crate::rules::kind;
 
 /// Whether the first `rows` rows of both tables, with their bytes, mean the
 /// same. Rows that are not there, or content outside the bytes, mean nothing.
-pub fn same_meaning(
+pub fn same_meaning<L: Layout>(
     (left, left_rows, left_bytes): (&[u32], usize, &[u8]),
     (right, right_rows, right_bytes): (&[u32], usize, &[u8]),
 ) -> bool {
-    let (left, _) = left.as_chunks::<ROW_WORDS>();
-    let (right, _) = right.as_chunks::<ROW_WORDS>();
-    let (Some(left), Some(right)) = (left.get(..left_rows), right.get(..right_rows)) else {
+    let left = L::rows(left).first(left_rows);
+    let right = L::rows(right).first(right_rows);
+    let (Some(left), Some(right)) = (left, right) else {
         return false;
     };
     left.len() == right.len()
-        && left.iter().zip(right).all(|(l, r)| {
-            let [kind, a, b, end] = *l;
+        && left.all().zip(right.all()).all(|([kind, a, b, end], r)| {
             if [kind, b, end] != [r[0], r[2], r[3]] {
                 return false;
             }

@@ -1,8 +1,9 @@
 //! Messages in pieces, written from document 02 (request E6) only: all bytes
 //! are kept, and the whole is read again after each piece.
 
-use crate::reader::{Read, read};
-use crate::rules::{BYTE_LIMIT, refusal};
+use crate::layout::Layout;
+use crate::reader::{Read, read_within};
+use crate::rules::{BYTE_LIMIT, USUAL_LIMIT, is_limit, refusal};
 
 /// What stands after a piece.
 #[derive(Clone, Copy, Debug, PartialEq, Eq)]
@@ -45,9 +46,20 @@ impl Pieces {
     }
 
     /// Takes the next piece into the room, and reads into the table.
-    pub fn next(&mut self, piece: &[u8], room: &mut [u8], table: &mut [u32]) -> Outcome {
-        if room.len() < BYTE_LIMIT {
-            return self.refuse_room(table);
+    pub fn next<L: Layout>(&mut self, piece: &[u8], room: &mut [u8], table: &mut [u32]) -> Outcome {
+        self.next_within::<L>(piece, room, table, USUAL_LIMIT)
+    }
+
+    /// The same, at this limit of nesting.
+    pub fn next_within<L: Layout>(
+        &mut self,
+        piece: &[u8],
+        room: &mut [u8],
+        table: &mut [u32],
+        limit: usize,
+    ) -> Outcome {
+        if let Some(refused) = self.refused_before_all(room, table, limit) {
+            return refused;
         }
         if !matches!(self.outcome, Outcome::MoreWanted { .. }) {
             return self.outcome;
@@ -55,7 +67,7 @@ impl Pieces {
         self.bytes.extend(piece);
         let within = &self.bytes[..self.bytes.len().min(BYTE_LIMIT)];
         room[..within.len()].copy_from_slice(within);
-        self.outcome = match read(within, table) {
+        self.outcome = match read_within::<L>(within, table, limit) {
             Read::Refused {
                 number: refusal::CUT,
                 place,
@@ -74,8 +86,13 @@ impl Pieces {
 
     /// No more pieces come.
     pub fn end(&mut self, room: &[u8], table: &mut [u32]) -> Outcome {
-        if room.len() < BYTE_LIMIT {
-            return self.refuse_room(table);
+        self.end_within(room, table, USUAL_LIMIT)
+    }
+
+    /// The same, at this limit of nesting.
+    pub fn end_within(&mut self, room: &[u8], table: &mut [u32], limit: usize) -> Outcome {
+        if let Some(refused) = self.refused_before_all(room, table, limit) {
+            return refused;
         }
         if let Outcome::MoreWanted { place } = self.outcome {
             table.fill(0);
@@ -85,17 +102,28 @@ impl Pieces {
         self.outcome
     }
 
-    fn refuse_room(&mut self, table: &mut [u32]) -> Outcome {
+    /// What is refused whatever came: a limit that is none, then a short room.
+    fn refused_before_all(
+        &mut self,
+        room: &[u8],
+        table: &mut [u32],
+        limit: usize,
+    ) -> Option<Outcome> {
+        let number = match (is_limit(limit), room.len() < BYTE_LIMIT) {
+            (false, _) => refusal::LIMIT,
+            (true, true) => refusal::ROOM,
+            (true, false) => return None,
+        };
         table.fill(0);
-        let (number, place) = (refusal::ROOM, 0);
-        self.outcome = Outcome::Refused { number, place };
-        self.outcome
+        self.outcome = Outcome::Refused { number, place: 0 };
+        Some(self.outcome)
     }
 }
 
 #[cfg(test)]
 mod tests {
     use super::*;
+    use crate::layout::ByRows;
     use crate::papers::{FOUR, UNSET_RECALL, bytes_of};
 
     /// The outcome of each call with a room of so many bytes, the end's last;
@@ -109,7 +137,7 @@ mod tests {
             if matches!(state.outcome, Outcome::MoreWanted { .. }) {
                 came.extend(*piece);
             }
-            outcomes.push(state.next(piece, &mut room, &mut table));
+            outcomes.push(state.next::<ByRows>(piece, &mut room, &mut table));
             came.truncate(BYTE_LIMIT);
             if room.len() < BYTE_LIMIT {
                 came.clear();

@@ -2,26 +2,40 @@
 //! plan's message is made and read, and the plan is taken if what is read
 //! means what the table does.
 
+use crate::layout::{ByRows, Layout, Rows};
 use crate::meaning::same_meaning;
 use crate::reader::read_any_length;
 use crate::rules::*;
-use crate::writer::{Row, Write, writable, write};
+use crate::writer::{Write, writable_within, write_within};
 use std::collections::HashMap;
 
-/// Writes the first `rows` rows of a table: the shorter of the plan's message
-/// and the one written form, that form if they are equally long.
-pub fn write_planned(
+/// Writes with a plan, at the limit of nesting of a call that states none.
+pub fn write_planned<L: Layout>(
     table: &[u32],
     rows: usize,
     text: &[u8],
     plan: &[u8],
     output: &mut [u8],
 ) -> Write {
-    let message =
-        choose(table, rows, text, plan).and_then(|message| match message.len() <= output.len() {
-            true => Ok(message),
-            false => Err(refusal::OUTPUT),
-        });
+    write_planned_within::<L>(table, rows, text, plan, USUAL_LIMIT, output)
+}
+
+/// Writes the first `rows` rows of a table, at this limit of nesting: the
+/// shorter of the plan's message and the one written form, that form if they
+/// are equally long.
+pub fn write_planned_within<L: Layout>(
+    table: &[u32],
+    rows: usize,
+    text: &[u8],
+    plan: &[u8],
+    limit: usize,
+    output: &mut [u8],
+) -> Write {
+    let chosen = choose::<L>(table, rows, text, plan, limit);
+    let message = chosen.and_then(|message| match message.len() <= output.len() {
+        true => Ok(message),
+        false => Err(refusal::OUTPUT),
+    });
     output.fill(0);
     match message {
         Ok(message) => {
@@ -34,14 +48,23 @@ pub fn write_planned(
     }
 }
 
-fn choose(table: &[u32], rows: usize, text: &[u8], plan: &[u8]) -> Result<Vec<u8>, u8> {
+fn choose<L: Layout>(
+    table: &[u32],
+    rows: usize,
+    text: &[u8],
+    plan: &[u8],
+    limit: usize,
+) -> Result<Vec<u8>, u8> {
+    if !is_limit(limit) {
+        return Err(refusal::LIMIT);
+    }
     if text.len() > BYTE_LIMIT {
         return Err(refusal::BYTES);
     }
-    let stated = writable(table, rows, text, |_| ()).ok_or(refusal::TABLE)?;
+    let stated = writable_within::<L>(table, rows, text, limit, |_| ()).ok_or(refusal::TABLE)?;
     let planned = taken(stated, text, plan).ok_or(refusal::PLAN)?;
     let mut form = vec![0; BYTE_LIMIT];
-    let message = match write(table, rows, text, &mut form) {
+    let message = match write_within::<L>(table, rows, text, limit, &mut form) {
         Write::Accepted { length } if length <= planned.len() => {
             form.truncate(length);
             form
@@ -55,8 +78,8 @@ fn choose(table: &[u32], rows: usize, text: &[u8], plan: &[u8]) -> Result<Vec<u8
 }
 
 /// The plan's message, if the plan is taken.
-fn taken(rows: &[Row], text: &[u8], plan: &[u8]) -> Option<Vec<u8>> {
-    let strings = rows.iter().filter(|row| row[0] == kind::STRING).count();
+fn taken(rows: impl Rows, text: &[u8], plan: &[u8]) -> Option<Vec<u8>> {
+    let strings = rows.all().filter(|row| row[0] == kind::STRING).count();
     if plan.len() != 2 * strings {
         return None;
     }
@@ -69,15 +92,15 @@ fn taken(rows: &[Row], text: &[u8], plan: &[u8]) -> Option<Vec<u8>> {
     }
     let message = message_by(rows, text, plan);
     let mut words = vec![0; rows.len() * ROW_WORDS];
-    let (read, _) = read_any_length(&message, &mut words)?;
-    let table = rows.as_flattened();
-    same_meaning((table, rows.len(), text), (&words, read, &message)).then_some(message)
+    let (read, _) = read_any_length::<ByRows>(&message, &mut words)?;
+    let table: Vec<u32> = rows.all().flatten().collect();
+    same_meaning::<ByRows>((&table, rows.len(), text), (&words, read, &message)).then_some(message)
 }
 
-fn message_by(rows: &[Row], text: &[u8], plan: &[[u8; 2]]) -> Vec<u8> {
+fn message_by(rows: impl Rows, text: &[u8], plan: &[[u8; 2]]) -> Vec<u8> {
     let mut message = PREFIX.to_vec();
     let mut strings = plan.iter();
-    for &[kind, a, b, _] in rows {
+    for [kind, a, b, _] in rows.all() {
         let content = || &text[a as usize..][..b as usize];
         match kind {
             kind::CALL => message.push(b'C'),
@@ -123,7 +146,7 @@ fn put_field(message: &mut Vec<u8>, head: &[u8], field: u32) {
 /// there is a price for each string, the strings take at most 65,536 bytes,
 /// and, if each of 256 positions pays the price of every gap, and each text the
 /// price of each gap over which it is held, no text can do with less.
-pub fn proves_shortest(
+pub fn proves_shortest<L: Layout>(
     table: &[u32],
     rows: usize,
     text: &[u8],
@@ -131,7 +154,8 @@ pub fn proves_shortest(
     prices: &[u32],
 ) -> bool {
     let mut texts = Vec::new();
-    let Some(stated) = writable(table, rows, text, |text| texts.push(text)) else {
+    let note = |text| texts.push(text);
+    let Some(stated) = writable_within::<L>(table, rows, text, NESTING_LIMIT, note) else {
         return false;
     };
     if taken(stated, text, plan).is_none() || prices.len() != texts.len() {

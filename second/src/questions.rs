@@ -6,10 +6,12 @@
 //! length. Its answer is the number (0 if accepted), the place, the rows, the
 //! bytes used and the table; or the number, the length and the output. Both
 //! are written as in `corpus.rs`, a table or an output up to its last word or
-//! byte that is not 0. Any other question is ill-formed.
+//! byte that is not 0, and both at the highest limit of nesting. Any other
+//! question is ill-formed.
 
 use crate::corpus::{MESSAGES, TABLES, list, words};
-use crate::{Read, Write, hex, read, write};
+use crate::rules::NESTING_LIMIT;
+use crate::{ByRows, Read, Write, hex, read_within, write_within};
 
 /// Questions that are ill-formed, each in another way.
 const ILL_FORMED: [&str; 14] = [
@@ -55,7 +57,8 @@ pub fn answer(question: &str) -> String {
 fn read_answer(message: &str, words: &str) -> Option<String> {
     let message = hex::decode(message)?;
     let mut table = vec![u32::MAX; words.parse().ok()?];
-    let (number, place, rows, used) = match read(&message, &mut table) {
+    let answer = read_within::<ByRows>(&message, &mut table, NESTING_LIMIT);
+    let (number, place, rows, used) = match answer {
         Read::Accepted { rows, used } => (0, 0, rows, used),
         Read::Refused { number, place } => (number, place, 0, 0),
     };
@@ -67,7 +70,9 @@ fn write_answer(table: &str, rows: &str, text: &str, room: &str) -> Option<Strin
     let table = words(table)?;
     let text = hex::decode(text)?;
     let mut output = vec![u8::MAX; room.parse().ok()?];
-    let (number, length) = match write(&table, rows.parse().ok()?, &text, &mut output) {
+    let rows = rows.parse().ok()?;
+    let answer = write_within::<ByRows>(&table, rows, &text, NESTING_LIMIT, &mut output);
+    let (number, length) = match answer {
         Write::Accepted { length } => (0, length),
         Write::Refused { number } => (number, 0),
     };

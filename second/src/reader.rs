@@ -1,6 +1,7 @@
 //! The reader: message bytes into a lent table of rows.
 
 use crate::keys::Keys;
+use crate::layout::{Layout, RowsMut};
 use crate::rules::*;
 
 /// The reader's answer.
@@ -10,12 +11,19 @@ pub enum Read {
     Refused { number: u8, place: usize },
 }
 
-/// Reads a message into a table. Every word of the table is settled: rows
-/// first, zeros after them, and all zeros on a refusal.
-pub fn read(message: &[u8], table: &mut [u32]) -> Read {
-    match read_rows(message, table) {
+/// Reads a message into a table, at the limit of nesting of a call that states
+/// none.
+pub fn read<L: Layout>(message: &[u8], table: &mut [u32]) -> Read {
+    read_within::<L>(message, table, USUAL_LIMIT)
+}
+
+/// Reads a message into a table, at this limit of nesting. Every word of the
+/// table is settled: the words of the rows, zeros in all others, and all zeros
+/// on a refusal.
+pub fn read_within<L: Layout>(message: &[u8], table: &mut [u32], limit: usize) -> Read {
+    match read_rows::<L>(message, table, limit) {
         Ok((rows, used)) => {
-            table[rows * ROW_WORDS..].fill(0);
+            L::clear_behind(table, rows);
             Read::Accepted { rows, used }
         }
         Err(Refusal { number, place }) => {
@@ -52,23 +60,26 @@ const NEVER_SET: Text = Text {
     length: 0,
 };
 
-/// Reads a message of whatever length, with refusal 10 put aside: gives the
-/// number of rows and of bytes used, or nothing. Rows not used are as they
-/// happen to be.
-pub fn read_any_length(message: &[u8], table: &mut [u32]) -> Option<(usize, usize)> {
-    read_all(message, table).ok()
+/// Reads a message of whatever length, with refusal 10 put aside, and nested as
+/// deep as a writable table may be: gives the number of rows and of bytes used,
+/// or nothing. Rows not used are as they happen to be.
+pub fn read_any_length<L: Layout>(message: &[u8], table: &mut [u32]) -> Option<(usize, usize)> {
+    read_all(message, L::rows_mut(table), NESTING_LIMIT).ok()
 }
 
 /// Gives the number of rows and of bytes used; leaves the other rows as they
 /// happen to be.
-fn read_rows(message: &[u8], table: &mut [u32]) -> Answer<(usize, usize)> {
+fn read_rows<L: Layout>(message: &[u8], table: &mut [u32], limit: usize) -> Answer<(usize, usize)> {
+    if !is_limit(limit) {
+        return refuse(refusal::LIMIT, 0);
+    }
     if message.len() > BYTE_LIMIT {
         return refuse(refusal::BYTES, 0);
     }
-    read_all(message, table)
+    read_all(message, L::rows_mut(table), limit)
 }
 
-fn read_all(message: &[u8], table: &mut [u32]) -> Answer<(usize, usize)> {
+fn read_all(message: &[u8], rows: impl RowsMut, limit: usize) -> Answer<(usize, usize)> {
     let present = message.len().min(PREFIX.len());
     if message[..present] != PREFIX[..present] {
         return refuse(refusal::PREFIX, 0);
@@ -76,29 +87,30 @@ fn read_all(message: &[u8], table: &mut [u32]) -> Answer<(usize, usize)> {
     if present < PREFIX.len() {
         return refuse(refusal::CUT, 0);
     }
-    let (rows, _) = table.as_chunks_mut::<ROW_WORDS>();
-    let room = rows.len().min(ROW_LIMIT);
     let mut reader = Reader {
         message,
         at: PREFIX.len(),
-        rows: &mut rows[..room],
+        rows,
         filled: 0,
         codebook: [NEVER_SET; POSITIONS],
+        limit,
     };
     reader.call_or_response()?;
     Ok((reader.filled, reader.at))
 }
 
-struct Reader<'m, 't> {
+struct Reader<'m, R> {
     message: &'m [u8],
     /// The first byte not read yet.
     at: usize,
-    rows: &'t mut [[u32; ROW_WORDS]],
+    rows: R,
     filled: usize,
     codebook: [Text; POSITIONS],
+    /// Of nesting.
+    limit: usize,
 }
 
-impl<'m> Reader<'m, '_> {
+impl<'m, R: RowsMut> Reader<'m, R> {
     fn call_or_response(&mut self) -> Answer<()> {
         let place = self.at;
         match self.tag(place)? {
@@ -107,7 +119,7 @@ impl<'m> Reader<'m, '_> {
                 self.at = place + 1;
                 self.string()?;
                 self.container(b'A', 0)?;
-                self.rows[row] = [kind::CALL, 0, 2, self.filled as u32];
+                self.rows.put(row, [kind::CALL, 0, 2, self.filled as u32]);
             }
             b'R' => {
                 let row = self.take_row(place)?;
@@ -116,7 +128,7 @@ impl<'m> Reader<'m, '_> {
                     self.at += 1;
                     let place = self.at;
                     self.container(b'S', 0)?;
-                    if !has_fault_members(&self.rows[..self.filled], self.message) {
+                    if !has_fault_members(self.rows.first(self.filled), self.message) {
                         return refuse(refusal::FAULT, place);
                     }
                     kind::FAULT
@@ -124,7 +136,7 @@ impl<'m> Reader<'m, '_> {
                     self.value(0)?;
                     kind::RESPONSE
                 };
-                self.rows[row] = [kind, 0, 1, self.filled as u32];
+                self.rows.put(row, [kind, 0, 1, self.filled as u32]);
             }
             _ => return refuse(refusal::TAG, place),
         }
@@ -178,7 +190,8 @@ impl<'m> Reader<'m, '_> {
         for _ in 0..count {
             self.value(nesting + 1)?;
         }
-        self.rows[row] = [kind::ARRAY, 0, count, self.filled as u32];
+        self.rows
+            .put(row, [kind::ARRAY, 0, count, self.filled as u32]);
         Ok(())
     }
 
@@ -193,14 +206,15 @@ impl<'m> Reader<'m, '_> {
             }
             self.value(nesting + 1)?;
         }
-        self.rows[row] = [kind::STRUCT, 0, pairs, self.filled as u32];
+        self.rows
+            .put(row, [kind::STRUCT, 0, pairs, self.filled as u32]);
         Ok(())
     }
 
     /// Gives the row and the count of an Array or Struct.
     fn begin_container(&mut self, nesting: usize) -> Answer<(usize, u32)> {
         let place = self.at;
-        if nesting >= NESTING_LIMIT {
+        if nesting >= self.limit {
             return refuse(refusal::NESTING, place);
         }
         let row = self.take_row(place)?;
@@ -255,7 +269,7 @@ impl<'m> Reader<'m, '_> {
             return refuse(refusal::TAG, self.at);
         }
         self.binary()?;
-        self.rows[row] = [kind::OTHER, 0, 2, self.filled as u32];
+        self.rows.put(row, [kind::OTHER, 0, 2, self.filled as u32]);
         Ok(())
     }
 
@@ -345,7 +359,7 @@ impl<'m> Reader<'m, '_> {
 
     /// Fills the row of an item without children, which ends before `end`.
     fn leaf(&mut self, row: usize, [kind, a, b]: [u32; 3], end: usize) {
-        self.rows[row] = [kind, a, b, row as u32 + 1];
+        self.rows.put(row, [kind, a, b, row as u32 + 1]);
         self.at = end;
     }
 }

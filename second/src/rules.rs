@@ -1,12 +1,17 @@
 //! The fixed numbers and names of the format: limits, row kinds, refusals; and
 //! what the rules say of names, of a fault's members, of Doubles and of dates.
 
+use crate::layout::Rows;
+
 /// Most bytes in a message, and in the bytes a writer's texts lie in.
 pub const BYTE_LIMIT: usize = 65_536;
 /// Most rows in a table.
 pub const ROW_LIMIT: usize = 4_096;
-/// Most Arrays and Structs an Array or Struct stands in, itself counted.
+/// The highest limit of nesting that may be stated: on the Arrays and Structs
+/// that an Array or Struct stands in, itself counted.
 pub const NESTING_LIMIT: usize = 32;
+/// The limit of a call that states none.
+pub const USUAL_LIMIT: usize = 8;
 /// Positions in the codebook.
 pub const POSITIONS: usize = 256;
 /// Most bytes in a Double or DateTime.
@@ -44,13 +49,13 @@ pub const FAULT_MEMBERS: [(&[u8], u32); 2] = [
 
 /// Whether the Struct in row 1 has the members of a fault and no other. Its
 /// rows are sound, and the texts of its keys lie in `text`.
-pub fn has_fault_members(rows: &[[u32; ROW_WORDS]], text: &[u8]) -> bool {
-    let [_, _, pairs, _] = rows[1];
+pub fn has_fault_members(rows: impl Rows, text: &[u8]) -> bool {
+    let [_, _, pairs, _] = rows.at(1);
     let mut members = Vec::new();
     let mut key = 2;
     for _ in 0..pairs {
-        let [_, offset, length, _] = rows[key];
-        let [kind, _, _, end] = rows[key + 1];
+        let [_, offset, length, _] = rows.at(key);
+        let [kind, _, _, end] = rows.at(key + 1);
         members.push((&text[offset as usize..][..length as usize], kind));
         key = end as usize;
     }
@@ -119,6 +124,11 @@ fn first_day(year: u32, month: u32) -> u32 {
     365 * year + year / 4 - year / 100 + year / 400 + (153 * month + 2) / 5
 }
 
+/// Whether a limit of nesting may be stated.
+pub fn is_limit(limit: usize) -> bool {
+    (1..=NESTING_LIMIT).contains(&limit)
+}
+
 /// The first word of a row.
 pub mod kind {
     pub const CALL: u32 = 1;
@@ -169,6 +179,8 @@ pub mod refusal {
     pub const DOUBLE_OR_DATE: u8 = 17;
     /// A key that stands in its Struct already.
     pub const KEY: u8 = 20;
+    /// A limit of nesting that is not 1 to 32.
+    pub const LIMIT: u8 = 23;
     /// A plan that is not taken.
     pub const PLAN: u8 = 24;
 }

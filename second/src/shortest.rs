@@ -1,8 +1,9 @@
 //! The shortest message of a small table, by trying every way of sending its
 //! strings.
 
+use crate::layout::{Layout, Rows};
 use crate::meaning::{content, same_meaning};
-use crate::reader::{Read, read};
+use crate::reader::{Read, read_within};
 use crate::rules::*;
 
 /// A way of sending one string.
@@ -16,11 +17,15 @@ pub enum Way {
 /// The rows in bytes, one after the other, the n-th string sent in the n-th
 /// way (regular where none is given). Nothing about the table is checked, but
 /// a row that has no bytes gives nothing.
-pub fn compose(table: &[u32], rows: usize, text: &[u8], ways: &[Way]) -> Option<Vec<u8>> {
-    let (all, _) = table.as_chunks::<ROW_WORDS>();
+pub fn compose<L: Layout>(
+    table: &[u32],
+    rows: usize,
+    text: &[u8],
+    ways: &[Way],
+) -> Option<Vec<u8>> {
     let mut bytes = PREFIX.to_vec();
     let mut ways = ways.iter();
-    for &[kind, a, b, _] in all.get(..rows)? {
+    for [kind, a, b, _] in L::rows(table).first(rows)?.all() {
         match kind {
             kind::CALL => bytes.push(b'C'),
             kind::RESPONSE => bytes.push(b'R'),
@@ -64,12 +69,12 @@ pub fn compose(table: &[u32], rows: usize, text: &[u8], ways: &[Way]) -> Option<
 }
 
 /// Where the strings of a table lie.
-fn strings<'t>(table: &[u32], rows: usize, text: &'t [u8]) -> Vec<&'t [u8]> {
-    let (all, _) = table.as_chunks::<ROW_WORDS>();
-    all.iter()
+fn strings<'t, L: Layout>(table: &[u32], rows: usize, text: &'t [u8]) -> Vec<&'t [u8]> {
+    L::rows(table)
+        .all()
         .take(rows)
         .filter(|row| row[0] == kind::STRING)
-        .filter_map(|&[_, a, b, _]| content(text, a, b))
+        .filter_map(|[_, a, b, _]| content(text, a, b))
         .collect()
 }
 
@@ -77,8 +82,8 @@ fn strings<'t>(table: &[u32], rows: usize, text: &'t [u8]) -> Vec<&'t [u8]> {
 /// for every choice of ways and reading each. As many positions as there are
 /// strings are enough: more can't be in use, and which ones doesn't matter to
 /// the length. For tables of a handful of strings, within the limits.
-pub fn shortest_by_reading(table: &[u32], rows: usize, text: &[u8]) -> Option<Vec<u8>> {
-    let count = strings(table, rows, text).len();
+pub fn shortest_by_reading<L: Layout>(table: &[u32], rows: usize, text: &[u8]) -> Option<Vec<u8>> {
+    let count = strings::<L>(table, rows, text).len();
     let mut ways = vec![Way::Regular];
     ways.extend((0..count).map(|position| Way::Recorded(position as u8)));
     ways.extend((0..count).map(|position| Way::Recalled(position as u8)));
@@ -88,11 +93,12 @@ pub fn shortest_by_reading(table: &[u32], rows: usize, text: &[u8]) -> Option<Ve
     let mut choice = vec![0; count];
     loop {
         let chosen: Vec<Way> = choice.iter().map(|&way: &usize| ways[way]).collect();
-        let message = compose(table, rows, text, &chosen)?;
+        let message = compose::<L>(table, rows, text, &chosen)?;
         if best.as_ref().is_none_or(|best| message.len() < best.len())
-            && let Read::Accepted { rows: read, used } = read(&message, &mut back)
+            && let Read::Accepted { rows: read, used } =
+                read_within::<L>(&message, &mut back, NESTING_LIMIT)
             && used == message.len()
-            && same_meaning((table, rows, text), (&back, read, &message))
+            && same_meaning::<L>((table, rows, text), (&back, read, &message))
         {
             best = Some(message);
         }
@@ -107,9 +113,9 @@ pub fn shortest_by_reading(table: &[u32], rows: usize, text: &[u8]) -> Option<Ve
 
 /// The length of a shortest message, found by following every choice of ways
 /// with the codebook it leads to. Reaches a few strings further.
-pub fn shortest_by_counting(table: &[u32], rows: usize, text: &[u8]) -> Option<usize> {
-    let strings = strings(table, rows, text);
-    let regular = compose(table, rows, text, &[])?.len();
+pub fn shortest_by_counting<L: Layout>(table: &[u32], rows: usize, text: &[u8]) -> Option<usize> {
+    let strings = strings::<L>(table, rows, text);
+    let regular = compose::<L>(table, rows, text, &[])?.len();
     let others = regular - strings.iter().map(|text| 5 + text.len()).sum::<usize>();
     let mut codebook = vec![None; strings.len()];
     Some(others + least(&strings, &mut codebook))

@@ -44,6 +44,7 @@ pub fn share_mut(table: &mut [u32], row: usize, station: Station) -> Result<&mut
 #[cfg(test)]
 mod tests {
     use super::*;
+    use crate::layout::ByRows;
     use crate::papers::{FOUR, UNSET_RECALL, bytes_of};
     use crate::{Read, read};
 
@@ -70,7 +71,7 @@ mod tests {
         let mut table = [7; 19];
         let five = share_mut(&mut table, 2, Station::Five).unwrap();
         assert_eq!(
-            read(&bytes_of(FOUR), five),
+            read::<ByRows>(&bytes_of(FOUR), five),
             Read::Accepted { rows: 2, used: 18 }
         );
         assert_eq!(table[..8], [7; 8]);
@@ -78,7 +79,7 @@ mod tests {
         assert_eq!(table[16..], [7; 3]);
         let four = share_mut(&mut table, 2, Station::Four).unwrap();
         assert!(matches!(
-            read(&bytes_of(UNSET_RECALL), four),
+            read::<ByRows>(&bytes_of(UNSET_RECALL), four),
             Read::Refused { number: 6, .. }
         ));
         assert_eq!(table[..8], [0; 8]);

@@ -1,6 +1,7 @@
 //! The writer: a table and the bytes its texts lie in, into a lent output.
 
 use crate::keys::{Keys, TextHashing};
+use crate::layout::{Layout, Row, Rows};
 use crate::meaning::content;
 use crate::rules::*;
 use std::collections::HashMap;
@@ -13,11 +14,23 @@ pub enum Write {
     Refused { number: u8 },
 }
 
-/// Writes the first `rows` rows of a table in the one written form. Every byte
-/// of the output is settled: the message, zeros after it, and all zeros on a
-/// refusal.
-pub fn write(table: &[u32], rows: usize, text: &[u8], output: &mut [u8]) -> Write {
-    match plan(table, rows, text, output.len()) {
+/// Writes the first `rows` rows of a table, at the limit of nesting of a call
+/// that states none.
+pub fn write<L: Layout>(table: &[u32], rows: usize, text: &[u8], output: &mut [u8]) -> Write {
+    write_within::<L>(table, rows, text, USUAL_LIMIT, output)
+}
+
+/// Writes the first `rows` rows of a table in the one written form, at this
+/// limit of nesting. Every byte of the output is settled: the message, zeros
+/// after it, and all zeros on a refusal.
+pub fn write_within<L: Layout>(
+    table: &[u32],
+    rows: usize,
+    text: &[u8],
+    limit: usize,
+    output: &mut [u8],
+) -> Write {
+    match plan::<L>(table, rows, text, limit, output.len()) {
         Ok(plan) => {
             let (message, rest) = output.split_at_mut(plan.length);
             rest.fill(0);
@@ -33,25 +46,32 @@ pub fn write(table: &[u32], rows: usize, text: &[u8], output: &mut [u8]) -> Writ
     }
 }
 
-pub type Row = [u32; ROW_WORDS];
-
 /// Everything the written form needs.
-struct Plan<'t> {
-    rows: &'t [Row],
+struct Plan<'t, R> {
+    rows: R,
     text: &'t [u8],
     strings: Strings<'t>,
     length: usize,
 }
 
-fn plan<'t>(table: &'t [u32], rows: usize, text: &'t [u8], room: usize) -> Result<Plan<'t>, u8> {
+fn plan<'t, L: Layout>(
+    table: &'t [u32],
+    rows: usize,
+    text: &'t [u8],
+    limit: usize,
+    room: usize,
+) -> Result<Plan<'t, L::Rows<'t>>, u8> {
+    if !is_limit(limit) {
+        return Err(refusal::LIMIT);
+    }
     if text.len() > BYTE_LIMIT {
         return Err(refusal::BYTES);
     }
     let mut strings = Strings::default();
     let note = |text| strings.note(text);
-    let rows = writable(table, rows, text, note).ok_or(refusal::TABLE)?;
+    let rows = writable_within::<L>(table, rows, text, limit, note).ok_or(refusal::TABLE)?;
     strings.give_positions();
-    let others: usize = rows.iter().map(size_without_text).sum();
+    let others: usize = rows.all().map(size_without_text).sum();
     let length = PREFIX.len() + others + strings.size();
     if length > BYTE_LIMIT {
         return Err(refusal::FORM);
@@ -120,7 +140,7 @@ impl<'t> Strings<'t> {
 }
 
 /// Bytes that an item's own row takes, its children and strings left out.
-fn size_without_text(&[kind, _, b, _]: &Row) -> usize {
+fn size_without_text([kind, _, b, _]: Row) -> usize {
     match kind {
         kind::CALL | kind::RESPONSE | kind::BOOLEAN | kind::OTHER => 1,
         kind::FAULT => 2,
@@ -131,21 +151,35 @@ fn size_without_text(&[kind, _, b, _]: &Row) -> usize {
     }
 }
 
-/// The stated rows, if the table is writable; notes the text of each string,
-/// as far as it goes.
-pub fn writable<'t>(
+/// The stated rows, if the table is writable at the highest limit of nesting.
+pub fn writable<'t, L: Layout>(
     table: &'t [u32],
     rows: usize,
     text: &'t [u8],
+) -> Option<L::Rows<'t>> {
+    writable_within::<L>(table, rows, text, NESTING_LIMIT, |_| ())
+}
+
+/// The stated rows, if the table is writable at this limit of nesting; notes
+/// the text of each string, as far as it goes.
+pub fn writable_within<'t, L: Layout>(
+    table: &'t [u32],
+    rows: usize,
+    text: &'t [u8],
+    limit: usize,
     note: impl FnMut(&'t [u8]),
-) -> Option<&'t [Row]> {
+) -> Option<L::Rows<'t>> {
     if !(1..=ROW_LIMIT).contains(&rows) || text.len() > BYTE_LIMIT {
         return None;
     }
-    let (all, _) = table.as_chunks::<ROW_WORDS>();
-    let rows = all.get(..rows)?;
-    let mut checker = Checker { rows, text, note };
-    let end = match rows[0] {
+    let rows = L::rows(table).first(rows)?;
+    let mut checker = Checker {
+        rows,
+        text,
+        limit,
+        note,
+    };
+    let end = match rows.at(0) {
         [kind::CALL, 0, 2, _] => {
             let next = checker.item_of(kind::STRING, 1, 0)?;
             checker.item_of(kind::ARRAY, next, 0)?
@@ -157,21 +191,23 @@ pub fn writable<'t>(
         }
         _ => return None,
     };
-    let whole = end == rows.len() && rows[0][3] as usize == end;
+    let whole = end == rows.len() && rows.at(0)[3] as usize == end;
     whole.then_some(rows)
 }
 
-struct Checker<'t, N> {
-    rows: &'t [Row],
+struct Checker<'t, R, N> {
+    rows: R,
     text: &'t [u8],
+    /// Of nesting.
+    limit: usize,
     note: N,
 }
 
-impl<'t, N: FnMut(&'t [u8])> Checker<'t, N> {
+impl<'t, R: Rows, N: FnMut(&'t [u8])> Checker<'t, R, N> {
     /// Checks the Value at row `at`, which stands in `nesting` Arrays and
     /// Structs; gives the row after it.
     fn value(&mut self, at: usize, nesting: usize) -> Option<usize> {
-        let [kind, a, b, end] = *self.rows.get(at)?;
+        let [kind, a, b, end] = self.rows.get(at)?;
         let next = match kind {
             kind::INTEGER if b == 0 => at + 1,
             kind::BOOLEAN if a <= 1 && b == 0 => at + 1,
@@ -185,20 +221,20 @@ impl<'t, N: FnMut(&'t [u8])> Checker<'t, N> {
                 content(self.text, a, b)?;
                 at + 1
             }
-            kind::ARRAY if a == 0 && nesting < NESTING_LIMIT => {
+            kind::ARRAY if a == 0 && nesting < self.limit => {
                 let mut next = at + 1;
                 for _ in 0..b {
                     next = self.value(next, nesting + 1)?;
                 }
                 next
             }
-            kind::STRUCT if a == 0 && nesting < NESTING_LIMIT => {
+            kind::STRUCT if a == 0 && nesting < self.limit => {
                 let mut next = at + 1;
                 let mut keys = Keys::new(b, self.rows.len());
                 for _ in 0..b {
                     let key = next;
                     next = self.item_of(kind::STRING, key, nesting)?;
-                    let [_, a, length, _] = self.rows[key];
+                    let [_, a, length, _] = self.rows.at(key);
                     keys.add(content(self.text, a, length)?).then_some(())?;
                     next = self.value(next, nesting + 1)?;
                 }
@@ -212,7 +248,7 @@ impl<'t, N: FnMut(&'t [u8])> Checker<'t, N> {
             }
             kind::OTHER if a == 0 && b == 2 => {
                 let next = self.item_of(kind::STRING, at + 1, nesting)?;
-                let [_, a, b, _] = self.rows[at + 1];
+                let [_, a, b, _] = self.rows.at(at + 1);
                 if is_standard_name(content(self.text, a, b)?) {
                     return None;
                 }
@@ -232,14 +268,14 @@ impl<'t, N: FnMut(&'t [u8])> Checker<'t, N> {
     }
 }
 
-impl Plan<'_> {
+impl<R: Rows> Plan<'_, R> {
     /// Puts the message into an output of just its length.
     fn put(&self, message: &mut [u8]) {
         let mut output = Output { rest: message };
         output.put(PREFIX);
         let mut sent = [false; POSITIONS];
         let mut strings = self.strings.order.iter();
-        for &[kind, a, b, _] in self.rows {
+        for [kind, a, b, _] in self.rows.all() {
             let content = || &self.text[a as usize..][..b as usize];
             match kind {
                 kind::CALL => output.put(b"C"),

@@ -3,7 +3,7 @@
 use second::generate::*;
 use second::rules::*;
 use second::shortest::compose;
-use second::{Read, Write, read, same_meaning, write};
+use second::{ByRows, Read, Write, read_within, same_meaning, write_within};
 use std::collections::HashMap;
 
 const WIDE: usize = ROW_LIMIT * ROW_WORDS;
@@ -12,7 +12,7 @@ const WIDE: usize = ROW_LIMIT * ROW_WORDS;
 /// that all of it is settled.
 fn read_into(message: &[u8], words: usize) -> (Read, Vec<u32>) {
     let mut table = vec![0xdead_beef; words];
-    let answer = read(message, &mut table);
+    let answer = read_within::<ByRows>(message, &mut table, NESTING_LIMIT);
     let used = match answer {
         Read::Accepted { rows, used } => {
             assert!(used <= message.len() && rows <= words / ROW_WORDS);
@@ -29,7 +29,8 @@ fn read_into(message: &[u8], words: usize) -> (Read, Vec<u32>) {
 
 fn write_into(table: &Table, room: usize) -> (Write, Vec<u8>) {
     let mut output = vec![0xaa; room];
-    let answer = write(&table.words, table.rows, &table.text, &mut output);
+    let (words, rows, text) = (&table.words, table.rows, &table.text);
+    let answer = write_within::<ByRows>(words, rows, text, NESTING_LIMIT, &mut output);
     let length = match answer {
         Write::Accepted { length } => length,
         Write::Refused { .. } => 0,
@@ -189,7 +190,7 @@ fn reads_back(table: &Table, written: &[u8]) {
     let rows = table.rows;
     let used = written.len();
     assert_eq!(answer, Read::Accepted { rows, used });
-    assert!(same_meaning(
+    assert!(same_meaning::<ByRows>(
         (&table.words, rows, &table.text),
         (&back, rows, written)
     ));
@@ -238,7 +239,7 @@ fn writable_by_reading(table: &Table) -> Option<bool> {
     if !(1..=ROW_LIMIT).contains(&table.rows) || table.words.len() / ROW_WORDS < table.rows {
         return Some(false);
     }
-    let Some(message) = compose(&table.words, table.rows, &table.text, &[]) else {
+    let Some(message) = compose::<ByRows>(&table.words, table.rows, &table.text, &[]) else {
         return Some(false);
     };
     if message.len() > BYTE_LIMIT {

@@ -4,13 +4,14 @@
 use second::generate::*;
 use second::lookup::{lookup, position};
 use second::rules::*;
-use second::{Read, Write, read, write};
+use second::{ByRows, Read, Write, read, read_within, write_within};
 
 const WIDE: usize = ROW_LIMIT * ROW_WORDS;
 
 fn read_wide(message: &[u8]) -> (Read, Vec<u32>) {
     let mut table = vec![u32::MAX; WIDE];
-    (read(message, &mut table), table)
+    let answer = read_within::<ByRows>(message, &mut table, NESTING_LIMIT);
+    (answer, table)
 }
 
 fn answer(message: &[u8]) -> Read {
@@ -31,7 +32,8 @@ fn is_accepted(message: &[u8]) -> bool {
 
 fn number(table: &Table) -> u8 {
     let mut output = vec![7; BYTE_LIMIT];
-    match write(&table.words, table.rows, &table.text, &mut output) {
+    let (words, rows, text) = (&table.words, table.rows, &table.text);
+    match write_within::<ByRows>(words, rows, text, NESTING_LIMIT, &mut output) {
         Write::Accepted { .. } => 0,
         Write::Refused { number } => {
             assert!(output.iter().all(|&byte| byte == 0));
@@ -198,7 +200,7 @@ fn before_what_the_value_would_give() {
         let message = response(&structure(&pairs));
         assert_eq!(answer(&message), refused(20, 27), "{value:?}");
         // Rows for the Response, the Struct, the pair and the second key.
-        let read_into = |rows| read(&message, &mut vec![7; rows * ROW_WORDS]);
+        let read_into = |rows| read::<ByRows>(&message, &mut vec![7; rows * ROW_WORDS]);
         assert_eq!(read_into(5), refused(20, 27));
         assert_eq!(read_into(4), refused(9, 27));
         assert_eq!(read_into(3), refused(9, 26));
@@ -355,8 +357,8 @@ fn every_table_read_or_writable() {
             assert_eq!(number(&table), 11);
             for row in [0, 1, table.rows] {
                 let (words, rows, text) = (&table.words, table.rows, &table.text);
-                assert_eq!(lookup(words, rows, text, row, b"x"), Err(11));
-                assert_eq!(position(words, rows, text, row), Err(11));
+                assert_eq!(lookup::<ByRows>(words, rows, text, row, b"x"), Err(11));
+                assert_eq!(position::<ByRows>(words, rows, text, row), Err(11));
             }
         }
     }

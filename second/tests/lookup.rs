@@ -2,14 +2,16 @@
 
 use second::generate::*;
 use second::lookup::{Member, lookup, position};
-use second::{Write, write};
+use second::rules::NESTING_LIMIT;
+use second::{ByRows, Write, write_within};
 
 #[test]
 fn tables_of_structs_are_writable() {
     let mut random = Random::new(11);
     for _ in 0..4_000 {
         let table = structs(&mut random);
-        let answer = write(&table.words, table.rows, &table.text, &mut [0; 65_536]);
+        let (words, rows, text) = (&table.words, table.rows, &table.text);
+        let answer = write_within::<ByRows>(words, rows, text, NESTING_LIMIT, &mut [0; 65_536]);
         assert!(matches!(answer, Write::Accepted { .. }), "{answer:?}");
     }
 }
@@ -26,7 +28,7 @@ fn every_answer_occurs() {
         }
         let row = row(&mut random, &table);
         let key = key(&mut random, &table, row);
-        match lookup(&table.words, table.rows, &table.text, row, &key) {
+        match lookup::<ByRows>(&table.words, table.rows, &table.text, row, &key) {
             Ok(Member::Whole(_)) => sorts[0] += 1,
             Ok(Member::Decimal(_)) => sorts[1] += 1,
             Ok(Member::YesOrNo(_)) => sorts[2] += 1,
@@ -34,7 +36,7 @@ fn every_answer_occurs() {
             Ok(Member::Row(_)) => sorts[4] += 1,
             Err(number) => refused[usize::from(number)] += 1,
         }
-        match position(&table.words, table.rows, &table.text, row) {
+        match position::<ByRows>(&table.words, table.rows, &table.text, row) {
             Ok(_) => positions[0] += 1,
             Err(number) => positions[usize::from(number)] += 1,
         }
@@ -54,8 +56,9 @@ fn a_position_is_its_three_members() {
     for _ in 0..20_000 {
         let table = structs(&mut random);
         let row = row(&mut random, &table);
-        let members = ["x", "y", "turn"]
-            .map(|key| lookup(&table.words, table.rows, &table.text, row, key.as_bytes()));
+        let members = ["x", "y", "turn"].map(|key| {
+            lookup::<ByRows>(&table.words, table.rows, &table.text, row, key.as_bytes())
+        });
         let decimals = members.map(|member| match member {
             Ok(Member::Decimal(number)) => Ok(number.to_bits()),
             Ok(_) => Err(18),
@@ -64,7 +67,7 @@ fn a_position_is_its_three_members() {
         let refusal = [18, 19]
             .into_iter()
             .find(|&number| decimals.contains(&Err(number)));
-        match position(&table.words, table.rows, &table.text, row) {
+        match position::<ByRows>(&table.words, table.rows, &table.text, row) {
             Ok(position) => {
                 let parts = [position.x, position.y, position.turn];
                 assert_eq!(parts.map(|part| Ok(part.to_bits())), decimals);

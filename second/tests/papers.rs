@@ -3,7 +3,7 @@
 
 use second::papers::*;
 use second::rules::*;
-use second::{Read, Write, read, same_meaning, write};
+use second::{ByRows, Read, Write, read_within, same_meaning, write_within};
 
 /// Reads into a table with room for 4,096 rows that held something before.
 fn read_wide(message: &[u8]) -> (Read, Vec<u32>) {
@@ -13,7 +13,7 @@ fn read_wide(message: &[u8]) -> (Read, Vec<u32>) {
 /// The answer and the rows; all other words have to be zero.
 fn read_into(message: &[u8], words: usize) -> (Read, Vec<u32>) {
     let mut table = vec![u32::MAX; words];
-    let answer = read(message, &mut table);
+    let answer = read_within::<ByRows>(message, &mut table, NESTING_LIMIT);
     let used = match answer {
         Read::Accepted { rows, .. } => rows * ROW_WORDS,
         Read::Refused { .. } => 0,
@@ -47,7 +47,7 @@ fn with_prefix(rest: &[u8]) -> Vec<u8> {
 /// Writes into an output that held something before.
 fn write_into(table: &[u32], rows: usize, text: &[u8], room: usize) -> (Write, Vec<u8>) {
     let mut output = vec![0xaa; room];
-    let answer = write(table, rows, text, &mut output);
+    let answer = write_within::<ByRows>(table, rows, text, NESTING_LIMIT, &mut output);
     let length = match answer {
         Write::Accepted { length } => length,
         Write::Refused { .. } => 0,
@@ -73,7 +73,7 @@ fn rewritten(message: &[u8]) -> Vec<u8> {
     assert_eq!(answer, Write::Accepted { length });
     let (answer, back) = read_wide(&written);
     assert_eq!(answer, Read::Accepted { rows, used: length });
-    assert!(same_meaning(
+    assert!(same_meaning::<ByRows>(
         (&table, rows, message),
         (&back, rows, &written)
     ));
@@ -642,7 +642,10 @@ fn past_all_positions() {
             used: length
         }
     );
-    assert!(same_meaning((&table, 602, &text), (&back, 602, &written)));
+    assert!(same_meaning::<ByRows>(
+        (&table, 602, &text),
+        (&back, 602, &written)
+    ));
 }
 
 #[test]

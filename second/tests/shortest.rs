@@ -3,11 +3,11 @@
 use second::generate::{Random, Table, few_strings};
 use second::rules::{ROW_WORDS, kind};
 use second::shortest::{shortest_by_counting, shortest_by_reading};
-use second::{Write, write};
+use second::{ByRows, Write, write};
 
 fn written_length(table: &Table) -> usize {
     let mut output = vec![0; 2_000];
-    match write(&table.words, table.rows, &table.text, &mut output) {
+    match write::<ByRows>(&table.words, table.rows, &table.text, &mut output) {
         Write::Accepted { length } => length,
         answer => panic!("{answer:?} {table:?}"),
     }
@@ -21,9 +21,9 @@ fn strings(table: &Table) -> usize {
 fn shortest_by_all_means(table: &Table) {
     let (words, rows, text) = (&table.words, table.rows, &table.text);
     let length = written_length(table);
-    let best = shortest_by_reading(words, rows, text).map(|message| message.len());
+    let best = shortest_by_reading::<ByRows>(words, rows, text).map(|message| message.len());
     assert_eq!(best, Some(length), "{table:?}");
-    assert_eq!(shortest_by_counting(words, rows, text), best);
+    assert_eq!(shortest_by_counting::<ByRows>(words, rows, text), best);
 }
 
 /// An Array of strings, each one of these texts.
@@ -64,7 +64,7 @@ fn every_small_array_by_counting() {
     for count in 0..=6 {
         sequences(count, 3, |choice| {
             let table = array(&["", "b", "long enough"], choice);
-            let best = shortest_by_counting(&table.words, table.rows, &table.text);
+            let best = shortest_by_counting::<ByRows>(&table.words, table.rows, &table.text);
             assert_eq!(best, Some(written_length(&table)), "{choice:?}");
         });
     }
@@ -86,7 +86,7 @@ fn generated_tables() {
     }
     for _ in 0..200 {
         let table = few_strings(&mut random, 7);
-        let best = shortest_by_counting(&table.words, table.rows, &table.text);
+        let best = shortest_by_counting::<ByRows>(&table.words, table.rows, &table.text);
         assert_eq!(best, Some(written_length(&table)), "{table:?}");
     }
 }

@@ -3,7 +3,8 @@
 
 use second::generate::{Random, valid};
 use second::job::{Job, job, read_card};
-use second::read;
+use second::rules::NESTING_LIMIT;
+use second::{ByColumns, read_within};
 use std::hint::black_box;
 use std::time::Instant;
 
@@ -60,7 +61,7 @@ fn every_card(cards: usize) {
     };
     let second = |table: &mut [u32]| {
         for (_, body) in Job::new(black_box(file)).cards {
-            black_box(read(body, table));
+            black_box(read_within::<ByColumns>(body, table, NESTING_LIMIT));
         }
     };
     let [next, number, second] = medians([&next, &number, &second]);
@@ -77,7 +78,7 @@ fn one_card(file: &[u8], number: usize) {
         let _ = black_box(binmode::Job::new(black_box(file)).read_card(number, table));
     };
     let second = |table: &mut [u32]| {
-        black_box(read_card(black_box(file), number, table));
+        black_box(read_card::<ByColumns>(black_box(file), number, table));
     };
     let [library, second] = medians([&library, &second]);
     println!("{number:>9} {library:>14.0} {second:>14.0}");

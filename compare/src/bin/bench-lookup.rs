@@ -7,8 +7,9 @@
 mod library;
 
 use binmode::sys::{Entry, Report};
+use second::layout::{Layout, Rows};
 use second::rules::{PREFIX, ROW_LIMIT, ROW_WORDS};
-use second::{Read, index, lookup};
+use second::{ByColumns, Read, index, lookup};
 use std::hint::black_box;
 use std::time::Instant;
 
@@ -84,7 +85,7 @@ impl Card {
             text.extend([&string(name), value.as_bytes()].concat());
         }
         let mut table = vec![0; ROW_LIMIT * ROW_WORDS];
-        match second::read(&text, &mut table) {
+        match second::read::<ByColumns>(&text, &mut table) {
             Read::Accepted { rows, .. } => Card {
                 table,
                 rows,
@@ -101,7 +102,13 @@ impl Card {
             black_box(library::lookup(1, black_box(table), rows, text, 1, key));
         };
         let second = || {
-            let _ = black_box(lookup::lookup(black_box(table), rows, text, 1, key));
+            let _ = black_box(lookup::lookup::<ByColumns>(
+                black_box(table),
+                rows,
+                text,
+                1,
+                key,
+            ));
         };
         time(name, self.calls, library, second);
     }
@@ -113,7 +120,13 @@ impl Card {
             black_box(library::lookup(1, black_box(table), rows, text, 0, b""));
         };
         let second = || {
-            let _ = black_box(lookup::lookup(black_box(table), rows, text, 0, b""));
+            let _ = black_box(lookup::lookup::<ByColumns>(
+                black_box(table),
+                rows,
+                text,
+                0,
+                b"",
+            ));
         };
         time("judging alone", calls, judged, second);
         let filled = std::cell::RefCell::new(vec![Entry::default(); members]);
@@ -122,15 +135,22 @@ impl Card {
             black_box(library::index_fill(black_box(table), rows, text, 1, list));
         };
         let second = || {
-            let _ = black_box(index::fill(black_box(table), rows, text, 1, members));
+            let _ = black_box(index::fill::<ByColumns>(
+                black_box(table),
+                rows,
+                text,
+                1,
+                members,
+            ));
         };
         time("index, filled", calls, fill, second);
         let list = filled.into_inner();
-        let of_second = index::fill(table, rows, text, 1, members).expect("a good card");
+        let of_second =
+            index::fill::<ByColumns>(table, rows, text, 1, members).expect("a good card");
         let key = |at: usize| {
             let entry = of_second[(at * 7919 + members - 1) % members];
-            let row = &table[entry.key as usize * ROW_WORDS..];
-            &text[row[1] as usize..][..row[2] as usize]
+            let [_, a, b, _] = ByColumns::rows(table).at(entry.key as usize);
+            &text[a as usize..][..b as usize]
         };
         for count in [1, KEYS] {
             let keys: Vec<&[u8]> = (0..count).map(key).collect();
@@ -147,7 +167,14 @@ impl Card {
                 library::index_find(table, rows, text, 1, &list, &joined, &ends, reports);
             };
             let second = || {
-                black_box(index::find(black_box(table), rows, text, 1, &of_second, &keys));
+                black_box(index::find::<ByColumns>(
+                    black_box(table),
+                    rows,
+                    text,
+                    1,
+                    &of_second,
+                    &keys,
+                ));
             };
             let name = format!("{count} of its keys through it, one call");
             time(&name, calls, find, second);
@@ -158,7 +185,13 @@ impl Card {
             };
             let second = || {
                 for key in &keys {
-                    let _ = black_box(lookup::lookup(black_box(table), rows, text, 1, key));
+                    let _ = black_box(lookup::lookup::<ByColumns>(
+                        black_box(table),
+                        rows,
+                        text,
+                        1,
+                        key,
+                    ));
                 }
             };
             time(&format!("{count} from the front"), calls, front, second);
@@ -171,7 +204,12 @@ impl Card {
             black_box(library::position(1, black_box(table), rows, text, 1));
         };
         let second = || {
-            let _ = black_box(lookup::position(black_box(table), rows, text, 1));
+            let _ = black_box(lookup::position::<ByColumns>(
+                black_box(table),
+                rows,
+                text,
+                1,
+            ));
         };
         time(name, self.calls, library, second);
     }

@@ -5,7 +5,7 @@ mod messages;
 
 use messages::{array, card, integer, tagged_card, text};
 use second::rules::{BYTE_LIMIT, ROW_LIMIT, ROW_WORDS};
-use second::{Read, Write};
+use second::{ByColumns, Read, Write};
 use std::hint::black_box;
 use std::time::Instant;
 
@@ -45,11 +45,13 @@ fn main() {
 /// The message in its written form.
 fn written(message: Vec<u8>) -> Vec<u8> {
     let mut table = vec![0; ROW_LIMIT * ROW_WORDS];
-    let Read::Accepted { rows, .. } = second::read(&message, &mut table) else {
+    let Read::Accepted { rows, .. } = second::read::<ByColumns>(&message, &mut table) else {
         panic!("not accepted");
     };
     let mut output = vec![0; BYTE_LIMIT];
-    let Write::Accepted { length } = second::write(&table, rows, &message, &mut output) else {
+    let Write::Accepted { length } =
+        second::write::<ByColumns>(&table, rows, &message, &mut output)
+    else {
         panic!("not written");
     };
     output.truncate(length);

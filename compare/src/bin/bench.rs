@@ -9,8 +9,8 @@ use messages::{
     add_call, array, binary, boolean, card, dated_card, day, decimal, different, equal, integer,
     mixed_text, nested_structs, other, small_array, text,
 };
-use second::rules::{BYTE_LIMIT, ROW_LIMIT, ROW_WORDS};
-use second::{Read, Write};
+use second::rules::{BYTE_LIMIT, NESTING_LIMIT, ROW_LIMIT, ROW_WORDS};
+use second::{ByColumns, Read, Write, read_within, write_within};
 use std::hint::black_box;
 use std::process::ExitCode;
 use std::time::{Duration, Instant};
@@ -158,7 +158,7 @@ impl Line {
     fn new(name: &str, message: Vec<u8>) -> Self {
         let (table, rows) = accepted(&message);
         let mut written = vec![0; BYTE_LIMIT];
-        let answer = second::write(&table, rows, &message, &mut written);
+        let answer = write_within::<ByColumns>(&table, rows, &message, NESTING_LIMIT, &mut written);
         let Write::Accepted { length } = answer else {
             panic!("{name}: {answer:?}");
         };
@@ -193,10 +193,12 @@ impl Line {
         let message = &self.message[..];
         let buffer = &mut table[..];
         let second = |buffer: &mut [u32]| {
-            black_box(second::read(black_box(message), black_box(buffer)));
+            let (message, buffer) = (black_box(message), black_box(buffer));
+            black_box(read_within::<ByColumns>(message, buffer, NESTING_LIMIT));
         };
         let library = |buffer: &mut [u32]| {
-            let _ = black_box(binmode::read(black_box(message), black_box(buffer)));
+            let (message, buffer) = (black_box(message), black_box(buffer));
+            let _ = black_box(binmode::read_within(message, buffer, NESTING_LIMIT));
         };
         times(buffer, library, second)
     }
@@ -206,17 +208,18 @@ impl Line {
         let (table, rows, text) = (&self.table[..], self.rows, &self.message[..]);
         let buffer = &mut output[..];
         let second = |buffer: &mut [u8]| {
-            black_box(second::write(
+            black_box(write_within::<ByColumns>(
                 black_box(table),
                 rows,
                 text,
+                NESTING_LIMIT,
                 black_box(buffer),
             ));
         };
         let library = |buffer: &mut [u8]| {
             let words = black_box(table);
             let table = binmode::Table { words, rows, text };
-            let _ = black_box(table.write(black_box(buffer)));
+            let _ = black_box(table.write_within(NESTING_LIMIT, black_box(buffer)));
         };
         times(buffer, library, second)
     }
@@ -244,7 +247,7 @@ impl Line {
 
 fn accepted(message: &[u8]) -> (Vec<u32>, usize) {
     let mut table = vec![0; ROW_LIMIT * ROW_WORDS];
-    match second::read(message, &mut table) {
+    match read_within::<ByColumns>(message, &mut table, NESTING_LIMIT) {
         Read::Accepted { rows, .. } => (table, rows),
         answer => panic!("{answer:?}"),
     }

@@ -3,7 +3,7 @@
 //! terminal might obey, ends with another status than it should, or shows
 //! anything else than what is made of the message here, by the Rust wrapper.
 
-use binmode::{Item, Job, Kind, Refusal, TABLE_WORDS};
+use binmode::{Item, Job, Kind, MOST_NESTING, Refusal, TABLE_WORDS, read_within};
 use second::generate::{Random, damaged, message};
 use second::job::{job, record};
 use second::rules::PREFIX;
@@ -231,7 +231,7 @@ fn around(bytes: &[u8], place: usize) -> String {
 
 fn of_message(bytes: &[u8]) -> Expected {
     let mut table = vec![0; TABLE_WORDS];
-    let message = match binmode::read(bytes, &mut table) {
+    let message = match read_within(bytes, &mut table, MOST_NESTING) {
         Ok(message) => message,
         Err(refusal) => return of_refusal(bytes, refusal),
     };

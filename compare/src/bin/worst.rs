@@ -10,8 +10,9 @@ mod library;
 mod messages;
 
 use messages::{card, text};
-use second::Read;
+use second::layout::{Layout, RowsMut};
 use second::rules::{BYTE_LIMIT, ROW_LIMIT, ROW_WORDS};
+use second::{ByColumns, Read};
 use std::cell::RefCell;
 use std::hint::black_box;
 use std::process::ExitCode;
@@ -199,7 +200,7 @@ fn picked() -> Table {
     let first_key = 2;
     let bucket = |key: &[u8]| {
         mixed(
-            (1..5).fold(word(key, 0), |hash, at| mixed(hash, word(key, at))),
+            mixed(mixed(word(key, 0), word(key, 2)), word(key, 4)),
             first_key,
         ) >> 20
     };
@@ -230,7 +231,7 @@ type Times = [Option<f64>; 3];
 impl Table {
     fn of_message(message: &[u8]) -> Self {
         let mut words = vec![0; ROW_LIMIT * ROW_WORDS];
-        match second::read(message, &mut words) {
+        match second::read::<ByColumns>(message, &mut words) {
             Read::Accepted { rows, .. } => Table {
                 words,
                 rows,
@@ -243,11 +244,13 @@ impl Table {
     fn new(holder: u32, count: usize, items: Vec<[u32; 3]>, text: &[u8]) -> Self {
         let rows = items.len() + 2;
         let end = rows as u32;
-        let mut words = vec![RESPONSE, 0, 1, end, holder, 0, count as u32, end];
+        let mut words = vec![0; ROW_LIMIT * ROW_WORDS];
+        let mut put = ByColumns::rows_mut(&mut words);
+        put.put(0, [RESPONSE, 0, 1, end]);
+        put.put(1, [holder, 0, count as u32, end]);
         for (index, [kind, a, b]) in items.into_iter().enumerate() {
-            words.extend([kind, a, b, index as u32 + 3]);
+            put.put(index + 2, [kind, a, b, index as u32 + 3]);
         }
-        words.resize(ROW_LIMIT * ROW_WORDS, 0);
         Table {
             words,
             rows,
@@ -277,7 +280,7 @@ impl Table {
     /// The length, where it is written.
     fn write(&self, output: &mut [u8]) -> Option<usize> {
         let words = black_box(&self.words[..]);
-        let written = library::write(words, self.rows, &self.text, output);
+        let written = library::write(words, self.rows, &self.text, None, output);
         (written.number == 0).then_some(written.length)
     }
 
@@ -292,7 +295,8 @@ impl Table {
         let reading = length.map(|length| {
             let message = &output.borrow()[..length];
             milliseconds(|| {
-                black_box(library::read(black_box(message), &mut table.borrow_mut()));
+                let table = &mut table.borrow_mut();
+                black_box(library::read(black_box(message), table, None));
             })
         });
         [Some(judging), Some(writing), reading]
@@ -325,9 +329,9 @@ fn slower(name: &str, characters: &str) -> bool {
         let (message, table) = (black_box(&message[..]), &mut table[..]);
         let start = own_time();
         if second {
-            black_box(second::read(message, table));
+            black_box(second::read::<ByColumns>(message, table));
         } else {
-            black_box(library::read(message, table));
+            black_box(library::read(message, table, None));
         }
         own_time() - start
     };

@@ -1,10 +1,13 @@
 // Answers questions from standard input, a line each: what reading a message answers and leaves in the table, and what writing a
 // table answers and leaves in the output. What is lent is full of rubbish before each call. second/src/questions.rs says how a line
-// is made up; it made the files stdin and stdout.
+// is made up; it made the files stdin and stdout. A line has the words of a table row by row, whatever the table's layout, and then
+// those that are no row's.
 use console::Input;
+use draft::Row;
 use libc::STDIN_FILENO;
 use libc::STDOUT_FILENO;
-ghost use Prim.Native.Nat.{_≤_};
+ghost use mathlib.Core.Path.{_≡_};
+ghost use Prim.Native.Nat.{_≤_, _<_};
 ghost use lib.ListN.{length};
 
 // What a field holds: a number, or how many bytes or words; or that it is ill-formed.
@@ -154,13 +157,55 @@ fn spoil_bytes(output: &mut [u8]) {
     }
 }
 
-// How many words there are up to the last that is not 0.
+// Word i of a table, row by row.
+fn word_listed(table: &[u32], i: usize) -> u32
+    requires { ⌜ i < length (now table) ⌝ }
+{
+    let room = table::room_of(table.len());
+    let r = i / 4;
+    if room <= r {
+        return table[i];
+    }
+    let row = table::get_row(table, room, r);
+    let j = i % 4;
+    match j {
+        0 => row.kind,
+        1 => row.a,
+        2 => row.b,
+        _ => row.end,
+    }
+}
+
+// The words of a list, row by row, into a table of as many words.
+fn put_listed(list: &[u32], table: &mut [u32])
+    requires { ⌜ length (now list) ≡ length (now table) ⌝ }
+{
+    let room = table::room_of(table.len());
+    let mut i = 0;
+    while i < table.len() {
+        table[i] = list[i];
+        i += 1;
+    }
+    let mut r = 0;
+    while r < room {
+        let row = Row {
+            kind: list[r * 4],
+            a: list[r * 4 + 1],
+            b: list[r * 4 + 2],
+            end: list[r * 4 + 3],
+        };
+        table::put_row(table, room, r, row);
+        r += 1;
+    }
+}
+
+// How many words there are up to the last that is not 0, row by row.
 fn words_shown(table: &[u32]) -> usize
     ensures { λ r. ⌜ r ≤ length (now (table .entry)) ⌝ }
 {
     let mut n = table.len();
     while n > 0 {
-        if table[n - 1] != 0 {
+        if word_listed(table, n - 1) != 0 {
             return n;
         }
         n -= 1;
@@ -192,7 +237,7 @@ fn write_word(n: u32) {
     io::print_decimal(STDOUT_FILENO, n as u64);
 }
 
-// The words up to the last that is not 0, and the line's end.
+// The words up to the last that is not 0, row by row, and the line's end.
 fn write_words(table: &[u32]) {
     let n = words_shown(table);
     if n == 0 {
@@ -203,7 +248,7 @@ fn write_words(table: &[u32]) {
         if i > 0 {
             console::write(b",");
         }
-        write_word(table[i]);
+        write_word(word_listed(table, i));
         i += 1;
     }
     console::write(b"\n");
@@ -230,7 +275,7 @@ fn write_bytes(output: &[u8]) {
 // The number, the place, the rows, the bytes used, and the table.
 fn read(message: &[u8], table: &mut [u32]) {
     spoil_words(table);
-    let answer = reader::read(message, table);
+    let answer = reader::read(message, table, draft::MOST_NESTING);
     match answer {
         reader::Answer::Accepted { rows, used } => {
             console::write(b"0 0 ");
@@ -249,7 +294,7 @@ fn read(message: &[u8], table: &mut [u32]) {
 // The number, the length, and the output.
 fn write(table: &[u32], rows: usize, text: &[u8], output: &mut [u8]) {
     spoil_bytes(output);
-    let answer = writer::write(table, rows, text, output);
+    let answer = writer::write(table, rows, text, draft::MOST_NESTING, output);
     match answer {
         writer::Answer::Written { length } => {
             console::write(b"0 ");
@@ -297,9 +342,15 @@ fn answer_table(line: &[u8], table: &[u32], text: &[u8], output: &mut [u8]) -> b
     true
 }
 
-// `write TABLE ROWS TEXT LENGTH`: likewise.
-fn answer_writing(line: &[u8], message: &mut [u8], table: &mut [u32], output: &mut [u8]) -> bool {
-    let table_field = words(field(line, 1), table);
+// `write TABLE ROWS TEXT LENGTH`: likewise, with the table's words in a list first.
+fn answer_writing(
+    line: &[u8],
+    message: &mut [u8],
+    list: &mut [u32],
+    table: &mut [u32],
+    output: &mut [u8],
+) -> bool {
+    let table_field = words(field(line, 1), list);
     let text_field = bytes(field(line, 3), message);
     let Parsed::Number(words) = table_field else {
         return false;
@@ -307,42 +358,64 @@ fn answer_writing(line: &[u8], message: &mut [u8], table: &mut [u32], output: &m
     let Parsed::Number(size) = text_field else {
         return false;
     };
+    if list.len() < words {
+        return false;
+    }
     if table.len() < words {
         return false;
     }
+    put_listed(&list[0..words], &mut table[0..words]);
     let text = content::part(message, 0, size);
     answer_table(line, &table[0..words], text, output)
 }
 
 // Writes a line's answer, if it is well-formed, and says whether it is.
-fn answer(line: &[u8], message: &mut [u8], table: &mut [u32], output: &mut [u8]) -> bool {
+fn answer(
+    line: &[u8],
+    message: &mut [u8],
+    list: &mut [u32],
+    table: &mut [u32],
+    output: &mut [u8],
+) -> bool {
     let name = field(line, 0);
     if names::equal(name, b"read") {
         return answer_reading(line, message, table);
     }
     if names::equal(name, b"write") {
-        return answer_writing(line, message, table, output);
+        return answer_writing(line, message, list, table, output);
     }
     false
 }
 
 // For each line its answer, or that it is ill-formed.
-fn answer_all(input: &[u8], message: &mut [u8], table: &mut [u32], output: &mut [u8]) {
+fn answer_all(
+    input: &[u8],
+    message: &mut [u8],
+    list: &mut [u32],
+    table: &mut [u32],
+    output: &mut [u8],
+) {
     let mut at = 0;
     while at < input.len() {
         let end = until(input, at, b'\n');
-        if !answer(&input[at..end], message, table, output) {
+        if !answer(&input[at..end], message, list, table, output) {
             console::write(b"ill-formed\n");
         }
         at = end + 1;
     }
 }
 
-fn answer_input(room: &mut [u8], message: &mut [u8], table: &mut [u32], output: &mut [u8]) {
+fn answer_input(
+    room: &mut [u8],
+    message: &mut [u8],
+    list: &mut [u32],
+    table: &mut [u32],
+    output: &mut [u8],
+) {
     let input = console::read_all(STDIN_FILENO, room);
     match input {
         Input::Bytes(n) => {
-            answer_all(content::part(room, 0, n), message, table, output);
+            answer_all(content::part(room, 0, n), message, list, table, output);
         }
         Input::Failed => {
             os::fail(b"standard input");
@@ -355,7 +428,8 @@ fn answer_input(room: &mut [u8], message: &mut [u8], table: &mut [u32], output: 
 fn main() {
     let mut room = [0u8; 400000];
     let mut message = [0u8; 65537];
+    let mut list = [0u32; 20000];
     let mut table = [0u32; 20000];
     let mut output = [0u8; 70000];
-    answer_input(&mut room, &mut message, &mut table, &mut output);
+    answer_input(&mut room, &mut message, &mut list, &mut table, &mut output);
 }

@@ -127,9 +127,42 @@ fn past_last(s: &[u8], from: usize) -> usize
     from
 }
 
+// Whether the four bytes at `at` are. No branch stands between them.
+fn few_below(s: &[u8], at: usize) -> bool
+    requires { ⌜ at + 4 ≤ length (now s) ⌝ }
+    ensures { λ r. ⌜ r ≡ ascii (take 4 (drop at (now (s .entry)))) ⌝ }
+{
+    is_single(s[at]) & is_single(s[at + 1]) & is_single(s[at + 2]) & is_single(s[at + 3])
+}
+
+// Past all bytes of up to 16, if they are below 128, by the first and the last four or eight of them; else past some or none.
+fn past_short(s: &[u8]) -> usize
+    requires { ⌜ length (now s) ≤ 16 ⌝ }
+    ensures { λ r. ⌜ Run (now (s .entry)) 0 r ⌝ }
+{
+    let end = s.len();
+    if end < 4 {
+        return past_singles(s, 0);
+    }
+    if end < 8 {
+        if few_below(s, 0) & few_below(s, end - 4) {
+            return end;
+        }
+        return 0;
+    }
+    let ends = eight_below(s, 0) & eight_below(s, end - 8);
+    if ends {
+        return end;
+    }
+    0
+}
+
 // Past bytes below 128 at the front: past all bytes, where they are all below 128.
 pub fn past_front(s: &[u8]) -> usize
     ensures { λ r. ⌜ Run (now (s .entry)) 0 r ⌝ }
 {
+    if s.len() <= 16 {
+        return past_short(s);
+    }
     past_last(s, past_run(s, 0))
 }

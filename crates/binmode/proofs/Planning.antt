@@ -9,9 +9,9 @@ use Rattle.write_reports.specs.Numbers.{planReport}
 use Rattle.binmode.specs.Planned.{WritePlannedReported, answerNumber}
 
 pub reports-planned :
-    (T : List ℕ) (rows : ℕ) (s plan out : List ℕ) {out′ : List ℕ} {a : Answer} {n size : ℕ} → Did T rows s plan out out′ a
-    → planReport n size ≡ reportOf a → WritePlannedReported T rows s plan out out′ n size
-reports-planned T rows s plan out d e = record { numbers = e ∙ ap reportOf (d .says); output = d .leaves ∙ rw (d .says) }
+    (limit : ℕ) (T : List ℕ) (rows : ℕ) (s plan out : List ℕ) {out′ : List ℕ} {a : Answer} {n size : ℕ} → Did limit T rows s plan out out′ a
+    → planReport n size ≡ reportOf a → WritePlannedReported limit T rows s plan out out′ n size
+reports-planned limit T rows s plan out d e = record { numbers = e ∙ ap reportOf (d .says); output = d .leaves ∙ rw (d .says) }
 
 module _ {b c : Bool} (e : b ≡ c) where
   pub says-yes : b ≡ true → 1 ≡ answerNumber c

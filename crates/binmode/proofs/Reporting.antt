@@ -21,9 +21,9 @@ pub reports-reading :
 reports-reading o d e = record { numbers = e ∙ ap reportOf (d .says); table = d .leaves }
 
 pub reports-writing :
-    (T : List ℕ) (rows : ℕ) (s out : List ℕ) {out′ : List ℕ} {a : W.Answer} {n size : ℕ} → writer.Did T rows s out out′ a
-    → writing.report n size ≡ writer.reportOf a → WriteReported T rows s out out′ n size
-reports-writing T rows s out d e = record { numbers = e ∙ ap writer.reportOf (d .says); output = d .leaves ∙ rw (d .says) }
+    (limit : ℕ) (T : List ℕ) (rows : ℕ) (s out : List ℕ) {out′ : List ℕ} {a : W.Answer} {n size : ℕ} → writer.Did limit T rows s out out′ a
+    → writing.report n size ≡ writer.reportOf a → WriteReported limit T rows s out out′ n size
+reports-writing limit T rows s out d e = record { numbers = e ∙ ap writer.reportOf (d .says); output = d .leaves ∙ rw (d .says) }
 
 pub reports-card :
     (s : List ℕ) (f : Found) {words : ℕ} {T : List ℕ} {a : J.Answer} {n rows used place body : ℕ} → job.Reads s words f T a

@@ -6,14 +6,14 @@ use Rattle.pieces.specs.declared.State.{State}
 use Rattle.pieces.specs.Steps.{Went, Closed}
 use Rattle.piece_reports.specs.Words.{stateOf, Kept}
 
--- of a piece p, with a state that is w before the call and w′ after it, a room R and R′, and a table T and T′
-pub record PieceReported (w p R T w′ R′ T′ : List ℕ) (n : ℕ) : Type 0 where
+-- of a piece p, with a limit of nesting, a state that is w before the call and w′ after it, a room R and R′, and a table T and T′
+pub record PieceReported (limit : ℕ) (w p R T w′ R′ T′ : List ℕ) (n : ℕ) : Type 0 where
   pub state : State
-  pub went : Went (stateOf w) p R T R′ T′ state
+  pub went : Went limit (stateOf w) p R T R′ T′ state
   pub kept : Kept state w′ n
 
 -- of the end, with a room of so many bytes
-pub record EndReported (w : List ℕ) (bytes : ℕ) (T w′ T′ : List ℕ) (n : ℕ) : Type 0 where
+pub record EndReported (limit : ℕ) (w : List ℕ) (bytes : ℕ) (T w′ T′ : List ℕ) (n : ℕ) : Type 0 where
   pub state : State
-  pub closed : Closed (stateOf w) bytes T T′ state
+  pub closed : Closed limit (stateOf w) bytes T T′ state
   pub kept : Kept state w′ n

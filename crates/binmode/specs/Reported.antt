@@ -14,7 +14,7 @@ pub record Reported (o : Reading) (words : ℕ) (T′ : List ℕ) (number rows u
   pub numbers : report number rows used place ≡ reportOf (answerOf o)
   pub table : T′ ≡ tableOf words o
 
--- of writing a table with so many stated rows, whose texts lie in s, into an output that is out before the call and out′ after it
-pub record WriteReported (T : List ℕ) (rows : ℕ) (s out out′ : List ℕ) (number size : ℕ) : Type 0 where
-  pub numbers : writing.report number size ≡ writer.reportOf (writer.answerOf T rows s (length out))
-  pub output : out′ ≡ writer.outputOf (writer.answerOf T rows s (length out)) (writer.formOf T rows s) (length out)
+-- of writing a table, with a limit of nesting and so many stated rows, whose texts lie in s, into an output that is out before the call and out′ after it
+pub record WriteReported (limit : ℕ) (T : List ℕ) (rows : ℕ) (s out out′ : List ℕ) (number size : ℕ) : Type 0 where
+  pub numbers : writing.report number size ≡ writer.reportOf (writer.answerOf limit T rows s (length out))
+  pub output : out′ ≡ writer.outputOf (writer.answerOf limit T rows s (length out)) (writer.formOf T rows s) (length out)

@@ -6,6 +6,7 @@ mod lookups; // lookups.rt: looking up members, and positions
 mod member_index; // member_index.rt: an index of members
 mod stations; // stations.rt: stations four and five on one table
 mod planned; // planned.rt: writing with a plan, and prices that prove it shortest
+mod usual; // usual.rt: the calls that state no limit of nesting
 mod version; // version.rt: the version of the interface
 
 ghost use mathlib.Core.Path.{_≡_};
@@ -16,33 +17,35 @@ ghost use Rattle.binmode.specs.Reported.{Reported, WriteReported};
 ghost use Rattle.binmode.specs.Cards.{CardReported};
 ghost use Rattle.read_reports.specs.Numbers.{finding, findingOf};
 
-// Reads a message into a table, and reports document 01's numbers: the result is 0 for acceptance, or the refusal's number.
+// Reads a message into a table, nested to at most a limit, and reports document 01's numbers: the result is 0 for acceptance, or the refusal's number.
 #[no_mangle]
-pub extern "C" fn binmode_read(
+pub extern "C" fn binmode_read_within(
     message: &[u8],
     table: &mut [u32],
+    limit: usize,
     rows: &mut u64,
     used: &mut u64,
     place: &mut u64,
 ) -> u8
-    ensures { λ n. ⌜ Reported (reading (now (message .entry)) (length (now (table .entry)))) (length (now (table .entry))) (now (table .exit)) n (now (rows .exit)) (now (used .exit)) (now (place .exit)) ⌝ }
+    ensures { λ n. ⌜ Reported (reading limit (now (message .entry)) (length (now (table .entry)))) (length (now (table .entry))) (now (table .exit)) n (now (rows .exit)) (now (used .exit)) (now (place .exit)) ⌝ }
 {
-    read_reports::message(reader::read(message, table), rows, used, place)
+    read_reports::message(reader::read(message, table, limit), rows, used, place)
 }
 
 // Writes a table with a stated number of rows, whose texts lie in the text bytes, and reports document 01's numbers: the result is 0
 // for acceptance, or the refusal's number.
 #[no_mangle]
-pub extern "C" fn binmode_write(
+pub extern "C" fn binmode_write_within(
     table: &[u32],
     rows: usize,
     text: &[u8],
+    limit: usize,
     output: &mut [u8],
     length: &mut u64,
 ) -> u8
-    ensures { λ n. ⌜ WriteReported (now (table .entry)) rows (now (text .entry)) (now (output .entry)) (now (output .exit)) n (now (length .exit)) ⌝ }
+    ensures { λ n. ⌜ WriteReported limit (now (table .entry)) rows (now (text .entry)) (now (output .entry)) (now (output .exit)) n (now (length .exit)) ⌝ }
 {
-    write_reports::written(writer::write(table, rows, text, output), length)
+    write_reports::written(writer::write(table, rows, text, limit, output), length)
 }
 
 // Reads a card of a job file into a table, and reports document 02's numbers: the result is 0 for acceptance, or the refusal's number.

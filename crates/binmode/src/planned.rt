@@ -7,17 +7,18 @@ ghost use Rattle.binmode.specs.Planned.{WritePlannedReported, answerNumb
 // Writes a table with a stated number of rows, whose texts lie in the text bytes, by a plan, and reports documents 01's and 02's numbers: the
 // result is 0 for acceptance, or the refusal's number.
 #[no_mangle]
-pub extern "C" fn binmode_write_planned(
+pub extern "C" fn binmode_write_planned_within(
     table: &[u32],
     rows: usize,
     text: &[u8],
     plan: &[u8],
+    limit: usize,
     output: &mut [u8],
     length: &mut u64,
 ) -> u8
-    ensures { λ n. ⌜ WritePlannedReported (now (table .entry)) rows (now (text .entry)) (now (plan .entry)) (now (output .entry)) (now (output .exit)) n (now (length .exit)) ⌝ }
+    ensures { λ n. ⌜ WritePlannedReported limit (now (table .entry)) rows (now (text .entry)) (now (plan .entry)) (now (output .entry)) (now (output .exit)) n (now (length .exit)) ⌝ }
 {
-    write_reports::plans::planned(plan_writer::write(table, rows, text, plan, output), length)
+    write_reports::plans::planned(plan_writer::write(table, rows, text, plan, limit, output), length)
 }
 
 // Whether a plan and prices prove that no message with the table's meaning is shorter than the plan's: 1 for yes; 0 is no statement.

@@ -13,7 +13,7 @@ ghost use Rattle.station_tables.specs.Answers.{lookupAnswer, lookupReportOf, po
 ghost use Rattle.read_reports.specs.Numbers.{report, cardReport};
 ghost use Rattle.write_reports.specs.Numbers as writing;
 ghost use Rattle.station_reports.specs.Numbers.{lying, lyingOf, StationPlaced};
-ghost use Rattle.binmode.specs.Stations.{StationRead, StationCard, StationPiece, StationEnd, StationWrote};
+ghost use Rattle.binmode.specs.Stations.{StationRead, StationCard, StationPiece, StationEnd, StationWrote, StationPlanned};
 
 // Where a station's share of a table lies: its first word and how many words it has. The result is 0, or 22.
 #[no_mangle]
@@ -31,19 +31,20 @@ pub extern "C" fn binmode_share(
 
 // Reads a message into a station's share of a table: the result is 0 for acceptance, or the refusal's number; every number lent is set.
 #[no_mangle]
-pub extern "C" fn binmode_station_read(
+pub extern "C" fn binmode_station_read_within(
     message: &[u8],
     table: &mut [u32],
     split: usize,
     station: u8,
+    limit: usize,
     rows: &mut u64,
     used: &mut u64,
     place: &mut u64,
 ) -> u8
-    ensures { λ n. ⌜ StationRead (now (message .entry)) station split (now (table .entry)) (now (table .exit)) (report n (now (rows .exit)) (now (used .exit)) (now (place .exit))) ⌝ }
+    ensures { λ n. ⌜ StationRead limit (now (message .entry)) station split (now (table .entry)) (now (table .exit)) (report n (now (rows .exit)) (now (used .exit)) (now (place .exit))) ⌝ }
 {
     let row = split_for(station, split);
-    let answer = station_reading::read(message, table, row, station_of(station));
+    let answer = station_reading::read(message, table, row, station_of(station), limit);
     station_reports::message(answer, rows, used, place)
 }
 
@@ -69,55 +70,79 @@ pub extern "C" fn binmode_station_read_card(
 
 // Takes the next piece of a message into a station's share, and reports what stands then. After 22 the state is as it was.
 #[no_mangle]
-pub extern "C" fn binmode_station_pieces_next(
+pub extern "C" fn binmode_station_pieces_next_within(
     state: &mut [u64; 6],
     piece: &[u8],
     room: &mut [u8],
     table: &mut [u32],
     split: usize,
     station: u8,
+    limit: usize,
 ) -> u8
-    ensures { λ n. ⌜ StationPiece (now (state .entry)) (now (piece .entry)) station split (now (room .entry)) (now (table .entry)) (now (state .exit)) (now (room .exit)) (now (table .exit)) n ⌝ }
+    ensures { λ n. ⌜ StationPiece limit (now (state .entry)) (now (piece .entry)) station split (now (room .entry)) (now (table .entry)) (now (state .exit)) (now (room .exit)) (now (table .exit)) n ⌝ }
 {
     let before = piece_reports::state_of(state);
     let row = split_for(station, split);
-    let answer = station_pieces::next(before, piece, room, table, row, station_of(station));
+    let answer = station_pieces::next(before, piece, room, table, row, station_of(station), limit);
     station_reports::piece(answer, state)
 }
 
 // Says that no more pieces come, likewise.
 #[no_mangle]
-pub extern "C" fn binmode_station_pieces_end(
+pub extern "C" fn binmode_station_pieces_end_within(
     state: &mut [u64; 6],
     room: &[u8],
     table: &mut [u32],
     split: usize,
     station: u8,
+    limit: usize,
 ) -> u8
-    ensures { λ n. ⌜ StationEnd (now (state .entry)) (length (now (room .entry))) station split (now (table .entry)) (now (state .exit)) (now (table .exit)) n ⌝ }
+    ensures { λ n. ⌜ StationEnd limit (now (state .entry)) (length (now (room .entry))) station split (now (table .entry)) (now (state .exit)) (now (table .exit)) n ⌝ }
 {
     let before = piece_reports::state_of(state);
     let row = split_for(station, split);
-    let answer = station_pieces::end(before, room, table, row, station_of(station));
+    let answer = station_pieces::end(before, room, table, row, station_of(station), limit);
     station_reports::piece(answer, state)
 }
 
 // Writes a station's share of a table: the result is 0 for acceptance, or the refusal's number.
 #[no_mangle]
-pub extern "C" fn binmode_station_write(
+pub extern "C" fn binmode_station_write_within(
     table: &[u32],
     split: usize,
     station: u8,
     rows: usize,
     text: &[u8],
+    limit: usize,
     output: &mut [u8],
     length: &mut u64,
 ) -> u8
-    ensures { λ n. ⌜ StationWrote (now (table .entry)) station split rows (now (text .entry)) (now (output .entry)) (now (output .exit)) (writing.report n (now (length .exit))) ⌝ }
+    ensures { λ n. ⌜ StationWrote limit (now (table .entry)) station split rows (now (text .entry)) (now (output .entry)) (now (output .exit)) (writing.report n (now (length .exit))) ⌝ }
 {
     let row = split_for(station, split);
-    let answer = station_tables::write(table, row, station_of(station), rows, text, output);
+    let answer = station_tables::write(table, row, station_of(station), rows, text, limit, output);
     station_reports::written(answer, length)
+}
+
+// Writes a station's share of a table by a plan, likewise.
+#[no_mangle]
+pub extern "C" fn binmode_station_write_planned_within(
+    table: &[u32],
+    split: usize,
+    station: u8,
+    rows: usize,
+    text: &[u8],
+    plan: &[u8],
+    limit: usize,
+    output: &mut [u8],
+    length: &mut u64,
+) -> u8
+    ensures { λ n. ⌜ StationPlanned limit (now (table .entry)) station split rows (now (text .entry)) (now (plan .entry)) (now (output .entry)) (now (output .exit)) (writing.planReport n (now (length .exit))) ⌝ }
+{
+    let row = split_for(station, split);
+    let share = station_of(station);
+    let answer = station_plans::write(table, row, share, rows, text, plan, limit, output);
+    station_reports::planned(answer, length)
 }
 
 // Looks up a member of the Struct of a row of a station's share: the result is 0, or the refusal's number; every number lent is set.

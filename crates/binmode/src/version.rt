@@ -4,8 +4,8 @@ ghost use mathlib.Core.Path.{_≡_};
 
 // The minor version.
 #[no_mangle]
-pub extern "C" fn binmode_version_1() -> u32
-    ensures { λ n. ⌜ n ≡ 1 ⌝ }
+pub extern "C" fn binmode_version_2() -> u32
+    ensures { λ n. ⌜ n ≡ 0 ⌝ }
 {
-    1
+    0
 }

@@ -9,6 +9,7 @@ use lib.Seq.{drop-at}
 use lib.Dec.{ltb}
 use borrow.Author.Tests.{le-ltb, ltb-true, ltb-false}
 use Rattle.draft.specs.declared.Refusal.the-variants.{Ended, TooLong}
+use Rattle.draft.specs.Limits.{allowed}
 use Rattle.draft.specs.Read.{Reading, got, refused}
 use Rattle.reader.specs.Answers.{reading, tableOf}
 use Rattle.rereading.specs.Rereading.{refusedWithOne, pickList, tableRead}
@@ -28,43 +29,43 @@ decidedAs (got rows used book) = Accepted (length rows) used
 decidedAs (refused m place) = Refused (Message m) place
 
 -- a state, against the bytes through the deciding piece. Of `wanted` it says: with fewer bytes, whatever they are, nothing changes
-pub data Is (s : List ℕ) (words : ℕ) (T : List ℕ) : State → Type 0 where
+pub data Is (limit : ℕ) (s : List ℕ) (words : ℕ) (T : List ℕ) : State → Type 0 where
   waiting :
-      {held wanted q : ℕ} → held ≡ length s → outcome s words ≡ refused Ended q
-      → ((ys : List ℕ) → length (s ++ ys) ≤ 65536 → length (s ++ ys) < wanted → reading (s ++ ys) words ≡ refused Ended q)
-      → (0 < wanted → T ≡ replicate words 0) → Is s words T (More held wanted q)
-  done : {state : State} → wanting s words ≡ false → state ≡ decidedAs (outcome s words) → T ≡ tableOf words (outcome s words) → Is s words T state
+      {held wanted q : ℕ} → held ≡ length s → outcome limit s words ≡ refused Ended q
+      → ((ys : List ℕ) → length (s ++ ys) ≤ 65536 → length (s ++ ys) < wanted → reading limit (s ++ ys) words ≡ refused Ended q)
+      → (0 < wanted → T ≡ replicate words 0) → Is limit s words T (More held wanted q)
+  done : {state : State} → wanting limit s words ≡ false → state ≡ decidedAs (outcome limit s words) → T ≡ tableOf words (outcome limit s words) → Is limit s words T state
 
 -- and with the table that the outcome has
-pub record Known (s : List ℕ) (words : ℕ) (T : List ℕ) (state : State) : Type 0 where
-  pub is : Is s words T state
-  pub table : T ≡ tableOf words (outcome s words)
+pub record Known (limit : ℕ) (s : List ℕ) (words : ℕ) (T : List ℕ) (state : State) : Type 0 where
+  pub is : Is limit s words T state
+  pub table : T ≡ tableOf words (outcome limit s words)
 
-known-done : (s : List ℕ) (words : ℕ) (T : List ℕ) (o : Reading) → outcome s words ≡ o → refusedWithOne o ≡ false → T ≡ tableOf words o → Known s words T (decidedAs o)
-known-done s words T o e f t =
-    let z : T ≡ tableOf words (outcome s words) = rw e t in
+known-done : (limit : ℕ) (s : List ℕ) (words : ℕ) (T : List ℕ) (o : Reading) → outcome limit s words ≡ o → refusedWithOne o ≡ false → T ≡ tableOf words o → Known limit s words T (decidedAs o)
+known-done limit s words T o e f t =
+    let z : T ≡ tableOf words (outcome limit s words) = rw e t in
     record { is = done (ap refusedWithOne e ∙ f) (ap decidedAs (sym e)) z; table = z }
 
-module _ (s p : List ℕ) (words : ℕ) (short : length s ≤ 65536) where
-  outcome-fits : length p ≤ 65536 - length s → outcome (s ++ p) words ≡ reading (take 65536 (s ++ p)) words
-  outcome-fits h = within words (s ++ p) (omega (arith, length-append s p)) ∙ ap (λ (x : List ℕ). reading x words) (sym (fits s p [] short h))
+module _ (limit : ℕ) (ok : allowed limit ≡ true) (s p : List ℕ) (words : ℕ) (short : length s ≤ 65536) where
+  outcome-fits : length p ≤ 65536 - length s → outcome limit (s ++ p) words ≡ reading limit (take 65536 (s ++ p)) words
+  outcome-fits h = within limit ok words (s ++ p) (omega (arith, length-append s p)) ∙ ap (λ (x : List ℕ). reading limit x words) (sym (fits s p [] short h))
 
   over-by : 65536 - length s < length p → 65536 < length (s ++ p)
   over-by h = omega (arith, length-append s p)
 
   ten :
-      (T : List ℕ) {q : ℕ} → reading (take 65536 (s ++ p)) words ≡ refused Ended q → T ≡ replicate words 0 → 65536 - length s < length p
-      → Known (s ++ p) words T (Refused (Message TooLong) 0)
-  ten T e z h = known-done (s ++ p) words T (refused TooLong 0) (outcome-over words (s ++ p) (over-by h) e) refl z
+      (T : List ℕ) {q : ℕ} → reading limit (take 65536 (s ++ p)) words ≡ refused Ended q → T ≡ replicate words 0 → 65536 - length s < length p
+      → Known limit (s ++ p) words T (Refused (Message TooLong) 0)
+  ten T e z h = known-done limit (s ++ p) words T (refused TooLong 0) (outcome-over limit ok words (s ++ p) (over-by h) e) refl z
 
   -- fewer bytes are held than are wanted: nothing is read
   skipped :
       (wanted q : ℕ) (T : List ℕ)
-      → ((ys : List ℕ) → length (s ++ ys) ≤ 65536 → length (s ++ ys) < wanted → reading (s ++ ys) words ≡ refused Ended q) → T ≡ replicate words 0
-      → length s + taken (length s) p < wanted → Known (s ++ p) words T (stillMore (length s) (length p) wanted q)
+      → ((ys : List ℕ) → length (s ++ ys) ≤ 65536 → length (s ++ ys) < wanted → reading limit (s ++ ys) words ≡ refused Ended q) → T ≡ replicate words 0
+      → length s + taken (length s) p < wanted → Known limit (s ++ p) words T (stillMore (length s) (length p) wanted q)
   skipped wanted q T law zeros h = by (ltb (65536 - length s) (length p)) refl
     where
-      here : reading (take 65536 (s ++ p)) words ≡ refused Ended q
+      here : reading limit (take 65536 (s ++ p)) words ≡ refused Ended q
       here =
           rw (cut s p [] short)
           (law (take (taken (length s) p) p)
@@ -73,10 +74,10 @@ module _ (s p : List ℕ) (words : ℕ) (short : length s ≤ 65536) where
 
       by :
           (b : Bool) → ltb (65536 - length s) (length p) ≡ b
-          → Known (s ++ p) words T (pickState b (Refused (Message TooLong) 0) (More (length s + length p) wanted q))
+          → Known limit (s ++ p) words T (pickState b (Refused (Message TooLong) 0) (More (length s + length p) wanted q))
       by true e = ten T here zeros (ltb-true _ _ e)
       by false e =
-          let o : outcome (s ++ p) words ≡ refused Ended q = outcome-fits (ltb-false _ _ e) ∙ here in
+          let o : outcome limit (s ++ p) words ≡ refused Ended q = outcome-fits (ltb-false _ _ e) ∙ here in
           record {
             is =
                 waiting {wanted = wanted} (sym (length-append s p)) o
@@ -86,53 +87,53 @@ module _ (s p : List ℕ) (words : ℕ) (short : length s ≤ 65536) where
 
   -- all that is held is read
   again :
-      (T : List ℕ) → T ≡ tableOf words (reading (take 65536 (s ++ p)) words)
-      → Known (s ++ p) words T (stateOf (length s) (length p) (take 65536 (s ++ p)) (reading (take 65536 (s ++ p)) words))
-  again T t = of (reading (take 65536 (s ++ p)) words) (view (reading (take 65536 (s ++ p)) words)) refl (ltb (65536 - length s) (length p)) refl
+      (T : List ℕ) → T ≡ tableOf words (reading limit (take 65536 (s ++ p)) words)
+      → Known limit (s ++ p) words T (stateOf (length s) (length p) (take 65536 (s ++ p)) (reading limit (take 65536 (s ++ p)) words))
+  again T t = of (reading limit (take 65536 (s ++ p)) words) (view (reading limit (take 65536 (s ++ p)) words)) refl (ltb (65536 - length s) (length p)) refl
     where
       settled : (o : Reading) → refusedWithOne o ≡ false → stateOf (length s) (length p) (take 65536 (s ++ p)) o ≡ decidedAs o
       settled (got rows used book) f = refl
       settled (refused m q) f = rw f
 
       of :
-          (o : Reading) → View o → reading (take 65536 (s ++ p)) words ≡ o → (b : Bool) → ltb (65536 - length s) (length p) ≡ b
-          → Known (s ++ p) words T (stateOf (length s) (length p) (take 65536 (s ++ p)) o)
+          (o : Reading) → View o → reading limit (take 65536 (s ++ p)) words ≡ o → (b : Bool) → ltb (65536 - length s) (length p) ≡ b
+          → Known limit (s ++ p) words T (stateOf (length s) (length p) (take 65536 (s ++ p)) o)
       of _ (cut-short {q = q}) e true f =
           let z : T ≡ replicate words 0 = rw e at t in
           rw f (ten T e z (ltb-true _ _ f))
       of _ (cut-short {q = q}) e false f =
           let g = fits s p [] short (ltb-false _ _ f) in
-          let x : outcome (s ++ p) words ≡ refused Ended q = outcome-fits (ltb-false _ _ f) ∙ e in
+          let x : outcome limit (s ++ p) words ≡ refused Ended q = outcome-fits (ltb-false _ _ f) ∙ e in
           let z : T ≡ replicate words 0 = rw e at t in
-          let r : reading (s ++ p) words ≡ refused Ended q = rw g at e in
+          let r : reading limit (s ++ p) words ≡ refused Ended q = rw g at e in
           rw f
           (rw g
-          (record { is = waiting (sym (length-append s p)) x (λ ys k l. stays-cut words (s ++ p) ys k q r l) (λ k. z); table = rw x z }))
+          (record { is = waiting (sym (length-append s p)) x (λ ys k l. stays-cut limit ok words (s ++ p) ys k q r l) (λ k. z); table = rw x z }))
       of o (other h) e b f =
-          let i : refusedWithOne (reading (take 65536 (s ++ p)) words) ≡ false = ap refusedWithOne e ∙ h in
+          let i : refusedWithOne (reading limit (take 65536 (s ++ p)) words) ≡ false = ap refusedWithOne e ∙ h in
           let z : T ≡ tableOf words o = rw e at t in
-          rw (settled o h) (known-done (s ++ p) words T o (outcome-settled words (s ++ p) i ∙ e) h z)
+          rw (settled o h) (known-done limit (s ++ p) words T o (outcome-settled limit ok words (s ++ p) i ∙ e) h z)
 
 -- ---- the calls
 -- the room begins with the bytes so far, and the table has its length
-pub record Stands (s R₀ : List ℕ) (words : ℕ) (state : State) (R T : List ℕ) : Type 0 where
+pub record Stands (limit : ℕ) (s R₀ : List ℕ) (words : ℕ) (state : State) (R T : List ℕ) : Type 0 where
   pub room : R ≡ roomWith s R₀
   pub size : length T ≡ words
-  pub is : Is s words T state
+  pub is : Is limit s words T state
 
 -- what a call does where the room is long enough
-pub record Plain (state : State) (p R T R′ T′ : List ℕ) (state′ : State) : Type 0 where
-  pub says : state′ ≡ stateWent state p R (length T)
+pub record Plain (limit : ℕ) (state : State) (p R T R′ T′ : List ℕ) (state′ : State) : Type 0 where
+  pub says : state′ ≡ stateWent limit state p R (length T)
   pub room : R′ ≡ roomWent state p R
-  pub table : T′ ≡ tableWent state p R T
+  pub table : T′ ≡ tableWent limit state p R T
 
 pub plain :
-    (state : State) (p R T R′ T′ : List ℕ) (state′ : State) → 65536 ≤ length R → Went state p R T R′ T′ state′ → Plain state p R T R′ T′ state′
-plain state p R T R′ T′ state′ h w =
+    (limit : ℕ) (ok : allowed limit ≡ true) (state : State) (p R T R′ T′ : List ℕ) (state′ : State) → 65536 ≤ length R → Went limit state p R T R′ T′ state′ → Plain limit state p R T R′ T′ state′
+plain limit ok state p R T R′ T′ state′ h w =
     record {
-      says = simp (le-ltb _ _ h) at (w .says);
-      room = simp (le-ltb _ _ h) at (w .room);
-      table = simp (le-ltb _ _ h) at (w .table);
+      says = simp (ok, le-ltb _ _ h) at (w .says);
+      room = simp (ok, le-ltb _ _ h) at (w .room);
+      table = simp (ok, le-ltb _ _ h) at (w .table);
     }
 
 abbrev zeros : ℕ → List ℕ
@@ -148,38 +149,38 @@ zeros-behind k words h =
 
 -- however many words are tried first: once they are zeros, the table is the reading's
 read-table :
-    (wanted : ℕ) (s T : List ℕ) (words : ℕ) → length T ≡ words → (0 < wanted → T ≡ zeros words) → tableRead wanted s T ≡ tableOf words (reading s words)
-read-table wanted s T words l cleared =
-    rw l (by (ltb 0 wanted) refl (ltb (length s) (words / 4)) refl (reading s (4 * length s)) (view (reading s (4 * length s))) refl)
+    (limit wanted : ℕ) (s T : List ℕ) (words : ℕ) → length T ≡ words → (0 < wanted → T ≡ zeros words) → tableRead limit wanted s T ≡ tableOf words (reading limit s words)
+read-table limit wanted s T words l cleared =
+    rw l (by (ltb 0 wanted) refl (ltb (length s) (words / 4)) refl (reading limit s (4 * length s)) (view (reading limit s (4 * length s))) refl)
   where
     full : List ℕ
-    full = tableOf words (reading s words)
+    full = tableOf words (reading limit s words)
 
     by :
-        (x : Bool) → ltb 0 wanted ≡ x → (y : Bool) → ltb (length s) (words / 4) ≡ y → (o : Reading) → View o → reading s (4 * length s) ≡ o
+        (x : Bool) → ltb 0 wanted ≡ x → (y : Bool) → ltb (length s) (words / 4) ≡ y → (o : Reading) → View o → reading limit s (4 * length s) ≡ o
         → pickList (x && y) (pickList (refusedWithOne o) (replicate (4 * length s) 0 ++ drop (4 * length s) T) full) full ≡ full
     by false e y f o v g = refl
     by true e false f o v g = refl
     by true e true f _ (cut-short {q = q}) g =
         let k : 4 * length s ≤ words = omega (arith, ltb-true (length s) (words / 4) f) in
         let z : T ≡ zeros words = cleared (ltb-true 0 wanted e) in
-        let r : reading s words ≡ refused Ended q = more-words s (4 * length s) words k g refl in
+        let r : reading limit s words ≡ refused Ended q = more-words limit s (4 * length s) words k g refl in
         rw (z, r) (zeros-behind (4 * length s) words k)
     by true e true f o (other h) g = rw h
 
 -- a piece where more is wanted
-module _ (s p R₀ : List ℕ) (wanted q : ℕ) (T : List ℕ) (short : length s ≤ 65536) where
+module _ (limit : ℕ) (s p R₀ : List ℕ) (wanted q : ℕ) (T : List ℕ) (short : length s ≤ 65536) where
   says-more :
       (words : ℕ)
-      → stateWent (More (length s) wanted q) p (roomWith s R₀) words
+      → stateWent limit (More (length s) wanted q) p (roomWith s R₀) words
       ≡ pickState (ltb (length s + taken (length s) p) wanted) (stillMore (length s) (length p) wanted q)
-      (stateOf (length s) (length p) (take 65536 (s ++ p)) (reading (take 65536 (s ++ p)) words))
+      (stateOf (length s) (length p) (take 65536 (s ++ p)) (reading limit (take 65536 (s ++ p)) words))
   unfolding stateWent
   says-more words = simp (le-ltb _ _ short) (rw (room-next s p R₀ short, held-next s p R₀ short))
 
   table-more :
-      tableWent (More (length s) wanted q) p (roomWith s R₀) T
-      ≡ pickList (ltb (length s + taken (length s) p) wanted) T (tableRead wanted (take 65536 (s ++ p)) T)
+      tableWent limit (More (length s) wanted q) p (roomWith s R₀) T
+      ≡ pickList (ltb (length s + taken (length s) p) wanted) T (tableRead limit wanted (take 65536 (s ++ p)) T)
   unfolding tableWent
   table-more = simp (le-ltb _ _ short) (rw (room-next s p R₀ short, held-next s p R₀ short))
 
@@ -188,53 +189,53 @@ module _ (s p R₀ : List ℕ) (wanted q : ℕ) (T : List ℕ) (short : length s
   room-more = simp (le-ltb _ _ short) (room-next s p R₀ short)
 
 -- what stands after a call: the same against one piece more, and the table is that of the outcome
-pub record Next (s R₀ : List ℕ) (words : ℕ) (state : State) (R T : List ℕ) : Type 0 where
-  pub stands : Stands s R₀ words state R T
-  pub table : T ≡ tableOf words (outcome s words)
+pub record Next (limit : ℕ) (s R₀ : List ℕ) (words : ℕ) (state : State) (R T : List ℕ) : Type 0 where
+  pub stands : Stands limit s R₀ words state R T
+  pub table : T ≡ tableOf words (outcome limit s words)
 
 step-more :
-    (s p R₀ : List ℕ) (words wanted q : ℕ) (T R′ T′ : List ℕ) (state : State)
-    → length T ≡ words → outcome s words ≡ refused Ended q
-    → ((ys : List ℕ) → length (s ++ ys) ≤ 65536 → length (s ++ ys) < wanted → reading (s ++ ys) words ≡ refused Ended q)
-    → (0 < wanted → T ≡ replicate words 0) → Plain (More (length s) wanted q) p (roomWith s R₀) T R′ T′ state
-    → Next (s ++ p) R₀ words state R′ T′
-step-more s p R₀ words wanted q T R′ T′ state l o law zeros w = by (ltb (length s + taken (length s) p) wanted) refl
+    (limit : ℕ) (ok : allowed limit ≡ true) (s p R₀ : List ℕ) (words wanted q : ℕ) (T R′ T′ : List ℕ) (state : State)
+    → length T ≡ words → outcome limit s words ≡ refused Ended q
+    → ((ys : List ℕ) → length (s ++ ys) ≤ 65536 → length (s ++ ys) < wanted → reading limit (s ++ ys) words ≡ refused Ended q)
+    → (0 < wanted → T ≡ replicate words 0) → Plain limit (More (length s) wanted q) p (roomWith s R₀) T R′ T′ state
+    → Next limit (s ++ p) R₀ words state R′ T′
+step-more limit ok s p R₀ words wanted q T R′ T′ state l o law zeros w = by (ltb (length s + taken (length s) p) wanted) refl
   where
     short : length s ≤ 65536
-    short = wanting-within words s (ap refusedWithOne o)
+    short = wanting-within limit ok words s (ap refusedWithOne o)
 
-    by : (b : Bool) → ltb (length s + taken (length s) p) wanted ≡ b → Next (s ++ p) R₀ words state R′ T′
+    by : (b : Bool) → ltb (length s + taken (length s) p) wanted ≡ b → Next limit (s ++ p) R₀ words state R′ T′
     by true e =
         let h : length s + taken (length s) p < wanted = ltb-true _ _ e in
-        let a : state ≡ stillMore (length s) (length p) wanted q = w .says ∙ says-more s p R₀ wanted q T short (length T) ∙ rw e in
-        let t : T′ ≡ T = w .table ∙ table-more s p R₀ wanted q T short ∙ rw e in
-        let k : Known (s ++ p) words T (stillMore (length s) (length p) wanted q)
-        = skipped s p words short wanted q T law (zeros (omega arith)) h in
-        rw (a, t) (record { stands = record { room = w .room ∙ room-more s p R₀ wanted q T short; size = l; is = k .is }; table = k .table })
+        let a : state ≡ stillMore (length s) (length p) wanted q = w .says ∙ says-more limit s p R₀ wanted q T short (length T) ∙ rw e in
+        let t : T′ ≡ T = w .table ∙ table-more limit s p R₀ wanted q T short ∙ rw e in
+        let k : Known limit (s ++ p) words T (stillMore (length s) (length p) wanted q)
+        = skipped limit ok s p words short wanted q T law (zeros (omega arith)) h in
+        rw (a, t) (record { stands = record { room = w .room ∙ room-more limit s p R₀ wanted q T short; size = l; is = k .is }; table = k .table })
     by false e =
-        let a : state ≡ stateOf (length s) (length p) (take 65536 (s ++ p)) (reading (take 65536 (s ++ p)) words)
-        = w .says ∙ says-more s p R₀ wanted q T short (length T) ∙ rw (e, l) in
-        let t : T′ ≡ tableOf words (reading (take 65536 (s ++ p)) words)
-        = w .table ∙ table-more s p R₀ wanted q T short ∙ rw e (read-table wanted (take 65536 (s ++ p)) T words l zeros) in
-        let k : Known (s ++ p) words T′ (stateOf (length s) (length p) (take 65536 (s ++ p)) (reading (take 65536 (s ++ p)) words))
-        = again s p words short T′ t in
+        let a : state ≡ stateOf (length s) (length p) (take 65536 (s ++ p)) (reading limit (take 65536 (s ++ p)) words)
+        = w .says ∙ says-more limit s p R₀ wanted q T short (length T) ∙ rw (e, l) in
+        let t : T′ ≡ tableOf words (reading limit (take 65536 (s ++ p)) words)
+        = w .table ∙ table-more limit s p R₀ wanted q T short ∙ rw e (read-table limit wanted (take 65536 (s ++ p)) T words l zeros) in
+        let k : Known limit (s ++ p) words T′ (stateOf (length s) (length p) (take 65536 (s ++ p)) (reading limit (take 65536 (s ++ p)) words))
+        = again limit ok s p words short T′ t in
         rw a
         (record {
           stands = record {
-            room = w .room ∙ room-more s p R₀ wanted q T short;
-            size = ap length t ∙ length-table words (reading (take 65536 (s ++ p)) words);
+            room = w .room ∙ room-more limit s p R₀ wanted q T short;
+            size = ap length t ∙ length-table words (reading limit (take 65536 (s ++ p)) words);
             is = k .is;
           };
           table = k .table;
         })
 
 -- a decided state stays
-module _ (o : Reading) (p R : List ℕ) where
-  state-done : (words : ℕ) → stateWent (decidedAs o) p R words ≡ decidedAs o
+module _ (limit : ℕ) (o : Reading) (p R : List ℕ) where
+  state-done : (words : ℕ) → stateWent limit (decidedAs o) p R words ≡ decidedAs o
   unfolding stateWent
   state-done words = by o
     where
-      by : (x : Reading) → stateWent (decidedAs x) p R words ≡ decidedAs x
+      by : (x : Reading) → stateWent limit (decidedAs x) p R words ≡ decidedAs x
       by (got rows used book) = refl
       by (refused m q) = refl
 
@@ -246,25 +247,25 @@ module _ (o : Reading) (p R : List ℕ) where
       by (got rows used book) = refl
       by (refused m q) = refl
 
-  table-done : (T : List ℕ) → tableWent (decidedAs o) p R T ≡ T
+  table-done : (T : List ℕ) → tableWent limit (decidedAs o) p R T ≡ T
   unfolding tableWent
   table-done T = by o
     where
-      by : (x : Reading) → tableWent (decidedAs x) p R T ≡ T
+      by : (x : Reading) → tableWent limit (decidedAs x) p R T ≡ T
       by (got rows used book) = refl
       by (refused m q) = refl
 
 pub step :
-    (s p R₀ : List ℕ) (words : ℕ) {state : State} (R T R′ T′ : List ℕ) (state′ : State)
-    → R ≡ roomWith s R₀ → length T ≡ words → Is s words T state → Plain state p R T R′ T′ state′
-    → Next (through words s (p ∷ [])) R₀ words state′ R′ T′
-step s p R₀ words R T R′ T′ state′ e l (waiting {held = held} {wanted = wanted} {q = q} h o law zeros) w =
-    let v : Plain (More (length s) wanted q) p (roomWith s R₀) T R′ T′ state′ = rw (h, e) at w in
-    rw (through-more words s p (ap refusedWithOne o)) (step-more s p R₀ words wanted q T R′ T′ state′ l o law zeros v)
-step s p R₀ words R T R′ T′ state′ e l (done {state = state} z i t) w =
-    let v : Plain (decidedAs (outcome s words)) p R T R′ T′ state′ = rw i at w in
-    let a : state′ ≡ decidedAs (outcome s words) = v .says ∙ state-done (outcome s words) p R (length T) in
-    let b : R′ ≡ R = v .room ∙ room-done (outcome s words) p R in
-    let c : T′ ≡ T = v .table ∙ table-done (outcome s words) p R T in
-    rw (through-done words s (p ∷ []) z, b, c)
+    (limit : ℕ) (ok : allowed limit ≡ true) (s p R₀ : List ℕ) (words : ℕ) {state : State} (R T R′ T′ : List ℕ) (state′ : State)
+    → R ≡ roomWith s R₀ → length T ≡ words → Is limit s words T state → Plain limit state p R T R′ T′ state′
+    → Next limit (through limit words s (p ∷ [])) R₀ words state′ R′ T′
+step limit ok s p R₀ words R T R′ T′ state′ e l (waiting {held = held} {wanted = wanted} {q = q} h o law zeros) w =
+    let v : Plain limit (More (length s) wanted q) p (roomWith s R₀) T R′ T′ state′ = rw (h, e) at w in
+    rw (through-more limit ok words s p (ap refusedWithOne o)) (step-more limit ok s p R₀ words wanted q T R′ T′ state′ l o law zeros v)
+step limit ok s p R₀ words R T R′ T′ state′ e l (done {state = state} z i t) w =
+    let v : Plain limit (decidedAs (outcome limit s words)) p R T R′ T′ state′ = rw i at w in
+    let a : state′ ≡ decidedAs (outcome limit s words) = v .says ∙ state-done limit (outcome limit s words) p R (length T) in
+    let b : R′ ≡ R = v .room ∙ room-done limit (outcome limit s words) p R in
+    let c : T′ ≡ T = v .table ∙ table-done limit (outcome limit s words) p R T in
+    rw (through-done limit ok words s (p ∷ []) z, b, c)
     (record { stands = record { room = e; size = l; is = done z a t }; table = t })

@@ -12,6 +12,7 @@ use Rattle.text.proofs.Comparing.{clash}
 use Rattle.draft.specs.declared.Refusal.{Refusal}
 use Rattle.draft.specs.declared.Refusal.the-variants.{Ended, TooLong}
 use Rattle.draft.specs.Refusals.{numberOf, refusalOf}
+use Rattle.draft.specs.Limits.{allowed}
 use Rattle.draft.specs.Table.{roomOf}
 use Rattle.draft.specs.Read.{Reading, got, refused, pick, message, messageWithin}
 use Rattle.wanting.specs.Want.{wantOf}
@@ -38,88 +39,88 @@ view (refused m q) = by (eqb (numberOf m) 1) refl
     by true e = rw (one-ended m (eqb-true (numberOf m) 1 e)) (cut-short {q = q})
     by false e = other e
 
-module _ (words : ℕ) where
+module _ (limit : ℕ) (ok : allowed limit ≡ true) (words : ℕ) where
   -- reading, of no more bytes than are read
-  reads-as : (s : List ℕ) → length s ≤ 65536 → reading s words ≡ message s (roomOf 4096 words) 32
+  reads-as : (s : List ℕ) → length s ≤ 65536 → reading limit s words ≡ message s (roomOf 4096 words) limit
   unfolding reading messageWithin
-  reads-as s h = rw (le-leb (length s) 65536 h)
+  reads-as s h = rw (ok, le-leb (length s) 65536 h)
 
-  reads-over : (s : List ℕ) → 65536 < length s → reading s words ≡ refused TooLong 0
+  reads-over : (s : List ℕ) → 65536 < length s → reading limit s words ≡ refused TooLong 0
   unfolding reading messageWithin
-  reads-over s h = rw (lt-leb (length s) 65536 h)
+  reads-over s h = rw (ok, lt-leb (length s) 65536 h)
 
   module _ (s ys : List ℕ) (few : length (s ++ ys) ≤ 65536) where
     fewer : length s ≤ 65536
     fewer = omega (arith, length-append s ys)
 
     -- an answer other than 1 stays, whatever follows
-    pub stays : refusedWithOne (reading s words) ≡ false → reading (s ++ ys) words ≡ reading s words
+    pub stays : refusedWithOne (reading limit s words) ≡ false → reading limit (s ++ ys) words ≡ reading limit s words
     stays e =
         reads-as (s ++ ys) few
-        ∙ decided s ys (roomOf 4096 words) 32 (λ p f. clash (ap refusedWithOne f) (ap refusedWithOne (sym (reads-as s fewer)) ∙ e))
+        ∙ decided s ys (roomOf 4096 words) limit (λ p f. clash (ap refusedWithOne f) (ap refusedWithOne (sym (reads-as s fewer)) ∙ e))
         ∙ sym (reads-as s fewer)
 
     -- refused with 1, a message stays so, at the same place, as long as it has fewer bytes than it wants
-    pub stays-cut : (q : ℕ) → reading s words ≡ refused Ended q → length (s ++ ys) < wantOf s q → reading (s ++ ys) words ≡ refused Ended q
-    stays-cut q e h = reads-as (s ++ ys) few ∙ waits s ys (roomOf 4096 words) 32 q (sym (reads-as s fewer) ∙ e) h
+    pub stays-cut : (q : ℕ) → reading limit s words ≡ refused Ended q → length (s ++ ys) < wantOf s q → reading limit (s ++ ys) words ≡ refused Ended q
+    stays-cut q e h = reads-as (s ++ ys) few ∙ waits s ys (roomOf 4096 words) limit q (sym (reads-as s fewer) ∙ e) h
 
   -- up to 65,536 bytes the outcome is the reading
-  pub within : (s : List ℕ) → length s ≤ 65536 → outcome s words ≡ reading s words
+  pub within : (s : List ℕ) → length s ≤ 65536 → outcome limit s words ≡ reading limit s words
   unfolding outcome
-  within s h = rw (take-all 65536 s h, le-ltb 65536 (length s) h) (never (refusedWithOne (reading s words)))
+  within s h = rw (take-all 65536 s h, le-ltb 65536 (length s) h) (never (refusedWithOne (reading limit s words)))
     where
-      never : (b : Bool) → pick (b && false) (refused TooLong 0) (reading s words) ≡ reading s words
+      never : (b : Bool) → pick (b && false) (refused TooLong 0) (reading limit s words) ≡ reading limit s words
       never true = refl
       never false = refl
 
   module _ (s : List ℕ) where
-    pub outcome-over : {q : ℕ} → 65536 < length s → reading (take 65536 s) words ≡ refused Ended q → outcome s words ≡ refused TooLong 0
+    pub outcome-over : {q : ℕ} → 65536 < length s → reading limit (take 65536 s) words ≡ refused Ended q → outcome limit s words ≡ refused TooLong 0
     unfolding outcome
     outcome-over h e = rw (e, lt-ltb 65536 (length s) h)
 
-    pub outcome-settled : refusedWithOne (reading (take 65536 s) words) ≡ false → outcome s words ≡ reading (take 65536 s) words
+    pub outcome-settled : refusedWithOne (reading limit (take 65536 s) words) ≡ false → outcome limit s words ≡ reading limit (take 65536 s) words
     unfolding outcome
     outcome-settled e = rw e
 
     -- where more is wanted, there are at most 65,536
-    pub wanting-within : wanting s words ≡ true → length s ≤ 65536
+    pub wanting-within : wanting limit s words ≡ true → length s ≤ 65536
     wanting-within w = by (leb (length s) 65536) refl
       where
-        over : 65536 < length s → (o : Reading) → View o → reading (take 65536 s) words ≡ o → length s ≤ 65536
+        over : 65536 < length s → (o : Reading) → View o → reading limit (take 65536 s) words ≡ o → length s ≤ 65536
         over h _ cut-short e = clash (sym (ap refusedWithOne (outcome-over h e)) ∙ w) refl
         over h o (other f) e =
-            let g : refusedWithOne (reading (take 65536 s) words) ≡ false = ap refusedWithOne e ∙ f in
+            let g : refusedWithOne (reading limit (take 65536 s) words) ≡ false = ap refusedWithOne e ∙ f in
             clash (sym (ap refusedWithOne (outcome-settled g) ∙ g) ∙ w) refl
 
         by : (b : Bool) → leb (length s) 65536 ≡ b → length s ≤ 65536
         by true e = leb-true (length s) 65536 e
-        by false e = over (leb-false (length s) 65536 e) (reading (take 65536 s) words) (view (reading (take 65536 s) words)) refl
+        by false e = over (leb-false (length s) 65536 e) (reading limit (take 65536 s) words) (view (reading limit (take 65536 s) words)) refl
 
     -- 10 only if the first 65,536 bytes have no answer, and there is another
-    pub ten-only : {p : ℕ} → toldOf (outcome s words) ≡ refusal 10 p → (refusedWithOne (reading (take 65536 s) words) ≡ true) × (65536 < length s)
+    pub ten-only : {p : ℕ} → toldOf (outcome limit s words) ≡ refusal 10 p → (refusedWithOne (reading limit (take 65536 s) words) ≡ true) × (65536 < length s)
     unfolding outcome
-    ten-only {p} e = by (refusedWithOne (reading (take 65536 s) words)) refl (ltb 65536 (length s)) refl
+    ten-only {p} e = by (refusedWithOne (reading limit (take 65536 s) words)) refl (ltb 65536 (length s)) refl
       where
         few : length (take 65536 s) ≤ 65536
         few = omega (arith, length-take 65536 s)
 
-        no-ten : (m : Refusal) (q : ℕ) → reading (take 65536 s) words ≡ refused m q → refusal (numberOf m) q ≡ refusal 10 p → ⊥
+        no-ten : (m : Refusal) (q : ℕ) → reading limit (take 65536 s) words ≡ refused m q → refusal (numberOf m) q ≡ refusal 10 p → ⊥
         no-ten m q f g =
             let i : numberOf m ≡ 10 = cc in
             let j : m ≡ TooLong = sym (number-own m) ∙ sym (refusal-long (numberOf m) i) in
-            let k : OfReading m = of-reading (take 65536 s) (roomOf 4096 words) 32 (sym (reads-as (take 65536 s) few) ∙ f) in
+            let k : OfReading m = of-reading (take 65536 s) (roomOf 4096 words) limit (sym (reads-as (take 65536 s) few) ∙ f) in
             rw j at k
 
-        never : (o : Reading) → reading (take 65536 s) words ≡ o → toldOf o ≡ refusal 10 p → ⊥
+        never : (o : Reading) → reading limit (take 65536 s) words ≡ o → toldOf o ≡ refusal 10 p → ⊥
         never (got rows used book) f g = let z : _≡_ {A = ℕ} 0 1 = cc in omega arith
         never (refused m q) f g = no-ten m q f g
 
         by :
-            (x : Bool) → refusedWithOne (reading (take 65536 s) words) ≡ x → (y : Bool) → ltb 65536 (length s) ≡ y
-            → (refusedWithOne (reading (take 65536 s) words) ≡ true) × (65536 < length s)
+            (x : Bool) → refusedWithOne (reading limit (take 65536 s) words) ≡ x → (y : Bool) → ltb 65536 (length s) ≡ y
+            → (refusedWithOne (reading limit (take 65536 s) words) ≡ true) × (65536 < length s)
         by true f true g = (f, ltb-true 65536 (length s) g)
-        by true f false g = absurd (never (reading (take 65536 s) words) refl (rw (f, g) at e))
-        by false f y g = absurd (never (reading (take 65536 s) words) refl (rw f at e))
+        by true f false g = absurd (never (reading limit (take 65536 s) words) refl (rw (f, g) at e))
+        by false f y g = absurd (never (reading limit (take 65536 s) words) refl (rw f at e))
 
   -- ---- over pieces
   later : (s p : List ℕ) (ps : List (List ℕ)) → (s ++ p) ++ joined ps ≡ s ++ (p ++ joined ps)
@@ -127,62 +128,62 @@ module _ (words : ℕ) where
 
   -- of up to 65,536 bytes, the outcome over the pieces is the reading of the whole
   whole-from :
-      (ps : List (List ℕ)) (s : List ℕ) → length (s ++ joined ps) ≤ 65536 → outcome (through words s ps) words ≡ reading (s ++ joined ps) words
+      (ps : List (List ℕ)) (s : List ℕ) → length (s ++ joined ps) ≤ 65536 → outcome limit (through limit words s ps) words ≡ reading limit (s ++ joined ps) words
   unfolding through joined
   whole-from [] s h = rw (append-nil s) (within s (rw (append-nil s) at h))
-  whole-from (p ∷ ps) s h = by (wanting s words) refl (whole-from ps (s ++ p) (rw (later s p ps) h))
+  whole-from (p ∷ ps) s h = by (wanting limit s words) refl (whole-from ps (s ++ p) (rw (later s p ps) h))
     where
       by :
-          (b : Bool) → wanting s words ≡ b → outcome (through words (s ++ p) ps) words ≡ reading ((s ++ p) ++ joined ps) words
-          → outcome (pickBytes b (through words (s ++ p) ps) s) words ≡ reading (s ++ (p ++ joined ps)) words
+          (b : Bool) → wanting limit s words ≡ b → outcome limit (through limit words (s ++ p) ps) words ≡ reading limit ((s ++ p) ++ joined ps) words
+          → outcome limit (pickBytes b (through limit words (s ++ p) ps) s) words ≡ reading limit (s ++ (p ++ joined ps)) words
       by true e i = rw (← later s p ps) i
       by false e i =
-          let j : outcome s words ≡ reading s words = within s (omega (arith, length-append s (p ++ joined ps))) in
+          let j : outcome limit s words ≡ reading limit s words = within s (omega (arith, length-append s (p ++ joined ps))) in
           j ∙ sym (stays s (p ++ joined ps) h (rw j at e))
 
-  pub whole : (ps : List (List ℕ)) → length (joined ps) ≤ 65536 → outcome (through words [] ps) words ≡ reading (joined ps) words
+  pub whole : (ps : List (List ℕ)) → length (joined ps) ≤ 65536 → outcome limit (through limit words [] ps) words ≡ reading limit (joined ps) words
   whole ps h = whole-from ps [] h
 
   -- more is wanted exactly if all bytes so far, read as a whole message, are refused with 1
-  wanting-from : (ps : List (List ℕ)) (s : List ℕ) → wanting (through words s ps) words ≡ refusedWithOne (reading (s ++ joined ps) words)
+  wanting-from : (ps : List (List ℕ)) (s : List ℕ) → wanting limit (through limit words s ps) words ≡ refusedWithOne (reading limit (s ++ joined ps) words)
   unfolding through joined
-  wanting-from [] s = rw (append-nil s) (by (leb (length s) 65536) refl (wanting s words) refl)
+  wanting-from [] s = rw (append-nil s) (by (leb (length s) 65536) refl (wanting limit s words) refl)
     where
-      by : (b : Bool) → leb (length s) 65536 ≡ b → (c : Bool) → wanting s words ≡ c → wanting s words ≡ refusedWithOne (reading s words)
+      by : (b : Bool) → leb (length s) 65536 ≡ b → (c : Bool) → wanting limit s words ≡ c → wanting limit s words ≡ refusedWithOne (reading limit s words)
       by true e c f = ap refusedWithOne (within s (leb-true (length s) 65536 e))
       by false e true f = absurd (omega (arith, leb-false (length s) 65536 e, wanting-within s f))
       by false e false f = f ∙ sym (ap refusedWithOne (reads-over s (leb-false (length s) 65536 e)))
-  wanting-from (p ∷ ps) s = by (wanting s words) refl (wanting-from ps (s ++ p))
+  wanting-from (p ∷ ps) s = by (wanting limit s words) refl (wanting-from ps (s ++ p))
     where
-      done : wanting s words ≡ false → (b : Bool) → leb (length (s ++ (p ++ joined ps))) 65536 ≡ b → wanting s words ≡ refusedWithOne (reading (s ++ (p ++ joined ps)) words)
+      done : wanting limit s words ≡ false → (b : Bool) → leb (length (s ++ (p ++ joined ps))) 65536 ≡ b → wanting limit s words ≡ refusedWithOne (reading limit (s ++ (p ++ joined ps)) words)
       done e true f =
           let h = leb-true (length (s ++ (p ++ joined ps))) 65536 f in
-          let j : outcome s words ≡ reading s words = within s (omega (arith, length-append s (p ++ joined ps))) in
+          let j : outcome limit s words ≡ reading limit s words = within s (omega (arith, length-append s (p ++ joined ps))) in
           ap refusedWithOne (j ∙ sym (stays s (p ++ joined ps) h (rw j at e)))
       done e false f = e ∙ sym (ap refusedWithOne (reads-over (s ++ (p ++ joined ps)) (leb-false (length (s ++ (p ++ joined ps))) 65536 f)))
 
       by :
-          (b : Bool) → wanting s words ≡ b → wanting (through words (s ++ p) ps) words ≡ refusedWithOne (reading ((s ++ p) ++ joined ps) words)
-          → wanting (pickBytes b (through words (s ++ p) ps) s) words ≡ refusedWithOne (reading (s ++ (p ++ joined ps)) words)
+          (b : Bool) → wanting limit s words ≡ b → wanting limit (through limit words (s ++ p) ps) words ≡ refusedWithOne (reading limit ((s ++ p) ++ joined ps) words)
+          → wanting limit (pickBytes b (through limit words (s ++ p) ps) s) words ≡ refusedWithOne (reading limit (s ++ (p ++ joined ps)) words)
       by true e i = rw (← later s p ps) i
       by false e i = done e (leb (length (s ++ (p ++ joined ps))) 65536) refl
 
-  pub wanting-whole : (ps : List (List ℕ)) → wanting (through words [] ps) words ≡ refusedWithOne (reading (joined ps) words)
+  pub wanting-whole : (ps : List (List ℕ)) → wanting limit (through limit words [] ps) words ≡ refusedWithOne (reading limit (joined ps) words)
   wanting-whole ps = wanting-from ps []
 
-  pub through-more : (s p : List ℕ) → wanting s words ≡ true → through words s (p ∷ []) ≡ s ++ p
+  pub through-more : (s p : List ℕ) → wanting limit s words ≡ true → through limit words s (p ∷ []) ≡ s ++ p
   unfolding through
   through-more s p e = rw e
 
-  pub through-done : (s : List ℕ) (ps : List (List ℕ)) → wanting s words ≡ false → through words s ps ≡ s
+  pub through-done : (s : List ℕ) (ps : List (List ℕ)) → wanting limit s words ≡ false → through limit words s ps ≡ s
   unfolding through
   through-done s [] e = refl
   through-done s (p ∷ ps) e = rw e
 
-  pub through-step : (s p : List ℕ) (ps : List (List ℕ)) → through words s (p ∷ ps) ≡ through words (through words s (p ∷ [])) ps
+  pub through-step : (s p : List ℕ) (ps : List (List ℕ)) → through limit words s (p ∷ ps) ≡ through limit words (through limit words s (p ∷ [])) ps
   unfolding through
-  through-step s p ps = by (wanting s words) refl
+  through-step s p ps = by (wanting limit s words) refl
     where
-      by : (b : Bool) → wanting s words ≡ b → pickBytes b (through words (s ++ p) ps) s ≡ through words (pickBytes b (s ++ p) s) ps
+      by : (b : Bool) → wanting limit s words ≡ b → pickBytes b (through limit words (s ++ p) ps) s ≡ through limit words (pickBytes b (s ++ p) s) ps
       by true e = refl
       by false e = sym (through-done s ps e)

@@ -10,6 +10,7 @@ use borrow.Author.Tests.{le-ltb, ltb-true, ltb-false}
 use Rattle.text.proofs.Comparing.{clash}
 use Rattle.draft.specs.declared.Refusal.the-variants.{Ended}
 use Rattle.draft.specs.Refusals.{numberOf}
+use Rattle.draft.specs.Limits.{allowed}
 use Rattle.draft.specs.Read.{Reading, got, refused, agree, message, messageWithin}
 use Rattle.reader.specs.Answers.{reading, tableOf}
 use Rattle.rereading.specs.Rereading.{refusedWithOne, pickList}
@@ -25,52 +26,52 @@ use Rattle.cuts.proofs.Holding.{same-room, past}
 use Rattle.cuts.proofs.Calling.{decidedAs, Is, waiting, done, Stands, plain, Next, step}
 
 -- nothing has come
-begins : (R T : List ℕ) → Stands [] R (length T) begun R T
+begins : (limit : ℕ) (ok : allowed limit ≡ true) (R T : List ℕ) → Stands limit [] R (length T) begun R T
 unfolding roomWith outcome reading messageWithin message agree
-begins R T =
+begins limit ok R T =
     record {
       room = refl;
       size = refl;
-      is = waiting {wanted = 0} refl refl (λ ys k l. let z : _≡_ {A = ℕ} 0 1 = omega (arith, l) in cc) (λ k. let z : _≡_ {A = ℕ} 0 1 = omega (arith, k) in cc);
+      is = waiting {wanted = 0} {q = 0} refl (rw ok) (λ ys k l. let z : _≡_ {A = ℕ} 0 1 = omega (arith, l) in cc) (λ k. let z : _≡_ {A = ℕ} 0 1 = omega (arith, k) in cc);
     }
 
-module _ (R₀ : List ℕ) (words : ℕ) (long : 65536 ≤ length R₀) where
+module _ (limit : ℕ) (ok : allowed limit ≡ true) (R₀ : List ℕ) (words : ℕ) (long : 65536 ≤ length R₀) where
   run-on :
       {ps : List (List ℕ)} {state last : State} {R T R′ T′ : List ℕ} (s : List ℕ)
-      → Next s R₀ words state R T → Runs ps state R T last R′ T′ → Next (through words s ps) R₀ words last R′ T′
+      → Next limit s R₀ words state R T → Runs limit ps state R T last R′ T′ → Next limit (through limit words s ps) R₀ words last R′ T′
   unfolding through
   run-on s n none = n
   run-on s n (piece {p = p} {ps = ps} {state = state} {between = between} {R = R} {T = T} {R′ = R′} {T′ = T′} w run) =
       let k : 65536 ≤ length R = omega (arith, ap length (n .stands .room), same-room s R₀ long) in
-      let m : Next (through words s (p ∷ [])) R₀ words between R′ T′
-      = step s p R₀ words R T R′ T′ between (n .stands .room) (n .stands .size) (n .stands .is) (plain state p R T R′ T′ between k w) in
-      rw (through-step words s p ps) (run-on (through words s (p ∷ [])) m run)
+      let m : Next limit (through limit words s (p ∷ [])) R₀ words between R′ T′
+      = step limit ok s p R₀ words R T R′ T′ between (n .stands .room) (n .stands .size) (n .stands .is) (plain limit ok state p R T R′ T′ between k w) in
+      rw (through-step limit ok words s p ps) (run-on (through limit words s (p ∷ [])) m run)
 
 -- after one piece or more the table is that of the outcome too
 pub run-next :
-    (R₀ T₀ : List ℕ) {p : List ℕ} {ps : List (List ℕ)} {state : State} {R T : List ℕ} → 65536 ≤ length R₀ → Runs (p ∷ ps) begun R₀ T₀ state R T
-    → Next (through (length T₀) [] (p ∷ ps)) R₀ (length T₀) state R T
-run-next R₀ T₀ {p} {ps} long (piece {between = between} {R′ = R′} {T′ = T′} w run) =
-    let b = begins R₀ T₀ in
-    let m : Next (through (length T₀) [] (p ∷ [])) R₀ (length T₀) between R′ T′
-    = step [] p R₀ (length T₀) R₀ T₀ R′ T′ between (b .room) (b .size) (b .is) (plain begun p R₀ T₀ R′ T′ between long w) in
-    rw (through-step (length T₀) [] p ps) (run-on R₀ (length T₀) long (through (length T₀) [] (p ∷ [])) m run)
+    (limit : ℕ) (ok : allowed limit ≡ true) (R₀ T₀ : List ℕ) {p : List ℕ} {ps : List (List ℕ)} {state : State} {R T : List ℕ} → 65536 ≤ length R₀ → Runs limit (p ∷ ps) begun R₀ T₀ state R T
+    → Next limit (through limit (length T₀) [] (p ∷ ps)) R₀ (length T₀) state R T
+run-next limit ok R₀ T₀ {p} {ps} long (piece {between = between} {R′ = R′} {T′ = T′} w run) =
+    let b = begins limit ok R₀ T₀ in
+    let m : Next limit (through limit (length T₀) [] (p ∷ [])) R₀ (length T₀) between R′ T′
+    = step limit ok [] p R₀ (length T₀) R₀ T₀ R′ T′ between (b .room) (b .size) (b .is) (plain limit ok begun p R₀ T₀ R′ T′ between long w) in
+    rw (through-step limit ok (length T₀) [] p ps) (run-on limit ok R₀ (length T₀) long (through limit (length T₀) [] (p ∷ [])) m run)
 
 pub run-stands :
-    (R₀ T₀ : List ℕ) (ps : List (List ℕ)) {state : State} {R T : List ℕ} → 65536 ≤ length R₀ → Runs ps begun R₀ T₀ state R T
-    → Stands (through (length T₀) [] ps) R₀ (length T₀) state R T
+    (limit : ℕ) (ok : allowed limit ≡ true) (R₀ T₀ : List ℕ) (ps : List (List ℕ)) {state : State} {R T : List ℕ} → 65536 ≤ length R₀ → Runs limit ps begun R₀ T₀ state R T
+    → Stands limit (through limit (length T₀) [] ps) R₀ (length T₀) state R T
 unfolding through
-run-stands R₀ T₀ [] long none = begins R₀ T₀
-run-stands R₀ T₀ (p ∷ ps) long run = run-next R₀ T₀ long run .stands
+run-stands limit ok R₀ T₀ [] long none = begins limit ok R₀ T₀
+run-stands limit ok R₀ T₀ (p ∷ ps) long run = run-next limit ok R₀ T₀ long run .stands
 
 told-done : (o : Reading) → told (decidedAs o) ≡ toldOf o
 told-done (got rows used book) = refl
 told-done (refused m q) = refl
 
 -- what a state tells is what the bytes through the deciding piece come to
-pub is-told : {s : List ℕ} {words : ℕ} {T : List ℕ} {state : State} → Is s words T state → told state ≡ soFar (outcome s words)
+pub is-told : {limit : ℕ} {s : List ℕ} {words : ℕ} {T : List ℕ} {state : State} → Is limit s words T state → told state ≡ soFar (outcome limit s words)
 is-told (waiting h o law z) = rw o
-is-told {s = s} {words = words} (done z i t) = ap told i ∙ told-done (outcome s words) ∙ rw z
+is-told {limit = limit} {s = s} {words = words} (done z i t) = ap told i ∙ told-done (outcome limit s words) ∙ rw z
 
 -- a state, and a table, that are a whole message's
 pub record Ends (o : Reading) (words : ℕ) (state : State) (T : List ℕ) : Type 0 where
@@ -94,18 +95,18 @@ module _ (o : Reading) where
 
 -- the end call
 pub end-is :
-    {s : List ℕ} {state : State} (words bytes : ℕ) (T T′ : List ℕ) (last : State)
-    → 65536 ≤ bytes → length T ≡ words → Is s words T state → Closed state bytes T T′ last → Ends (outcome s words) words last T′
-end-is words bytes T T′ last long l (waiting {q = q} h o law z) w =
-    let a : last ≡ Refused (Message Ended) q = simp (le-ltb _ _ long) at (w .says) in
-    let t : T′ ≡ replicate words 0 = rw l at (simp (le-ltb _ _ long) at (w .table)) in
+    (limit : ℕ) (ok : allowed limit ≡ true) {s : List ℕ} {state : State} (words bytes : ℕ) (T T′ : List ℕ) (last : State)
+    → 65536 ≤ bytes → length T ≡ words → Is limit s words T state → Closed limit state bytes T T′ last → Ends (outcome limit s words) words last T′
+end-is limit ok words bytes T T′ last long l (waiting {q = q} h o law z) w =
+    let a : last ≡ Refused (Message Ended) q = simp (ok, le-ltb _ _ long) at (w .says) in
+    let t : T′ ≡ replicate words 0 = rw l at (simp (ok, le-ltb _ _ long) at (w .table)) in
     rw o (record { says = ap told a; table = t })
-end-is {s = s} words bytes T T′ last long l (done {state = state} z i t) w =
-    let a : last ≡ stateClosed state = simp (le-ltb _ _ long) at (w .says) in
-    let b : T′ ≡ tableClosed state T = simp (le-ltb _ _ long) at (w .table) in
+end-is limit ok {s = s} words bytes T T′ last long l (done {state = state} z i t) w =
+    let a : last ≡ stateClosed state = simp (ok, le-ltb _ _ long) at (w .says) in
+    let b : T′ ≡ tableClosed state T = simp (ok, le-ltb _ _ long) at (w .table) in
     record {
-      says = ap told (a ∙ ap stateClosed i ∙ close-done (outcome s words)) ∙ told-done (outcome s words);
-      table = b ∙ ap (λ (x : State). tableClosed x T) i ∙ close-table (outcome s words) T ∙ t;
+      says = ap told (a ∙ ap stateClosed i ∙ close-done (outcome limit s words)) ∙ told-done (outcome limit s words);
+      table = b ∙ ap (λ (x : State). tableClosed x T) i ∙ close-table (outcome limit s words) T ∙ t;
     }
 
 -- ---- any state, room and table
@@ -116,21 +117,21 @@ pub record Same (state state′ : State) (R R′ T T′ : List ℕ) : Type 0 whe
   pub table : T′ ≡ T
 
 pub decided-stays :
-    (state : State) {p R T R′ T′ : List ℕ} {state′ : State} → (told state ≡ more → ⊥) → 65536 ≤ length R → Went state p R T R′ T′ state′
+    (limit : ℕ) (ok : allowed limit ≡ true) (state : State) {p R T R′ T′ : List ℕ} {state′ : State} → (told state ≡ more → ⊥) → 65536 ≤ length R → Went limit state p R T R′ T′ state′
     → Same state state′ R R′ T T′
 unfolding stateWent roomWent tableWent
-decided-stays (More held wanted place) h long w = absurd (h refl)
-decided-stays (Accepted rows used) {p} {R} {T} {R′} {T′} {state′} h long w =
-    let v = plain (Accepted rows used) p R T R′ T′ state′ long w in
+decided-stays limit ok (More held wanted place) h long w = absurd (h refl)
+decided-stays limit ok (Accepted rows used) {p} {R} {T} {R′} {T′} {state′} h long w =
+    let v = plain limit ok (Accepted rows used) p R T R′ T′ state′ long w in
     record { says = v .says; room = v .room; table = v .table }
-decided-stays (Refused m q) {p} {R} {T} {R′} {T′} {state′} h long w =
-    let v = plain (Refused m q) p R T R′ T′ state′ long w in
+decided-stays limit ok (Refused m q) {p} {R} {T} {R′} {T′} {state′} h long w =
+    let v = plain limit ok (Refused m q) p R T R′ T′ state′ long w in
     record { says = v .says; room = v .room; table = v .table }
 
 -- the room's bytes past 65,536 stay
-pub past-stays : (state : State) {p R T R′ T′ : List ℕ} {state′ : State} → Went state p R T R′ T′ state′ → drop 65536 R′ ≡ drop 65536 R
+pub past-stays : (limit : ℕ) (state : State) {p R T R′ T′ : List ℕ} {state′ : State} → Went limit state p R T R′ T′ state′ → drop 65536 R′ ≡ drop 65536 R
 unfolding roomWent
-past-stays state {p} {R} {T} {R′} {T′} {state′} w = by (ltb (length R) 65536) refl
+past-stays limit state {p} {R} {T} {R′} {T′} {state′} w = by (allowed limit) refl (ltb (length R) 65536) refl
   where
     went : (x : State) → 65536 ≤ length R → drop 65536 (roomWent x p R) ≡ drop 65536 R
     went (More held wanted place) long = in-room (ltb 65536 held) refl
@@ -141,9 +142,10 @@ past-stays state {p} {R} {T} {R′} {T′} {state′} w = by (ltb (length R) 655
     went (Accepted rows used) long = refl
     went (Refused m q) long = refl
 
-    by : (b : Bool) → ltb (length R) 65536 ≡ b → drop 65536 R′ ≡ drop 65536 R
-    by true e = let r : R′ ≡ R = w .room ∙ rw e in ap (drop 65536) r
-    by false e = let r : R′ ≡ roomWent state p R = w .room ∙ rw e in ap (drop 65536) r ∙ went state (ltb-false (length R) 65536 e)
+    by : (a : Bool) → allowed limit ≡ a → (b : Bool) → ltb (length R) 65536 ≡ b → drop 65536 R′ ≡ drop 65536 R
+    by false f b e = let r : R′ ≡ R = w .room ∙ rw f in ap (drop 65536) r
+    by true f true e = let r : R′ ≡ R = w .room ∙ rw (f, e) in ap (drop 65536) r
+    by true f false e = let r : R′ ≡ roomWent state p R = w .room ∙ rw (f, e) in ap (drop 65536) r ∙ went state (ltb-false (length R) 65536 e)
 
 -- ---- what is told
 -- more is told exactly of refusal 1

@@ -26,7 +26,7 @@ use Rattle.choice.specs.Choosing.{numberOf, preferred, byteOf, Handed}
 use Rattle.defaults.specs.Defaults.{Source, heldIn, structsThen, rowIn, isWritable, chosen}
 use Rattle.sources.proofs.Asking.{decimal-other, Agrees, agrees, card-of, card-by, defaults-of, defaults-by, unchanged, Some, of-card, of-defaults, past-refusals}
 use Rattle.meant.specs.Meant.{Meaning, Answers, whole-number, yes-or-no, decimal, text, datetime, binary, array, struct, other, Said, no-member, this-member, later-member, Answered, in-struct, no-struct}
-use Rattle.demands.specs.Writing.{Words, form-derived}
+use Rattle.demands_writing.specs.Writing.{Words, form-derived, judged}
 use Rattle.demands.specs.Lookups.{table-says}
 
 -- E5's lookup
@@ -131,7 +131,7 @@ answered-inside (no-struct h i) e = let z : _≡_ {A = ℕ} 0 1 = cc in absurd (
 
 looked-inside : (c : Source) (key : List ℕ) {o n : ℕ} → Words (c .table) → isWritable c ≡ true → looked c key ≡ answer.Text o n → o + n ≤ length (c .text)
 looked-inside c key w e i =
-    answered-inside (table-says (c .table) (c .rows) (c .text) e (form-derived (c .table) (c .rows) (c .text) e w) (c .row) key) i
+    answered-inside (table-says (c .table) (c .rows) (c .text) e (form-derived 32 (c .table) (c .rows) (c .text) (sym (judged (c .table) (c .rows) (c .text)) ∙ e) w) (c .row) key) i
 
 module _ (card defaults : Source) (key : List ℕ) {o n : ℕ} where
   pub card-inside : Words (card .table) → chosen card defaults key ≡ Card o n → o + n ≤ length (card .text)

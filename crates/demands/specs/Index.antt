@@ -35,7 +35,7 @@ use Rattle.index.specs.Through.{throughIf, through, keyAt, reportsOf}
 use Rattle.index.proofs.Theorems as index
 use Rattle.meant.proofs.Saying.{standing}
 use Rattle.meant.proofs.Only.{members-stand}
-use Rattle.demands.specs.Writing.{Words, form-derived}
+use Rattle.demands_writing.specs.Writing.{Words, form-derived, judged}
 use Rattle.demands.specs.Lookups.{distinct-members}
 
 -- UNWRITABLE first: filling is refused with 11, and so is every key looked up, through whatever list.
@@ -73,7 +73,7 @@ module _ (T : List ℕ) (rows : ℕ) (s : List ℕ) (e : writable T rows s ≡ t
   stand : Apart rows (r + 1) its
   unfolding rowsOf
   stand =
-      let g = form-derived T rows s e w in
+      let g = form-derived 32 T rows s (sym (judged T rows s) ∙ e) w in
       members-stand row s (standing row s rows (g .meaning)) rows (sym (counts (g .meaning)) ∙ rows-length 4096 T rows) (g .derived) r
 
   sound : index.Sound T rows s r

@@ -34,9 +34,9 @@ module _ (s : List ℕ) (n : ℕ) {start size : ℕ} (e : bodyOf s n ≡ found.B
   pub in-file : start + size ≤ length s
   in-file = lies s n e
 
-  -- CARD ALONE. A card reads as its body alone would be read by `reader::read` into a table as large: with an empty codebook, and with
+  -- CARD ALONE. A card reads as its body alone would be read by `reader::read`, nested to at most 32, into a table as large: with an empty codebook, and with
   -- places and offsets from the body; its acceptance names the body's first byte besides.
-  pub card-alone : (words : ℕ) {T T′ : List ℕ} {a : Answer} {b : ReaderAnswer} → Reads s words (bodyOf s n) T a → Answers (reading (part s start size) words) words T′ b → (a ≡ located start b) × (T ≡ T′)
+  pub card-alone : (words : ℕ) {T T′ : List ℕ} {a : Answer} {b : ReaderAnswer} → Reads s words (bodyOf s n) T a → Answers (reading 32 (part s start size) words) words T′ b → (a ≡ located start b) × (T ≡ T′)
   card-alone words d c = (d .says ∙ ap (answerFor s words) e ∙ ap (located start) (sym (c .says)), d .leaves ∙ ap (tableFor s words) e ∙ sym (c .leaves))
 
   -- NEXT. From the end of a card the next one is found, as it is from the start of the file.
@@ -57,8 +57,8 @@ same-elsewhere start start′ (reader.Refused refusal place) = refl
 -- two jobs hold.
 pub alike : (s s′ : List ℕ) (n n′ words : ℕ) {start size start′ size′ : ℕ} {T T′ : List ℕ} {a a′ : Answer} → bodyOf s n ≡ found.Body start size → bodyOf s′ n′ ≡ found.Body start′ size′ → part s start size ≡ part s′ start′ size′ → Reads s words (bodyOf s n) T a → Reads s′ words (bodyOf s′ n′) T′ a′ → (elsewhere a ≡ elsewhere a′) × (T ≡ T′)
 alike s s′ n n′ words {start} {size} {start′} {size′} e e′ p d d′ =
-    let o : reading (part s start size) words ≡ reading (part s′ start′ size′) words = ap (λ (l : List ℕ). reading l words) p in (
-      ap elsewhere (d .says ∙ ap (answerFor s words) e) ∙ ap (λ (r : Reading). elsewhere (located start (answerOf r))) o ∙ same-elsewhere start start′ (answerOf (reading (part s′ start′ size′) words)) ∙ sym (ap elsewhere (d′ .says ∙ ap (answerFor s′ words) e′)),
+    let o : reading 32 (part s start size) words ≡ reading 32 (part s′ start′ size′) words = ap (λ (l : List ℕ). reading 32 l words) p in (
+      ap elsewhere (d .says ∙ ap (answerFor s words) e) ∙ ap (λ (r : Reading). elsewhere (located start (answerOf r))) o ∙ same-elsewhere start start′ (answerOf (reading 32 (part s′ start′ size′) words)) ∙ sym (ap elsewhere (d′ .says ∙ ap (answerFor s′ words) e′)),
       d .leaves ∙ ap (tableFor s words) e ∙ ap (tableOf words) o ∙ sym (d′ .leaves ∙ ap (tableFor s′ words) e′),
     )
 
@@ -67,7 +67,7 @@ pub stands-whole : (u t t′ : List ℕ) (n words : ℕ) {start size : ℕ} {T T
 stands-whole u t t′ n words {start} {size} {T} {T′} {a} {a′} e h d d′ =
     let e′ : bodyOf (u ++ t′) n ≡ found.Body start size = stands u t t′ n e h in
     let p : part (u ++ t) start size ≡ part (u ++ t′) start size = part-stands u t start size h ∙ sym (part-stands u t′ start size h) in
-    let o : reading (part (u ++ t) start size) words ≡ reading (part (u ++ t′) start size) words = ap (λ (l : List ℕ). reading l words) p in (
+    let o : reading 32 (part (u ++ t) start size) words ≡ reading 32 (part (u ++ t′) start size) words = ap (λ (l : List ℕ). reading 32 l words) p in (
       d .says ∙ ap (answerFor (u ++ t) words) e ∙ ap (λ (r : Reading). located start (answerOf r)) o ∙ sym (d′ .says ∙ ap (answerFor (u ++ t′) words) e′),
       d .leaves ∙ ap (tableFor (u ++ t) words) e ∙ ap (tableOf words) o ∙ sym (d′ .leaves ∙ ap (tableFor (u ++ t′) words) e′),
     )
@@ -94,7 +94,7 @@ job-refused-zeros s words f {T} {m} {p} d = d .leaves ∙ go f (d .says)
 
     go : (f : Found) → Missing m p ≡ answerFor s words f → tableFor s words f ≡ replicate words 0
     go (found.Missing refusal place) e = refl
-    go (found.Body start size) e = absurd (over start (answerOf (reading (part s start size) words)) e)
+    go (found.Body start size) e = absurd (over start (answerOf (reading 32 (part s start size) words)) e)
 
 pub card-refused-zeros : (s : List ℕ) (words : ℕ) (f : Found) {T : List ℕ} {m : Refusal} {p : ℕ} → Reads s words f T (Refused m p) → T ≡ replicate words 0
 card-refused-zeros s words f {T} {m} {p} d = d .leaves ∙ go f (d .says)
@@ -105,4 +105,4 @@ card-refused-zeros s words f {T} {m} {p} d = d .leaves ∙ go f (d .says)
 
     go : (f : Found) → Refused m p ≡ answerFor s words f → tableFor s words f ≡ replicate words 0
     go (found.Missing refusal place) e = let z : _≡_ {A = ℕ} 0 1 = cc in absurd (omega arith)
-    go (found.Body start size) e = own start (reading (part s start size) words) e
+    go (found.Body start size) e = own start (reading 32 (part s start size) words) e

@@ -1,13 +1,9 @@
-pub mod Accepting
-pub mod Cases
+pub mod Columns
 pub mod Defaults
 pub mod Index
 pub mod Jobs
+pub mod Limits
 pub mod Lookups
 pub mod Pieces
 pub mod Plans
-pub mod Reading
-pub mod Settled
 pub mod Stations
-pub mod Writer
-pub mod Writing

@@ -24,7 +24,9 @@ use Rattle.draft.specs.Read.{got}
 use Rattle.draft.specs.Grammar.{Cell, Begins}
 use Rattle.draft.specs.Writable.{writableWithin, writable}
 use Rattle.draft.specs.Written.{rowsOf}
+use Rattle.draft.proofs.Limiting.{limit-most}
 use Rattle.reader.specs.Answers.{reading, tableOf}
+use Rattle.reader.proofs.Limited.{reading-got, got-within}
 use Rattle.exact.proofs.Realising.{counts}
 use Rattle.written.specs.Derivable.{DerivesRows}
 use Rattle.written.proofs.Concluding.{rows-length}
@@ -45,8 +47,8 @@ use Rattle.meant.proofs.Parting.{double-parts}
 use Rattle.meant.specs.Meant.{membersOf, Said, StructAt, Answered}
 use Rattle.meant.proofs.Saying.{standing, struct-said, answered}
 use Rattle.meant.proofs.Only.{members-distinct, found-only}
-use Rattle.demands.specs.Reading.{sound, one-meaning, Distinct}
-use Rattle.demands.specs.Writing.{Words, Octets, form-derived, read-rows, read-writable}
+use Rattle.demands_reading.specs.Reading.{sound, one-meaning, Distinct}
+use Rattle.demands_writing.specs.Writing.{Words, Octets, form-derived, judged, read-rows, read-writable}
 
 -- UNWRITABLE first: an unwritable table is refused with 11, and one whose text bytes are too many is unwritable.
 pub unwritable-first : (T : List ℕ) (rows : ℕ) (s : List ℕ) (r : ℕ) (key : List ℕ) → writable T rows s ≡ false → lookup T rows s r key ≡ Refused NotWritable
@@ -77,19 +79,20 @@ module _ (T : List ℕ) (rows : ℕ) (s : List ℕ) (e : writable T rows s ≡ t
 
 -- WHAT A MESSAGE SAYS. Of a message that was read, a key looked up in the table that reading left is answered by what the draft derives: by the
 -- meaning of the member with that key.
-module _ (s : List ℕ) (words : ℕ) {rows : List TableRow} {used : ℕ} {book : Book} (e : reading s words ≡ got rows used book) (o : Octets s) where
+module _ (limit : ℕ) (s : List ℕ) (words : ℕ) {rows : List TableRow} {used : ℕ} {book : Book} (e : reading limit s words ≡ got rows used book) (o : Octets s) where
   -- the table after reading
   abbrev itsTable : List ℕ
   itsTable = tableOf words (got rows used book)
 
   pub message-says :
       {to nesting : ℕ} {cells : List Cell} → Begins s to nesting cells → (r : ℕ) (key : List ℕ) → Answered s cells r key (lookup itsTable (length rows) s r key)
-  unfolding reading
   message-says b r key =
-      let d = sound 65536 s (roomOf 4096 words) 32 e in
+      let d = sound 65536 s (roomOf 4096 words) limit (got-within limit s words e) in
       let i : d .cells ≡ _ = one-meaning (d .begins) b .1 in
-      let g : DerivesRows 32 _ s (rowsOf 4096 itsTable (length rows)) = record { cells = d .cells; meaning = rw (read-rows s words e) (d .meaning); derived = d .begins .derived } in
-      rw i at (table-says itsTable (length rows) s (read-writable s words e o) g r key)
+      let g : DerivesRows limit _ s (rowsOf 4096 itsTable (length rows)) = record { cells = d .cells; meaning = rw (read-rows limit s words e) (d .meaning); derived = d .begins .derived } in
+      let h : writable itsTable (length rows) s ≡ true =
+      judged itsTable (length rows) s ∙ read-writable limit s words e o 32 (limit-most limit (reading-got limit s words e)) in
+      rw i at (table-says itsTable (length rows) s h g r key)
 
 -- THE ONLY ONE. In a writable table no two members of a Struct have the same key; so a member that has the key asked for is the one found,
 -- wherever it stands.
@@ -101,7 +104,7 @@ module _ (T : List ℕ) (rows : ℕ) (s : List ℕ) (e : writable T rows s ≡ t
   pub distinct-members : (r : ℕ) → Distinct (keysOf (rowAt (roomOf 4096 (length T)) T) s (itsMembers r))
   unfolding rowsOf
   distinct-members r =
-      let g = form-derived T rows s e w in
+      let g = form-derived 32 T rows s (sym (judged T rows s) ∙ e) w in
       members-distinct (rowAt (roomOf 4096 (length T)) T) s (standing (rowAt (roomOf 4096 (length T)) T) s rows (g .meaning)) rows
       (sym (counts (g .meaning)) ∙ rows-length 4096 T rows) (g .derived) r
 

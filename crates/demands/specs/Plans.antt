@@ -1,5 +1,5 @@
 -- Document 02's plans (E13): which are taken, what `plan_writer::write` answers and leaves with one, and what `certificate::proves` proves by prices.
--- `Did T rows s plan out₀ out a` is the promise of `plan_writer::write`, for a table T with so many stated rows, text bytes s, a plan, an output that
+-- `Did limit T rows s plan out₀ out a` is the promise of `plan_writer::write`, for a limit of nesting, a table T with so many stated rows, text bytes s, a plan, an output that
 -- is out₀ before the call and out after it, and the answer a; `certified T rows s plan prices` is what `certificate::proves` answers. Assumes nothing.
 use mathlib.Core.Path.{_≡_, refl, sym, ap, _∙_}
 use mathlib.Core.Bool.{Bool, true, false, cond}
@@ -13,19 +13,21 @@ use lib.Seq.{take-at}
 use borrow.Author.Tests.{leb-true, leb-false, le-leb, lt-leb}
 use Rattle.text.proofs.Comparing.{both}
 use Rattle.draft.specs.declared.Refusal.{Refusal}
-use Rattle.draft.specs.declared.Refusal.the-variants.{TooLong, NotWritable, FormTooLong, OutputTooShort}
+use Rattle.draft.specs.declared.Refusal.the-variants.{TooLong, NotWritable, FormTooLong, OutputTooShort, NoLimit}
 use Rattle.draft.specs.declared.Row.{Row}
 use Rattle.draft.specs.Codebook.{Book}
 use Rattle.draft.specs.Table.{roomOf}
 use Rattle.draft.specs.Read.{got, message}
 use Rattle.draft.specs.Meaning.{MeanSame}
 use Rattle.draft.specs.Strings.{Text, repeated, textsOf, costs}
-use Rattle.draft.specs.Writable.{writable}
+use Rattle.draft.specs.Limits.{allowed}
+use Rattle.draft.specs.Writable.{writableTo, writable}
 use Rattle.draft.specs.Written.{written, rowsOf}
 use Rattle.reader.specs.declared.Answer.{Answer as ReaderAnswer}
 use Rattle.reader.specs.declared.Answer.the-variants.{Accepted}
 use Rattle.reader.specs.Answers.{reading, tableOf, Answers}
 use Rattle.reader.specs.Answers as reader
+use Rattle.reader.proofs.Limited.{reading-within}
 use Rattle.plans.specs.Plans.{formAt, positionAt, sentsFrom, planned, taken}
 use Rattle.plan_writer.specs.declared.Answer.{Answer}
 use Rattle.plan_writer.specs.declared.Answer.the-variants.{Written, Refused, NotTaken}
@@ -37,8 +39,8 @@ use Rattle.written.specs.Derivable.{DerivesRows}
 use Rattle.written.proofs.Concluding.{rows-length, begins-with, writable-means}
 use Rattle.planning.proofs.Taking.{sents-texts, Fit, taken-fit, fit-taken}
 use Rattle.planning.proofs.Concluding as plan
-use Rattle.demands.specs.Reading.{complete, mean-same}
-use Rattle.demands.specs.Writing.{Words, Octets, ReadsBack, form-derived, shortest, one-form, read-rows}
+use Rattle.demands_reading.specs.Reading.{complete, mean-same}
+use Rattle.demands_writing.specs.Writing.{Words, Octets, ReadsBack, form-derived, shortest, one-form, read-rows}
 
 -- the byte string t is read, with refusals 8, 9 and 10 put aside, with the meaning that the rows have with their bytes s
 pub record ReadAs (t s : List ℕ) (rows : List Row) : Type 0 where
@@ -54,8 +56,8 @@ pub record ReadAs (t s : List ℕ) (rows : List Row) : Type 0 where
 abbrev pub Values : List ℕ → ℕ → Type 0
 Values p n = (j : ℕ) → j < n → (formAt p j ≤ 2) × (formAt p j ≡ 0 → positionAt p j ≡ 0)
 
--- for a writable table, whose words are of 32 bits
-module _ (T : List ℕ) (rows : ℕ) (s : List ℕ) (e : writable T rows s ≡ true) (w : Words T) where
+-- for a table that is writable to a limit, whose words are of 32 bits
+module _ (limit : ℕ) (T : List ℕ) (rows : ℕ) (s : List ℕ) (e : writableTo limit T rows s ≡ true) (w : Words T) where
   -- its rows, and the texts that stand as strings in them
   abbrev pub itsRows : List Row
   itsRows = rowsOf 4096 T rows
@@ -64,16 +66,16 @@ module _ (T : List ℕ) (rows : ℕ) (s : List ℕ) (e : writable T rows s ≡ t
   itsTexts = textsOf s itsRows
 
   -- DERIVED. The draft derives the message of a plan that is taken, and the message that is written, with the table's meaning.
-  pub plan-derived : (p : List ℕ) → taken p itsTexts ≡ true → DerivesRows 32 (planned s itsRows p) s itsRows
-  unfolding writable planned
-  plan-derived p t = plan.sent-derived 65536 4096 32 T rows s w e (sentsFrom p 0 itsTexts) (sents-texts p 0 itsTexts) (taken-fit p itsTexts t .legal)
+  pub plan-derived : (p : List ℕ) → taken p itsTexts ≡ true → DerivesRows limit (planned s itsRows p) s itsRows
+  unfolding writableTo planned
+  plan-derived p t = plan.sent-derived 65536 4096 limit T rows s w e (sentsFrom p 0 itsTexts) (sents-texts p 0 itsTexts) (taken-fit p itsTexts t .legal)
 
-  pub message-derived : (p : List ℕ) → taken p itsTexts ≡ true → DerivesRows 32 (messageFor T rows s p) s itsRows
+  pub message-derived : (p : List ℕ) → taken p itsTexts ≡ true → DerivesRows limit (messageFor T rows s p) s itsRows
   unfolding messageFor chosen shorter
   message-derived p t = go (leb (length (written s itsRows)) (length (planned s itsRows p)))
     where
-      go : (b : Bool) → DerivesRows 32 (cond b (written s itsRows) (planned s itsRows p)) s itsRows
-      go true = form-derived T rows s e w
+      go : (b : Bool) → DerivesRows limit (cond b (written s itsRows) (planned s itsRows p)) s itsRows
+      go true = form-derived limit T rows s e w
       go false = plan-derived p t
 
   -- TAKEN EXACTLY. 'A plan is taken exactly if it has that length and those values, and its message reads, 8, 9 and 10 put aside, with the table's
@@ -81,15 +83,15 @@ module _ (T : List ℕ) (rows : ℕ) (s : List ℕ) (e : writable T rows s ≡ t
   pub taken-exactly :
       (p : List ℕ)
       → (taken p itsTexts ≡ true) ↔ ((length p ≡ length itsTexts * 2) × Values p (length itsTexts) × ReadAs (planned s itsRows p) s itsRows)
-  unfolding writable planned
+  unfolding writableTo planned
   taken-exactly p = (there, back)
     where
       there : taken p itsTexts ≡ true → (length p ≡ length itsTexts * 2) × Values p (length itsTexts) × ReadAs (planned s itsRows p) s itsRows
       there t =
           let f = taken-fit p itsTexts t in
-          let r = plan.derived-reads (plan-derived p t) [] (length itsRows) 32 (omega arith) (omega arith) in
+          let r = plan.derived-reads (plan-derived p t) [] (length itsRows) limit (omega arith) (omega arith) in
           let q : planned s itsRows p ++ [] ≡ planned s itsRows p = append-nil (planned s itsRows p) in
-          (f .long, f .values, record { room = length itsRows; deep = 32; others = r .0; used = length (planned s itsRows p); book = r .1; is = rw q at (r .2); same = rw q at (r .3) })
+          (f .long, f .values, record { room = length itsRows; deep = limit; others = r .0; used = length (planned s itsRows p); book = r .1; is = rw q at (r .2); same = rw q at (r .3) })
 
       back : (length p ≡ length itsTexts * 2) × Values p (length itsTexts) × ReadAs (planned s itsRows p) s itsRows → taken p itsTexts ≡ true
       back h =
@@ -97,13 +99,14 @@ module _ (T : List ℕ) (rows : ℕ) (s : List ℕ) (e : writable T rows s ≡ t
           (record {
             long = h .0;
             values = h .1;
-            legal = plan.read-legal 65536 4096 32 T rows s w e (sentsFrom p 0 itsTexts) (sents-texts p 0 itsTexts) (h .2 .room) (h .2 .deep) (h .2 .is) (h .2 .same);
+            legal = plan.read-legal 65536 4096 limit T rows s w e (sentsFrom p 0 itsTexts) (sents-texts p 0 itsTexts) (h .2 .room) (h .2 .deep) (h .2 .is) (h .2 .same);
           })
 
 -- ACCEPTANCE IS EXACT.
-pub record AcceptedFor (T : List ℕ) (rows : ℕ) (s p : List ℕ) (room n : ℕ) : Type 0 where
+pub record AcceptedFor (limit : ℕ) (T : List ℕ) (rows : ℕ) (s p : List ℕ) (room n : ℕ) : Type 0 where
+  pub stated : allowed limit ≡ true
   pub text : length s ≤ 65536
-  pub shape : writable T rows s ≡ true
+  pub shape : writableTo limit T rows s ≡ true
   pub takes : taken p (textsOf s (rowsOf 4096 T rows)) ≡ true
   pub long : n ≡ length (messageFor T rows s p)
   pub most : n ≤ 65536
@@ -120,113 +123,118 @@ never e = let z : _≡_ {A = ℕ} 0 1 = cc in omega arith
 never-taken : {n : ℕ} → NotTaken ≡ Written n → ⊥
 never-taken e = let z : _≡_ {A = ℕ} 0 1 = cc in omega arith
 
-pub accepted-exactly : (T : List ℕ) (rows : ℕ) (s p : List ℕ) (room n : ℕ) → (answerOf T rows s p room ≡ Written n) ↔ AcceptedFor T rows s p room n
+pub accepted-exactly : (limit : ℕ) (T : List ℕ) (rows : ℕ) (s p : List ℕ) (room n : ℕ) → (answerOf limit T rows s p room ≡ Written n) ↔ AcceptedFor limit T rows s p room n
 unfolding answerOf answerBy messageFor
-accepted-exactly T rows s p room n = (there, back)
+accepted-exactly limit T rows s p room n = (there, back)
   where
     size : ℕ
     size = length (chosen s (rowsOf 4096 T rows) p)
 
-    there : answerOf T rows s p room ≡ Written n → AcceptedFor T rows s p room n
+    there : answerOf limit T rows s p room ≡ Written n → AcceptedFor limit T rows s p room n
     there e =
-        let a = given-written (leb (length s) 65536) (Refused TooLong) _ never e in
-        let b = given-written (writable T rows s) (Refused NotWritable) _ never (a .1) in
+        let l = given-written (allowed limit) (Refused NoLimit) _ never e in
+        let a = given-written (leb (length s) 65536) (Refused TooLong) _ never (l .1) in
+        let b = given-written (writableTo limit T rows s) (Refused NotWritable) _ never (a .1) in
         let t = given-written (taken p (textsOf s (rowsOf 4096 T rows))) NotTaken _ never-taken (b .1) in
         let c = given-written (leb size 65536) (Refused FormTooLong) _ never (t .1) in
         let d = given-written (leb size room) (Refused OutputTooShort) _ never (c .1) in
-        let l : n ≡ size = cc in
+        let i : n ≡ size = cc in
         record {
+          stated = l .0;
           text = leb-true (length s) 65536 (a .0);
           shape = b .0;
           takes = t .0;
-          long = l;
-          most = omega (arith, l, leb-true size 65536 (c .0));
-          fits = omega (arith, l, leb-true size room (d .0));
+          long = i;
+          most = omega (arith, i, leb-true size 65536 (c .0));
+          fits = omega (arith, i, leb-true size room (d .0));
         }
 
-    back : AcceptedFor T rows s p room n → answerOf T rows s p room ≡ Written n
+    back : AcceptedFor limit T rows s p room n → answerOf limit T rows s p room ≡ Written n
     back h =
         let c : size ≤ 65536 = omega (arith, h .long, h .most) in
         let d : size ≤ room = omega (arith, h .long, h .fits) in
-        rw (le-leb (length s) 65536 (h .text), h .shape, h .takes, le-leb size 65536 c, le-leb size room d, h .long)
+        rw (h .stated, le-leb (length s) 65536 (h .text), h .shape, h .takes, le-leb size 65536 c, le-leb size room d, h .long)
 
--- ORDER: 10, 11, 24, 12 and 13, each after the tests before it held.
-pub data RefusedFor (T : List ℕ) (rows : ℕ) (s p : List ℕ) (room : ℕ) : Answer → Type 0 where
-  long-text : 65536 < length s → RefusedFor T rows s p room (Refused TooLong)
-  not-writable : length s ≤ 65536 → writable T rows s ≡ false → RefusedFor T rows s p room (Refused NotWritable)
+-- ORDER: 23, 10, 11, 24, 12 and 13, each after the tests before it held.
+pub data RefusedFor (limit : ℕ) (T : List ℕ) (rows : ℕ) (s p : List ℕ) (room : ℕ) : Answer → Type 0 where
+  no-limit : allowed limit ≡ false → RefusedFor limit T rows s p room (Refused NoLimit)
+  long-text : allowed limit ≡ true → 65536 < length s → RefusedFor limit T rows s p room (Refused TooLong)
+  not-writable : allowed limit ≡ true → length s ≤ 65536 → writableTo limit T rows s ≡ false → RefusedFor limit T rows s p room (Refused NotWritable)
   not-taken :
-      length s ≤ 65536 → writable T rows s ≡ true → taken p (textsOf s (rowsOf 4096 T rows)) ≡ false → RefusedFor T rows s p room NotTaken
+      allowed limit ≡ true → length s ≤ 65536 → writableTo limit T rows s ≡ true → taken p (textsOf s (rowsOf 4096 T rows)) ≡ false → RefusedFor limit T rows s p room NotTaken
   long-message :
-      length s ≤ 65536 → writable T rows s ≡ true → taken p (textsOf s (rowsOf 4096 T rows)) ≡ true → 65536 < length (messageFor T rows s p)
-      → RefusedFor T rows s p room (Refused FormTooLong)
+      allowed limit ≡ true → length s ≤ 65536 → writableTo limit T rows s ≡ true → taken p (textsOf s (rowsOf 4096 T rows)) ≡ true → 65536 < length (messageFor T rows s p)
+      → RefusedFor limit T rows s p room (Refused FormTooLong)
   short-output :
-      length s ≤ 65536 → writable T rows s ≡ true → taken p (textsOf s (rowsOf 4096 T rows)) ≡ true → length (messageFor T rows s p) ≤ 65536
-      → room < length (messageFor T rows s p) → RefusedFor T rows s p room (Refused OutputTooShort)
+      allowed limit ≡ true → length s ≤ 65536 → writableTo limit T rows s ≡ true → taken p (textsOf s (rowsOf 4096 T rows)) ≡ true → length (messageFor T rows s p) ≤ 65536
+      → room < length (messageFor T rows s p) → RefusedFor limit T rows s p room (Refused OutputTooShort)
 
-pub refused-so : {T : List ℕ} {rows : ℕ} {s p : List ℕ} {room : ℕ} {a : Answer} → RefusedFor T rows s p room a → answerOf T rows s p room ≡ a
+pub refused-so : {limit : ℕ} {T : List ℕ} {rows : ℕ} {s p : List ℕ} {room : ℕ} {a : Answer} → RefusedFor limit T rows s p room a → answerOf limit T rows s p room ≡ a
 unfolding answerOf answerBy messageFor
-refused-so {s = s} (long-text a) = rw (lt-leb (length s) 65536 a)
-refused-so {s = s} (not-writable a b) = rw (le-leb (length s) 65536 a, b)
-refused-so {s = s} (not-taken a b c) = rw (le-leb (length s) 65536 a, b, c)
-refused-so {T} {rows} {s} {p} (long-message a b c d) = rw (le-leb (length s) 65536 a, b, c, lt-leb (length (chosen s (rowsOf 4096 T rows) p)) 65536 d)
-refused-so {T} {rows} {s} {p} {room} (short-output a b c d f) =
-    rw (le-leb (length s) 65536 a, b, c, le-leb (length (chosen s (rowsOf 4096 T rows) p)) 65536 d, lt-leb (length (chosen s (rowsOf 4096 T rows) p)) room f)
+refused-so (no-limit l) = rw l
+refused-so {s = s} (long-text l a) = rw (l, lt-leb (length s) 65536 a)
+refused-so {s = s} (not-writable l a b) = rw (l, le-leb (length s) 65536 a, b)
+refused-so {s = s} (not-taken l a b c) = rw (l, le-leb (length s) 65536 a, b, c)
+refused-so {T = T} {rows = rows} {s = s} {p = p} (long-message l a b c d) = rw (l, le-leb (length s) 65536 a, b, c, lt-leb (length (chosen s (rowsOf 4096 T rows) p)) 65536 d)
+refused-so {T = T} {rows = rows} {s = s} {p = p} {room = room} (short-output l a b c d f) =
+    rw (l, le-leb (length s) 65536 a, b, c, le-leb (length (chosen s (rowsOf 4096 T rows) p)) 65536 d, lt-leb (length (chosen s (rowsOf 4096 T rows) p)) room f)
 
 -- and there is no other reason: every call is accepted or refused for one of these
-pub data Outcome (T : List ℕ) (rows : ℕ) (s p : List ℕ) (room : ℕ) : Type 0 where
-  accepted : {n : ℕ} → AcceptedFor T rows s p room n → Outcome T rows s p room
-  refused : {a : Answer} → RefusedFor T rows s p room a → Outcome T rows s p room
+pub data Outcome (limit : ℕ) (T : List ℕ) (rows : ℕ) (s p : List ℕ) (room : ℕ) : Type 0 where
+  accepted : {n : ℕ} → AcceptedFor limit T rows s p room n → Outcome limit T rows s p room
+  refused : {a : Answer} → RefusedFor limit T rows s p room a → Outcome limit T rows s p room
 
-pub outcome : (T : List ℕ) (rows : ℕ) (s p : List ℕ) (room : ℕ) → Outcome T rows s p room
-outcome T rows s p room =
-    go (leb (length s) 65536) refl (writable T rows s) refl (taken p (textsOf s (rowsOf 4096 T rows))) refl (leb size 65536) refl (leb size room) refl
+pub outcome : (limit : ℕ) (T : List ℕ) (rows : ℕ) (s p : List ℕ) (room : ℕ) → Outcome limit T rows s p room
+outcome limit T rows s p room =
+    go (allowed limit) refl (leb (length s) 65536) refl (writableTo limit T rows s) refl (taken p (textsOf s (rowsOf 4096 T rows))) refl (leb size 65536) refl (leb size room) refl
   where
     size : ℕ
     size = length (messageFor T rows s p)
 
     go :
-        (a : Bool) → leb (length s) 65536 ≡ a → (b : Bool) → writable T rows s ≡ b → (c : Bool) → taken p (textsOf s (rowsOf 4096 T rows)) ≡ c
-        → (d : Bool) → leb size 65536 ≡ d → (f : Bool) → leb size room ≡ f → Outcome T rows s p room
-    go false i b j c k d l f m = refused (long-text (leb-false (length s) 65536 i))
-    go true i false j c k d l f m = refused (not-writable (leb-true (length s) 65536 i) j)
-    go true i true j false k d l f m = refused (not-taken (leb-true (length s) 65536 i) j k)
-    go true i true j true k false l f m = refused (long-message (leb-true (length s) 65536 i) j k (leb-false size 65536 l))
-    go true i true j true k true l false m = refused (short-output (leb-true (length s) 65536 i) j k (leb-true size 65536 l) (leb-false size room m))
-    go true i true j true k true l true m =
+        (x : Bool) → allowed limit ≡ x → (a : Bool) → leb (length s) 65536 ≡ a → (b : Bool) → writableTo limit T rows s ≡ b → (c : Bool) → taken p (textsOf s (rowsOf 4096 T rows)) ≡ c
+        → (d : Bool) → leb size 65536 ≡ d → (f : Bool) → leb size room ≡ f → Outcome limit T rows s p room
+    go false z a i b j c k d l f m = refused (no-limit z)
+    go true z false i b j c k d l f m = refused (long-text z (leb-false (length s) 65536 i))
+    go true z true i false j c k d l f m = refused (not-writable z (leb-true (length s) 65536 i) j)
+    go true z true i true j false k d l f m = refused (not-taken z (leb-true (length s) 65536 i) j k)
+    go true z true i true j true k false l f m = refused (long-message z (leb-true (length s) 65536 i) j k (leb-false size 65536 l))
+    go true z true i true j true k true l false m = refused (short-output z (leb-true (length s) 65536 i) j k (leb-true size 65536 l) (leb-false size room m))
+    go true z true i true j true k true l true m =
         accepted
-        (record { text = leb-true (length s) 65536 i; shape = j; takes = k; long = refl; most = leb-true size 65536 l; fits = leb-true size room m })
+        (record { stated = z; text = leb-true (length s) 65536 i; shape = j; takes = k; long = refl; most = leb-true size 65536 l; fits = leb-true size room m })
 
 -- SETTLED: two calls with the same material and equally long outputs answer alike and leave the same bytes, whatever lay there before
 pub settled :
-    (T : List ℕ) (rows : ℕ) (s p out₀ out₁ out out′ : List ℕ) {a a′ : Answer} → length out₀ ≡ length out₁ → Did T rows s p out₀ out a
-    → Did T rows s p out₁ out′ a′ → (a ≡ a′) × (out ≡ out′)
-settled T rows s p out₀ out₁ out out′ {a} {a′} l d d′ =
-    let e : a ≡ a′ = d .says ∙ ap (answerOf T rows s p) l ∙ sym (d′ .says) in
+    (limit : ℕ) (T : List ℕ) (rows : ℕ) (s p out₀ out₁ out out′ : List ℕ) {a a′ : Answer} → length out₀ ≡ length out₁ → Did limit T rows s p out₀ out a
+    → Did limit T rows s p out₁ out′ a′ → (a ≡ a′) × (out ≡ out′)
+settled limit T rows s p out₀ out₁ out out′ {a} {a′} l d d′ =
+    let e : a ≡ a′ = d .says ∙ ap (answerOf limit T rows s p) l ∙ sym (d′ .says) in
     (e, d .leaves ∙ rw (e, l) (sym (d′ .leaves)))
 
 -- REFUSED: all zeros
-pub refused-zeros : (T : List ℕ) (rows : ℕ) (s p out₀ out : List ℕ) {m : Refusal} → Did T rows s p out₀ out (Refused m) → out ≡ replicate (length out₀) 0
-refused-zeros T rows s p out₀ out d = d .leaves
+pub refused-zeros : (limit : ℕ) (T : List ℕ) (rows : ℕ) (s p out₀ out : List ℕ) {m : Refusal} → Did limit T rows s p out₀ out (Refused m) → out ≡ replicate (length out₀) 0
+refused-zeros limit T rows s p out₀ out d = d .leaves
 
-pub not-taken-zeros : (T : List ℕ) (rows : ℕ) (s p out₀ out : List ℕ) → Did T rows s p out₀ out NotTaken → out ≡ replicate (length out₀) 0
-not-taken-zeros T rows s p out₀ out d = d .leaves
+pub not-taken-zeros : (limit : ℕ) (T : List ℕ) (rows : ℕ) (s p out₀ out : List ℕ) → Did limit T rows s p out₀ out NotTaken → out ≡ replicate (length out₀) 0
+not-taken-zeros limit T rows s p out₀ out d = d .leaves
 
--- what is derived with the meaning of so many rows is read back, whatever follows
+-- what is derived with the meaning of so many rows is read back with a limit that is not lower, whatever follows
 derived-back :
-    {zs s : List ℕ} {xs : List Row} {rows : ℕ} → DerivesRows 32 zs s xs → length xs ≡ rows → (more : List ℕ) (words : ℕ) → length (zs ++ more) ≤ 65536
-    → rows ≤ roomOf 4096 words → ReadsBack (reading (zs ++ more) words) (zs ++ more) (length zs) rows s xs
-unfolding reading
-derived-back {zs} g l more words h k =
+    {limit : ℕ} {zs s : List ℕ} {xs : List Row} {rows : ℕ} → DerivesRows limit zs s xs → length xs ≡ rows → (later : ℕ) → limit ≤ later → allowed later ≡ true
+    → (more : List ℕ) (words : ℕ) → length (zs ++ more) ≤ 65536
+    → rows ≤ roomOf 4096 words → ReadsBack (reading later (zs ++ more) words) (zs ++ more) (length zs) rows s xs
+derived-back {zs = zs} g l later f j more words h k =
     let i = counts (g .meaning) in
-    let a = complete 65536 (zs ++ more) (roomOf 4096 words) 32 (begins-with more (g .derived)) h (omega (arith, i)) (omega arith) in
-    record { back = a .rows; book = a .book; is = a .is; as-many = counts (a .meaning) ∙ sym i ∙ l; same = mean-same (g .meaning) (a .meaning) .1 refl }
+    let a = complete 65536 (zs ++ more) (roomOf 4096 words) later (begins-with more (g .derived)) h (omega (arith, i)) (omega arith) in
+    record { back = a .rows; book = a .book; is = reading-within later (zs ++ more) words j ∙ a .is; as-many = counts (a .meaning) ∙ sym i ∙ l; same = mean-same (g .meaning) (a .meaning) .1 refl }
 
 -- a call that answered `Written n`
-module _ (T : List ℕ) (rows : ℕ) (s p out₀ out : List ℕ) {n : ℕ} (d : Did T rows s p out₀ out (Written n)) where
-  was-accepted : AcceptedFor T rows s p (length out₀) n
-  was-accepted = accepted-exactly T rows s p (length out₀) n .0 (sym (d .says))
+module _ (limit : ℕ) (T : List ℕ) (rows : ℕ) (s p out₀ out : List ℕ) {n : ℕ} (d : Did limit T rows s p out₀ out (Written n)) where
+  was-accepted : AcceptedFor limit T rows s p (length out₀) n
+  was-accepted = accepted-exactly limit T rows s p (length out₀) n .0 (sym (d .says))
 
-  was-writable : writable T rows s ≡ true
+  was-writable : writableTo limit T rows s ≡ true
   was-writable = was-accepted .shape
 
   -- THE MESSAGE. The first n bytes of the output are the message chosen, and behind them are zeros.
@@ -255,38 +263,38 @@ module _ (T : List ℕ) (rows : ℕ) (s p out₀ out : List ℕ) {n : ℕ} (d : 
   pub no-shorter :
       length (repeated (textsOf s (rowsOf 4096 T rows))) ≤ 256 → (t : List ℕ) (room deep : ℕ) {others : List Row} {used : ℕ} {book : Book}
       → message t room deep ≡ got others used book → MeanSame s t (rowsOf 4096 T rows) others → (n ≤ used) × (used ≤ length t)
-  no-shorter few t room deep e z = let h = shortest T rows s was-writable few t room deep e z in (omega (arith, never-longer .0, h .0), h .1)
+  no-shorter few t room deep e z = let h = shortest limit T rows s was-writable few t room deep e z in (omega (arith, never-longer .0, h .0), h .1)
 
-  -- READ BACK. Any message of at most 65,536 bytes that begins with those n bytes, whatever follows, is read by `reader::read`, into any table
-  -- with room for the rows, with as many rows and n bytes used; and the rows that it leaves mean the same as the table that was written.
+  -- READ BACK. Any message of at most 65,536 bytes that begins with those n bytes, whatever follows, is read by `reader::read` with any limit
+  -- that is not lower, up to 32, into any table with room for the rows, with as many rows and n bytes used; and the rows that it leaves mean the same as the table that was written.
   pub read-back :
-      Words T → (t : List ℕ) (words : ℕ) {T′ : List ℕ} {a : ReaderAnswer} → take n t ≡ take n out → length t ≤ 65536 → rows ≤ roomOf 4096 words
-      → Answers (reading t words) words T′ a
+      Words T → (later : ℕ) → limit ≤ later → allowed later ≡ true → (t : List ℕ) (words : ℕ) {T′ : List ℕ} {a : ReaderAnswer} → take n t ≡ take n out → length t ≤ 65536 → rows ≤ roomOf 4096 words
+      → Answers (reading later t words) words T′ a
       → (a ≡ Accepted rows n) × MeanSame s t (rowsOf 4096 T rows) (rowsOf 4096 T′ rows)
-  read-back w t words {T′} {a} b l k c =
+  read-back w later f i t words {T′} {a} b l k c =
       let e : t ≡ messageFor T rows s p ++ drop n t = sym (take-append-drop n t) ∙ ap (λ (x : List ℕ). x ++ drop n t) (b ∙ first-bytes) in
-      let g : ReadsBack (reading t words) t n rows s (rowsOf 4096 T rows) =
+      let g : ReadsBack (reading later t words) t n rows s (rowsOf 4096 T rows) =
       rw (was-accepted .long, e)
-      (derived-back (message-derived T rows s was-writable w p (was-accepted .takes)) (rows-length 4096 T rows) (drop n t) words (rw e at l) k) in
+      (derived-back (message-derived limit T rows s was-writable w p (was-accepted .takes)) (rows-length 4096 T rows) later f i (drop n t) words (rw e at l) k) in
       let m : T′ ≡ tableOf words (got (g .back) n (g .book)) = c .leaves ∙ ap (tableOf words) (g .is) in
       let r : rowsOf 4096 T′ rows ≡ g .back =
-      ap (λ (x : List ℕ). rowsOf 4096 x rows) m ∙ ap (rowsOf 4096 (tableOf words (got (g .back) n (g .book)))) (sym (g .as-many)) ∙ read-rows t words (g .is) in
+      ap (λ (x : List ℕ). rowsOf 4096 x rows) m ∙ ap (rowsOf 4096 (tableOf words (got (g .back) n (g .book)))) (sym (g .as-many)) ∙ read-rows later t words (g .is) in
       (c .says ∙ ap reader.answerOf (g .is) ∙ ap (λ (k : ℕ). Accepted k n) (g .as-many), rw r (g .same))
 
 -- ONE MESSAGE. Meaning and plan settle the bytes, and equal bytes come only from equal meaning: two accepted calls with one plan wrote the same bytes
 -- exactly if the tables, each with its text bytes, mean the same.
 pub same-bytes :
-    (T T′ : List ℕ) (rows rows′ : ℕ) (s s′ p out₀ out₁ out out′ : List ℕ) {n n′ : ℕ} → Words T → Words T′ → Did T rows s p out₀ out (Written n)
-    → Did T′ rows′ s′ p out₁ out′ (Written n′) → MeanSame s s′ (rowsOf 4096 T rows) (rowsOf 4096 T′ rows′) ↔ (take n out ≡ take n′ out′)
+    (limit limit′ : ℕ) (T T′ : List ℕ) (rows rows′ : ℕ) (s s′ p out₀ out₁ out out′ : List ℕ) {n n′ : ℕ} → Words T → Words T′ → Did limit T rows s p out₀ out (Written n)
+    → Did limit′ T′ rows′ s′ p out₁ out′ (Written n′) → MeanSame s s′ (rowsOf 4096 T rows) (rowsOf 4096 T′ rows′) ↔ (take n out ≡ take n′ out′)
 unfolding messageFor chosen
-same-bytes T T′ rows rows′ s s′ p out₀ out₁ out out′ w w′ d d′ =
-    let a = was-accepted T rows s p out₀ out d in
-    let a′ = was-accepted T′ rows′ s′ p out₁ out′ d′ in
-    let g = message-derived T rows s (a .shape) w p (a .takes) in
-    let g′ = message-derived T′ rows′ s′ (a′ .shape) w′ p (a′ .takes) in
-    rw (first-bytes T rows s p out₀ out d, first-bytes T′ rows′ s′ p out₁ out′ d′) (
+same-bytes limit limit′ T T′ rows rows′ s s′ p out₀ out₁ out out′ w w′ d d′ =
+    let a = was-accepted limit T rows s p out₀ out d in
+    let a′ = was-accepted limit′ T′ rows′ s′ p out₁ out′ d′ in
+    let g = message-derived limit T rows s (a .shape) w p (a .takes) in
+    let g′ = message-derived limit′ T′ rows′ s′ (a′ .shape) w′ p (a′ .takes) in
+    rw (first-bytes limit T rows s p out₀ out d, first-bytes limit′ T′ rows′ s′ p out₁ out′ d′) (
       λ z.
-          let f : written s (rowsOf 4096 T rows) ≡ written s′ (rowsOf 4096 T′ rows′) = one-form T rows s T′ rows′ s′ w w′ (a .shape) (a′ .shape) .0 z in
+          let f : written s (rowsOf 4096 T rows) ≡ written s′ (rowsOf 4096 T′ rows′) = one-form limit limit′ T rows s T′ rows′ s′ w w′ (a .shape) (a′ .shape) .0 z in
           let h : planned s (rowsOf 4096 T rows) p ≡ planned s′ (rowsOf 4096 T′ rows′) p = plan.planned-same p (g .meaning) (g′ .meaning) z in
           rw (f, h),
       λ z. plan.derived-once g (rw (← z) at g′),
@@ -327,8 +335,8 @@ module _ (T : List ℕ) (rows : ℕ) (s p prices : List ℕ) (yes : certified T 
 
   -- and so has what `plan_writer::write` writes with that plan
   pub written-shortest :
-      (out₀ out : List ℕ) {n : ℕ} → Did T rows s p out₀ out (Written n) → (t : List ℕ) → Octets t → (room deep : ℕ) {others : List Row} {used : ℕ} {book : Book}
+      (limit : ℕ) (out₀ out : List ℕ) {n : ℕ} → Did limit T rows s p out₀ out (Written n) → (t : List ℕ) → Octets t → (room deep : ℕ) {others : List Row} {used : ℕ} {book : Book}
       → message t room deep ≡ got others used book → MeanSame s t (rowsOf 4096 T rows) others → (n ≤ used) × (used ≤ length t)
-  written-shortest out₀ out d t o room deep e z =
+  written-shortest limit out₀ out d t o room deep e z =
       let h = certified-shortest t o room deep e z in
-      (omega (arith, never-longer T rows s p out₀ out d .1, h .0), h .1)
+      (omega (arith, never-longer limit T rows s p out₀ out d .1, h .0), h .1)

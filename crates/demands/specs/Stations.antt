@@ -1,6 +1,7 @@
--- Stations four and five on one table (request E10). `ReadFor s station split T T′ a` is the promise of `station_reading::read`, for a message s, a
--- table T that is split at a row and is T′ after the call, and the answer a; `CardFor` that of `read_card`; `NextFor` and `EndFor` those of
--- `station_pieces::next` and `end`; `WroteFor` that of `station_tables::write`. `Called station split T T′ q a` is any of the first four, asked q and
+-- Stations four and five on one table (request E10). `ReadFor limit s station split T T′ a` is the promise of `station_reading::read`, for a limit of
+-- nesting, a message s, a table T that is split at a row and is T′ after the call, and the answer a; `CardFor` that of `read_card`; `NextFor` and `EndFor` those of
+-- `station_pieces::next` and `end`; `WroteFor` that of `station_tables::write`,
+-- and `planned.WroteFor` that of `station_plans::write`. `Called station split T T′ q a` is any of the first four, asked q and
 -- told a. `shareOf station split T` are the share's words. Assumes nothing.
 use mathlib.Core.Path.{_≡_, refl, sym, ap, _∙_}
 use mathlib.Core.Bool.{true, false}
@@ -10,6 +11,7 @@ use Prim.Native.Nat.{ℕ, _+_, _*_, _/_, _≤_, _<_}
 use native.Mathlib.Omega.{arith}
 use lib.ListN.{length, drop, replicate}
 use Rattle.draft.specs.declared.Refusal.{Refusal}
+use Rattle.draft.specs.Limits.{allowed}
 use Rattle.shares.specs.declared.Station.{Station}
 use Rattle.shares.specs.declared.Station.the-variants.{Four, Five}
 use Rattle.shares.specs.Share.{other, splits, firstWord, sizeOf, shareOf, onShare}
@@ -34,19 +36,22 @@ use Rattle.station_reading.specs.Answers.{ReadFor, CardFor}
 use Rattle.station_pieces.specs.declared.Answer.{Answer as PieceAnswer}
 use Rattle.station_pieces.specs.declared.Answer.the-variants.{Stands}
 use Rattle.station_pieces.specs.Steps.{NextFor, EndFor}
+use Rattle.station_plans.specs.declared.Answer.{Answer as PlanAnswer}
+use Rattle.station_plans.specs.declared.Answer.the-variants as plan
+use Rattle.station_plans.specs.Answers as planned
 use Rattle.station_tables.specs.declared.WriteAnswer.{WriteAnswer}
 use Rattle.station_tables.specs.declared.WriteAnswer.the-variants as write
 use Rattle.station_tables.specs.declared.LookupAnswer.the-variants as lookup
 use Rattle.station_tables.specs.declared.PositionAnswer.the-variants as place
 use Rattle.station_tables.specs.Answers.{writeAnswer, writtenBytes, WroteFor, lookupAnswer, positionAnswer}
 use Rattle.stations.specs.Calls.{Asked, Told, Called, notSplit}
-use Rattle.stations.specs.Owned.{OwnRead, OwnCard, OwnPiece, OwnEnd, OwnWrite}
+use Rattle.stations.specs.Owned.{OwnRead, OwnCard, OwnPiece, OwnEnd, OwnWrite, OwnPlanned}
 use Rattle.stations.specs.Turns.{Turns}
 use Rattle.stations.proofs.Calling as calls
 use Rattle.stations.proofs.Calling.{Same}
 use Rattle.stations.proofs.Owning as owning
 use Rattle.demands.specs.Jobs as jobs
-use Rattle.demands.specs.Settled as whole-table
+use Rattle.demands_reading.specs.Settled as whole-table
 use Rattle.demands.specs.Pieces as pieces
 
 -- A ROW SPLITS a table exactly if it is not 0 and is below the number of whole rows, however many those are.
@@ -74,10 +79,18 @@ module _ {station : Station} {split : ℕ} {T T′ : List ℕ} {q : Asked} {a : 
 
 module _ (station : Station) (split : ℕ) (T : List ℕ) (no-split : splits split (length T) ≡ false) where
   pub write-unsplit :
-      (rows : ℕ) (s out : List ℕ) {out′ : List ℕ} {a : WriteAnswer} → WroteFor T station split rows s out out′ a → (a ≡ write.NotSplit) × (out′ ≡ out)
-  write-unsplit rows s out d = (
-    d .says ∙ sharing.unsplit-told station split T (writeAnswer rows s (length out)) write.NotSplit no-split,
-    d .leaves ∙ sharing.unsplit-told station split T (writtenBytes rows s (length out)) out no-split,
+      (limit rows : ℕ) (s out : List ℕ) {out′ : List ℕ} {a : WriteAnswer} → WroteFor limit T station split rows s out out′ a → (a ≡ write.NotSplit) × (out′ ≡ out)
+  write-unsplit limit rows s out d = (
+    d .says ∙ sharing.unsplit-told station split T (writeAnswer limit rows s (length out)) write.NotSplit no-split,
+    d .leaves ∙ sharing.unsplit-told station split T (writtenBytes limit rows s (length out)) out no-split,
+  )
+
+  pub planned-unsplit :
+      (limit rows : ℕ) (s p out : List ℕ) {out′ : List ℕ} {a : PlanAnswer} → planned.WroteFor limit T station split rows s p out out′ a
+      → (a ≡ plan.NotSplit) × (out′ ≡ out)
+  planned-unsplit limit rows s p out d = (
+    d .says ∙ sharing.unsplit-told station split T (planned.writeAnswer limit rows s p (length out)) plan.NotSplit no-split,
+    d .leaves ∙ sharing.unsplit-told station split T (planned.writtenBytes limit rows s p (length out)) out no-split,
   )
 
   pub lookup-unsplit :
@@ -95,7 +108,7 @@ module _ (station : Station) (split : ℕ) (T : List ℕ) (no-split : splits spl
 module _ (station : Station) (split : ℕ) (T : List ℕ) (ok : splits split (length T) ≡ true) where
   module _ {T′ : List ℕ} where
     pub own-read :
-        (s : List ℕ) {a : Answer} → ReadFor s station split T T′ a → OwnRead s (sizeOf station split (length T)) (shareOf station split T′) a
+        (limit : ℕ) (s : List ℕ) {a : Answer} → ReadFor limit s station split T T′ a → OwnRead limit s (sizeOf station split (length T)) (shareOf station split T′) a
     own-read = owning.own-read station split T ok
 
     pub own-card :
@@ -104,23 +117,23 @@ module _ (station : Station) (split : ℕ) (T : List ℕ) (ok : splits split (le
     own-card = owning.own-card station split T ok
 
     pub own-piece :
-        (state : State) (p R : List ℕ) {R′ : List ℕ} {a : PieceAnswer} → NextFor state p station split R T R′ T′ a
-        → OwnPiece state p R (shareOf station split T) R′ (shareOf station split T′) a
+        (limit : ℕ) (state : State) (p R : List ℕ) {R′ : List ℕ} {a : PieceAnswer} → NextFor limit state p station split R T R′ T′ a
+        → OwnPiece limit state p R (shareOf station split T) R′ (shareOf station split T′) a
     own-piece = owning.own-piece station split T ok
 
     pub own-end :
-        (state : State) (bytes : ℕ) {a : PieceAnswer} → EndFor state bytes station split T T′ a
-        → OwnEnd state bytes (shareOf station split T) (shareOf station split T′) a
+        (limit : ℕ) (state : State) (bytes : ℕ) {a : PieceAnswer} → EndFor limit state bytes station split T T′ a
+        → OwnEnd limit state bytes (shareOf station split T) (shareOf station split T′) a
     own-end = owning.own-end station split T ok
 
     -- ZEROS. On a refusal of the message, of the card or of the job the whole share is zeros.
     pub refused-zeros :
-        (s : List ℕ) {m : Refusal} {p : ℕ} → ReadFor s station split T T′ (answer.Answered (reader.Refused m p))
+        (limit : ℕ) (s : List ℕ) {m : Refusal} {p : ℕ} → ReadFor limit s station split T T′ (answer.Answered (reader.Refused m p))
         → shareOf station split T′ ≡ replicate (sizeOf station split (length T)) 0
-    refused-zeros s {m} {p} d =
-        let o = own-read s d in
+    refused-zeros limit s {m} {p} d =
+        let o = own-read limit s d in
         let e : o .own ≡ reader.Refused m p = sym (cc) in
-        whole-table.refused-zeros s (sizeOf station split (length T)) (rw e at (o .did))
+        whole-table.refused-zeros limit s (sizeOf station split (length T)) (rw e at (o .did))
 
     pub card-refused-zeros :
         (s : List ℕ) (number : ℕ) {m : Refusal} {p : ℕ} → CardFor s number station split T T′ (card.Answered (job.Refused m p))
@@ -139,9 +152,14 @@ module _ (station : Station) (split : ℕ) (T : List ℕ) (ok : splits split (le
         jobs.job-refused-zeros s (sizeOf station split (length T)) (bodyOf s number) (rw e at (o .did))
 
   pub own-write :
-      (rows : ℕ) (s out : List ℕ) {out′ : List ℕ} {a : WriteAnswer} → WroteFor T station split rows s out out′ a
-      → OwnWrite (shareOf station split T) rows s out out′ a
+      (limit rows : ℕ) (s out : List ℕ) {out′ : List ℕ} {a : WriteAnswer} → WroteFor limit T station split rows s out out′ a
+      → OwnWrite limit (shareOf station split T) rows s out out′ a
   own-write = owning.own-write station split T ok
+
+  pub own-planned :
+      (limit rows : ℕ) (s p out : List ℕ) {out′ : List ℕ} {a : PlanAnswer} → planned.WroteFor limit T station split rows s p out out′ a
+      → OwnPlanned limit (shareOf station split T) rows s p out out′ a
+  own-planned = owning.own-planned station split T ok
 
   pub own-lookup :
       (rows : ℕ) (s : List ℕ) (r : ℕ) (key : List ℕ)
@@ -156,19 +174,19 @@ module _ (station : Station) (split : ℕ) (T : List ℕ) (ok : splits split (le
   unfolding positionAnswer
   own-position rows s r = sharing.given-there station split T ok (positionAnswer rows s r) place.NotSplit
 
--- ALIKE. Answer and share's words depend on the message, or the job file and the card's number, and on the share's size: for any two tables, rows and
+-- ALIKE. Answer and share's words depend on the message and the limit, or the job file and the card's number, and on the share's size: for any two tables, rows and
 -- stations.
 module _
     (station other-station : Station) (split other-split : ℕ) (T U : List ℕ) (ok : splits split (length T) ≡ true)
     (ok′ : splits other-split (length U) ≡ true)
     (size : sizeOf station split (length T) ≡ sizeOf other-station other-split (length U)) {T′ U′ : List ℕ} where
   pub read-alike :
-      (s : List ℕ) {a b : Answer} → ReadFor s station split T T′ a → ReadFor s other-station other-split U U′ b
+      (limit : ℕ) (s : List ℕ) {a b : Answer} → ReadFor limit s station split T T′ a → ReadFor limit s other-station other-split U U′ b
       → (a ≡ b) × (shareOf station split T′ ≡ shareOf other-station other-split U′)
-  read-alike s {a} {b} d e =
-      let x = own-read station split T ok s d in
-      let y = rw (← size) at (own-read other-station other-split U ok′ s e) in
-      let z = whole-table.settled s (sizeOf station split (length T)) (x .did) (y .did) in
+  read-alike limit s {a} {b} d e =
+      let x = own-read station split T ok limit s d in
+      let y = rw (← size) at (own-read other-station other-split U ok′ limit s e) in
+      let z = whole-table.settled limit s (sizeOf station split (length T)) (x .did) (y .did) in
       (x .is ∙ ap answer.Answered (z .0) ∙ sym (y .is), z .1)
 
   pub card-alike :
@@ -208,26 +226,26 @@ in-turn split c d e f = calls.in-turn split c d e f
 -- WHOLE. A station's message in pieces, with any calls of the other station in between: what is told and the share's words are those of the whole
 -- message.
 pub pieces-whole :
-    (station : Station) (split : ℕ) (T : List ℕ) → splits split (length T) ≡ true → (R₀ W₀ : List ℕ) → 65536 ≤ length R₀
-    → (ps : List (List ℕ)) {state last : State} {R T′ : List ℕ} → Turns station ps begun R₀ W₀ state R (shareOf station split T)
-    → length (joined ps) ≤ 65536 → EndFor state (length R) station split T T′ (Stands last)
-    → Ends (reading (joined ps) (length W₀)) (length W₀) last (shareOf station split T′)
-pieces-whole station split T ok R₀ W₀ long ps {state} {last} {R} ts few d =
-    let o = own-end station split T ok state (length R) d in
+    (limit : ℕ) (fine : allowed limit ≡ true) (station : Station) (split : ℕ) (T : List ℕ) → splits split (length T) ≡ true → (R₀ W₀ : List ℕ) → 65536 ≤ length R₀
+    → (ps : List (List ℕ)) {state last : State} {R T′ : List ℕ} → Turns limit station ps begun R₀ W₀ state R (shareOf station split T)
+    → length (joined ps) ≤ 65536 → EndFor limit state (length R) station split T T′ (Stands last)
+    → Ends (reading limit (joined ps) (length W₀)) (length W₀) last (shareOf station split T′)
+pieces-whole limit fine station split T ok R₀ W₀ long ps {state} {last} {R} ts few d =
+    let o = own-end station split T ok limit state (length R) d in
     let e : o .own ≡ last = sym (cc) in
-    pieces.as-whole R₀ W₀ long ps (owning.turns-run ts) few (rw e at (o .did))
+    pieces.as-whole limit fine R₀ W₀ long ps (owning.turns-run ts) few (rw e at (o .did))
 
--- ALIKE. Two stations' messages in pieces, with one message however it is cut and shares of one size before the first piece: the same is told, and the
+-- ALIKE. Two stations' messages in pieces, with one message however it is cut, one limit and shares of one size before the first piece: the same is told, and the
 -- shares' words are the same, whatever the tables, the rows and the other station's calls in between.
 pub pieces-alike :
-    (station other-station : Station) (split other-split : ℕ) (T U : List ℕ) → splits split (length T) ≡ true
+    (limit : ℕ) (fine : allowed limit ≡ true) (station other-station : Station) (split other-split : ℕ) (T U : List ℕ) → splits split (length T) ≡ true
     → splits other-split (length U) ≡ true → (R₀ Q₀ W₀ V₀ : List ℕ) → 65536 ≤ length R₀ → 65536 ≤ length Q₀ → length W₀ ≡ length V₀
     → (ps qs : List (List ℕ)) → joined ps ≡ joined qs → length (joined ps) ≤ 65536 → {a b a′ b′ : State} {R Q T′ U′ : List ℕ}
-    → Turns station ps begun R₀ W₀ a R (shareOf station split T) → EndFor a (length R) station split T T′ (Stands a′)
-    → Turns other-station qs begun Q₀ V₀ b Q (shareOf other-station other-split U)
-    → EndFor b (length Q) other-station other-split U U′ (Stands b′)
+    → Turns limit station ps begun R₀ W₀ a R (shareOf station split T) → EndFor limit a (length R) station split T T′ (Stands a′)
+    → Turns limit other-station qs begun Q₀ V₀ b Q (shareOf other-station other-split U)
+    → EndFor limit b (length Q) other-station other-split U U′ (Stands b′)
     → (told a′ ≡ told b′) × (shareOf station split T′ ≡ shareOf other-station other-split U′)
-pieces-alike station other-station split other-split T U ok ok′ R₀ Q₀ W₀ V₀ h k l ps qs e few x c y d =
-    let i = pieces-whole station split T ok R₀ W₀ h ps x few c in
-    let j = pieces-whole other-station other-split U ok′ Q₀ V₀ k qs y (rw e at few) d in
+pieces-alike limit fine station other-station split other-split T U ok ok′ R₀ Q₀ W₀ V₀ h k l ps qs e few x c y d =
+    let i = pieces-whole limit fine station split T ok R₀ W₀ h ps x few c in
+    let j = pieces-whole limit fine other-station other-split U ok′ Q₀ V₀ k qs y (rw e at few) d in
     (i .says ∙ rw (e, l) (sym (j .says)), i .table ∙ rw (e, l) (sym (j .table)))

@@ -1,1 +1,1 @@
-// The demands, as statements over the definitions: see specs/.
+// What the requests demand, as statements over the definitions: see specs/.

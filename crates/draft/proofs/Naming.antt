@@ -33,6 +33,7 @@ use Rattle.draft.specs.declared.Refusal.the-variants.{
   BadFault,
   BadValue,
   RepeatedKey,
+  NoLimit,
 }
 use Rattle.draft.specs.Refusals.{numberOf, refusalOf}
 use Rattle.draft.specs.Rows.{itemOf}
@@ -150,10 +151,14 @@ module _ (n : ℕ) where
   unfolding refusalOf
   refusal-value e = rw e
 
-  pub refusal-key : (n ≡ 1 → ⊥) → (n ≡ 2 → ⊥) → (n ≡ 3 → ⊥) → (n ≡ 5 → ⊥) → (n ≡ 6 → ⊥) → (n ≡ 7 → ⊥) → (n ≡ 8 → ⊥) → (n ≡ 9 → ⊥) → (n ≡ 10 → ⊥) → (n ≡ 11 → ⊥) → (n ≡ 12 → ⊥) → (n ≡ 13 → ⊥) → (n ≡ 14 → ⊥) → (n ≡ 17 → ⊥) → RepeatedKey ≡ refusalOf n
+  pub refusal-key : n ≡ 20 → RepeatedKey ≡ refusalOf n
   unfolding refusalOf
-  refusal-key a b c d e f g h i j k l m o =
-      rw (ne-eqb _ _ a, ne-eqb _ _ b, ne-eqb _ _ c, ne-eqb _ _ d, ne-eqb _ _ e, ne-eqb _ _ f, ne-eqb _ _ g, ne-eqb _ _ h, ne-eqb _ _ i, ne-eqb _ _ j, ne-eqb _ _ k, ne-eqb _ _ l, ne-eqb _ _ m, ne-eqb _ _ o)
+  refusal-key e = rw e
+
+  pub refusal-limit : (n ≡ 1 → ⊥) → (n ≡ 2 → ⊥) → (n ≡ 3 → ⊥) → (n ≡ 5 → ⊥) → (n ≡ 6 → ⊥) → (n ≡ 7 → ⊥) → (n ≡ 8 → ⊥) → (n ≡ 9 → ⊥) → (n ≡ 10 → ⊥) → (n ≡ 11 → ⊥) → (n ≡ 12 → ⊥) → (n ≡ 13 → ⊥) → (n ≡ 14 → ⊥) → (n ≡ 17 → ⊥) → (n ≡ 20 → ⊥) → NoLimit ≡ refusalOf n
+  unfolding refusalOf
+  refusal-limit a b c d e f g h i j k l m o p =
+      rw (ne-eqb _ _ a, ne-eqb _ _ b, ne-eqb _ _ c, ne-eqb _ _ d, ne-eqb _ _ e, ne-eqb _ _ f, ne-eqb _ _ g, ne-eqb _ _ h, ne-eqb _ _ i, ne-eqb _ _ j, ne-eqb _ _ k, ne-eqb _ _ l, ne-eqb _ _ m, ne-eqb _ _ o, ne-eqb _ _ p)
 
 -- no refusal has the number 0, and each its own
 pub number-some : (m : Refusal) → numberOf m ≡ 0 → ⊥
@@ -172,6 +177,7 @@ number-some OutputTooShort e = omega (arith, e)
 number-some BadFault e = omega (arith, e)
 number-some BadValue e = omega (arith, e)
 number-some RepeatedKey e = omega (arith, e)
+number-some NoLimit e = omega (arith, e)
 
 pub number-own : (m : Refusal) → refusalOf (numberOf m) ≡ m
 unfolding refusalOf
@@ -190,5 +196,6 @@ number-own OutputTooShort = refl
 number-own BadFault = refl
 number-own BadValue = refl
 number-own RepeatedKey = refl
+number-own NoLimit = refl
 
-pub ruleset refusals = (refusal-ended, refusal-prefix, refusal-byte, refusal-text, refusal-unset, refusal-name, refusal-deep, refusal-row, refusal-long, refusal-unwritable, refusal-form, refusal-output, refusal-fault, refusal-value, refusal-key)
+pub ruleset refusals = (refusal-ended, refusal-prefix, refusal-byte, refusal-text, refusal-unset, refusal-name, refusal-deep, refusal-row, refusal-long, refusal-unwritable, refusal-form, refusal-output, refusal-fault, refusal-value, refusal-key, refusal-limit)

@@ -1,4 +1,5 @@
 pub mod Refusals
+pub mod Limits
 pub mod Rows
 pub mod Bytes
 pub mod Content

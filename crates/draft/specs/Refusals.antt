@@ -19,6 +19,7 @@ use Rattle.draft.specs.declared.Refusal.the-variants.{
   BadFault,
   BadValue,
   RepeatedKey,
+  NoLimit,
 }
 
 abbrev pub numberOf : Refusal → ℕ
@@ -52,6 +53,8 @@ numberOf BadFault = 14
 numberOf BadValue = 17
 -- 02: a key that its Struct has already
 numberOf RepeatedKey = 20
+-- 02: a limit of nesting outside 1 to 32
+numberOf NoLimit = 23
 
 abbrev pickRefusal : Bool → Refusal → Refusal → Refusal
 pickRefusal true x y = x
@@ -74,4 +77,5 @@ refusalOf n =
     (pickRefusal (eqb n 13) OutputTooShort
     (pickRefusal (eqb n 14) BadFault
     (pickRefusal (eqb n 17) BadValue
-    RepeatedKey)))))))))))))
+    (pickRefusal (eqb n 20) RepeatedKey
+    NoLimit))))))))))))))

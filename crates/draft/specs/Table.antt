@@ -9,9 +9,9 @@ use Rattle.draft.specs.Rows.{row}
 abbrev pub roomOf : ℕ → ℕ → ℕ
 roomOf most words = min (words / 4) most
 
--- where word j of row r stands in a table with room for c rows
+-- where word j of row r stands in a table with room for c rows: c kinds, then c a's, then c b's, then c ends (document 02, E12)
 unfoldable pub place : ℕ → ℕ → ℕ → ℕ
-place c r j = r * 4 + j
+place c r j = c * j + r
 
 unfoldable pub setRow : ℕ → List ℕ → ℕ → Row → List ℕ
 setRow c T r x = set (set (set (set T (place c r 0) (x .kind)) (place c r 1) (x .a)) (place c r 2) (x .b)) (place c r 3) (x .end)

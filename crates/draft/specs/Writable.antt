@@ -210,6 +210,10 @@ writableWithin bytes most deep T rows s =
     && (leb (rows * 4) (length T)
     && wholly rows (callOrResponse (rowAt (roomOf most (length T)) T) rows s deep 0))))
 
--- document 01's limits: 65,536 text bytes, 4,096 rows, nesting to 32
+-- document 01's limits, 65,536 text bytes and 4,096 rows, and nesting to the limit that the writer's call states (02, E11)
+unfoldable pub writableTo : ℕ → List ℕ → ℕ → List ℕ → Bool
+writableTo limit T rows s = writableWithin 65536 4096 limit T rows s
+
+-- nesting to 32: where a table is looked at and not written ('lookup, index and defaults judge tables at 32')
 unfoldable pub writable : List ℕ → ℕ → List ℕ → Bool
 writable T rows s = writableWithin 65536 4096 32 T rows s

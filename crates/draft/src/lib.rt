@@ -1,7 +1,12 @@
 // The declared types that the definitions in specs/ cite.
 ghost use mathlib.Core.Path.{_≡_};
 ghost use Rattle.draft.specs.Refusals.{numberOf, refusalOf};
+ghost use Rattle.draft.specs.Limits.{allowed as allowedBy};
 ghost use Rattle.draft.specs.Rows.{kindOf, itemOf};
+
+// How many Arrays and Structs may stand in one another, at most; and where a call states no limit.
+pub const MOST_NESTING: usize = 32;
+pub const USUAL_NESTING: usize = 8;
 
 // Why a message or a table is refused, in the order of the papers' numbers.
 pub enum Refusal {
@@ -20,6 +25,7 @@ pub enum Refusal {
     BadFault,
     BadValue,
     RepeatedKey,
+    NoLimit,
 }
 
 // What a rule says of some content.
@@ -97,6 +103,16 @@ pub enum Extent {
     Unfit,
 }
 
+// Whether a call may state this limit of nesting.
+pub fn allowed(limit: usize) -> bool
+    ensures { λ r. ⌜ r ≡ allowedBy limit ⌝ }
+{
+    if limit < 1 {
+        return false;
+    }
+    limit <= MOST_NESTING
+}
+
 // The papers' number of a refusal.
 pub fn number(refusal: Refusal) -> u8
     ensures { λ n. ⌜ n ≡ numberOf refusal ⌝ }
@@ -117,6 +133,7 @@ pub fn number(refusal: Refusal) -> u8
         Refusal::BadFault => 14,
         Refusal::BadValue => 17,
         Refusal::RepeatedKey => 20,
+        Refusal::NoLimit => 23,
     }
 }
 
@@ -139,7 +156,8 @@ pub fn refusal_of(number: usize) -> Refusal
         13 => Refusal::OutputTooShort,
         14 => Refusal::BadFault,
         17 => Refusal::BadValue,
-        _ => Refusal::RepeatedKey,
+        20 => Refusal::RepeatedKey,
+        _ => Refusal::NoLimit,
     }
 }
 

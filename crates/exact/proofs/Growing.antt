@@ -16,7 +16,7 @@ use Rattle.text.specs.Texts.{ascii, among, standardName}
 use Rattle.lexical.specs.Double.{isDouble}
 use Rattle.lexical.specs.DateTime.{isDateTime}
 use Rattle.draft.specs.declared.Refusal.{Refusal}
-use Rattle.draft.specs.declared.Refusal.the-variants.{Ended, WrongPrefix, UnexpectedByte, BadText, UnsetPosition, StandardName, TooDeep, NoRow, TooLong, NotWritable, FormTooLong, OutputTooShort, BadFault, BadValue, RepeatedKey}
+use Rattle.draft.specs.declared.Refusal.the-variants.{Ended, WrongPrefix, UnexpectedByte, BadText, UnsetPosition, StandardName, TooDeep, NoRow, TooLong, NotWritable, FormTooLong, OutputTooShort, BadFault, BadValue, RepeatedKey, NoLimit}
 use Rattle.draft.specs.declared.Row.{Row}
 use Rattle.draft.specs.declared.Verdict.{Verdict}
 use Rattle.draft.specs.declared.Verdict.the-variants.{Fine, Bad}
@@ -67,6 +67,7 @@ OfReading OutputTooShort = ⊥
 OfReading BadFault = Unit {0}
 OfReading BadValue = Unit {0}
 OfReading RepeatedKey = Unit {0}
+OfReading NoLimit = ⊥
 
 -- an answer, and the answer when there is more: acceptance stays, and so does a refusal that does not say that there is too little
 pub data Stays (more limits : Bool) (s s′ : List ℕ) : Reading → Reading → Type 0 where

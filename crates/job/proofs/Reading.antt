@@ -26,7 +26,7 @@ module _ (s : List ℕ) {words : ℕ} {f g : Found} (i : f ≡ g) {T : List ℕ}
   pub reads-missing : {m : JobRefusal} {p : ℕ} → f ≡ found.Missing m p → T ≡ replicate words 0 → Reads s words g T (Missing m p)
   reads-missing e t = record { says = rw (← i, e); leaves = t ∙ rw (← i, e) }
 
-  pub reads-body : {start size : ℕ} {body : List ℕ} {r : ReaderAnswer} {a : Answer} → f ≡ found.Body start size → body ≡ part s start size → Answers (reading body words) words T r → a ≡ located start r → Reads s words g T a
+  pub reads-body : {start size : ℕ} {body : List ℕ} {r : ReaderAnswer} {a : Answer} → f ≡ found.Body start size → body ≡ part s start size → Answers (reading 32 body words) words T r → a ≡ located start r → Reads s words g T a
   reads-body {start} e b d l = record { says = l ∙ ap (located start) (d .says) ∙ rw (← i, e, b); leaves = d .leaves ∙ rw (← i, e, b) }
 
 pub ruleset cards = (locate-accepted, locate-refused, reads-missing, reads-body)

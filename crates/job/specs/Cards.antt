@@ -1,5 +1,5 @@
 -- What asking for a card of a job file gives: its answer, and the table after it. Both depend on the file, the card's number and the table's
--- length alone. Assumes nothing.
+-- length alone. 'The job file reader states 32' (02, E11). Assumes nothing.
 use mathlib.Core.Path.{_≡_}
 use mathlib.Core.List.{List}
 use Prim.Native.Nat.{ℕ}
@@ -21,11 +21,11 @@ located start (reader.Accepted rows used) = Accepted rows used start
 located start (reader.Refused refusal place) = Refused refusal place
 
 abbrev pub answerFor : List ℕ → ℕ → Found → Answer
-answerFor s words (found.Body start size) = located start (answerOf (reading (part s start size) words))
+answerFor s words (found.Body start size) = located start (answerOf (reading 32 (part s start size) words))
 answerFor s words (found.Missing refusal place) = Missing refusal place
 
 abbrev pub tableFor : List ℕ → ℕ → Found → List ℕ
-tableFor s words (found.Body start size) = tableOf words (reading (part s start size) words)
+tableFor s words (found.Body start size) = tableOf words (reading 32 (part s start size) words)
 tableFor s words (found.Missing refusal place) = replicate words 0
 
 -- what a call did that was to answer by what was found in the file s, with a table of so many words

@@ -49,7 +49,7 @@ pub fn read_card(file: &[u8], number: usize, table: &mut [u32]) -> Answer
         }
         Found::Body { start, length } => {
             let body = content::part(file, start, length);
-            locate(reader::read(body, table), start)
+            locate(reader::read(body, table, draft::MOST_NESTING), start)
         }
     }
 }

@@ -33,7 +33,7 @@ fn put_card(
     waiting: &mut [u8],
     at: usize,
 ) -> Waiting {
-    let answer = reader::read(content::part(file, start, size), table);
+    let answer = reader::read(content::part(file, start, size), table, draft::MOST_NESTING);
     if at <= FULL {
         return Waiting::Until(lines::put_card(waiting, at, number, start, size, answer));
     }

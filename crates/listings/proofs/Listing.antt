@@ -61,7 +61,7 @@ module _ {a : Answer} {o o′ : List ℕ} {from at : ℕ} where
   pub lists-refusal : {r : Refusal} {k p : ℕ} (T : List ℕ) → a ≡ Refused r p → k ≡ numberOf r → Puts (refusalLine k p) o from o′ at → Puts (listing a T) o from o′ at
   lists-refusal T e f q = rw e (rw f at q)
 
-pub lists-message : (message : List ℕ) (words : ℕ) {T line line′ : List ℕ} {a : Answer} {n : ℕ} → Answers (reading message words) words T a → Puts (listing a T) line 0 line′ n → Lists message words T line line′ n
+pub lists-message : (message : List ℕ) (words : ℕ) {T line line′ : List ℕ} {a : Answer} {n : ℕ} → Answers (reading 32 message words) words T a → Puts (listing a T) line 0 line′ n → Lists message words T line line′ n
 lists-message message words {T} {a = a} d p = record { table = d .leaves; lists = rw (d .says) at p }
 
 pub ruleset listed = (rows-first, rows-done, row-in, table-done, puts-both, lists-acceptance, lists-refusal, lists-message)

@@ -25,7 +25,7 @@ abbrev pub listing : Answer → List ℕ → List ℕ
 listing (Accepted n m) T = acceptedLine n m ++ tableLines T n
 listing (Refused refusal place) T = refusalLine (numberOf refusal) place
 
--- what a call did that was to list a message by way of a table of so many words, which is T′ after it
+-- what a call did that was to list a message by way of a table of so many words, which is T′ after it: 'the listing states 32' (02, E11)
 pub record Lists (message : List ℕ) (words : ℕ) (T′ line line′ : List ℕ) (n : ℕ) : Type 0 where
-  pub table : T′ ≡ tableOf words (reading message words)
-  pub lists : Puts (listing (answerOf (reading message words)) T′) line 0 line′ n
+  pub table : T′ ≡ tableOf words (reading 32 message words)
+  pub lists : Puts (listing (answerOf (reading 32 message words)) T′) line 0 line′ n

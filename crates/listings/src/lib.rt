@@ -52,7 +52,7 @@ pub fn put_listing(line: &mut [u8], answer: Answer, table: &[u32]) -> usize
 pub fn list(message: &[u8], table: &mut [u32], line: &mut [u8]) -> usize
     ensures { λ n. ⌜ Lists (now (message .entry)) (length (now (table .entry))) (now (table .exit)) (now (line .entry)) (now (line .exit)) n ⌝ }
 {
-    let answer = reader::read(message, table);
+    let answer = reader::read(message, table, draft::MOST_NESTING);
     put_listing(line, answer, table)
 }
 

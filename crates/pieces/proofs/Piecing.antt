@@ -1,14 +1,17 @@
 -- What each call does: a law for each return. Assumes nothing.
 use mathlib.Core.Path.{_≡_, refl, sym, _∙_, ap}
+use mathlib.Core.Bool.{Bool, true, false}
 use mathlib.Core.List.{List}
 use Prim.Native.Nat.{ℕ, _+_, _-_, _≤_, _<_}
 use native.Mathlib.Omega.{arith}
 use lib.ListN.{length, take, drop, replicate}
 use borrow.Author.Tests.{lt-ltb, le-ltb, eq-eqb, ne-eqb}
 use Rattle.draft.specs.declared.Refusal.{Refusal}
-use Rattle.draft.specs.declared.Refusal.the-variants.{Ended, TooLong}
+use Rattle.draft.specs.declared.Refusal.the-variants.{Ended, TooLong, NoLimit}
 use Rattle.draft.specs.Refusals.{numberOf, refusalOf}
+use Rattle.draft.specs.Limits.{allowed}
 use Rattle.draft.specs.Read.{Reading, got, refused}
+use Rattle.draft.proofs.Limiting.{limit-is}
 use Rattle.wanting.specs.Want.{wantOf}
 use Rattle.reader.specs.declared.Answer.{Answer}
 use Rattle.reader.specs.declared.Answer.the-variants as answer
@@ -59,86 +62,92 @@ module _ (held n : ℕ) (s : List ℕ) (o : Reading) (a : Answer) (d : a ≡ ans
     state-refused f = rw (is-refused, ne-eqb _ _ f)
 
 -- an answer a to the bytes held
-module _ (held n wanted : ℕ) (s T T′ : List ℕ) (a : Answer) (d : Reread s T (tableRead wanted s T) T′ a) where
-  pub settle-accepted : (rows used : ℕ) → a ≡ answer.Accepted rows used → Settled held n wanted s T T′ (Accepted rows used)
-  settle-accepted rows used e = record { says = state-accepted held n s (reading s (length T)) a (d .says) rows used e; table = d .leaves }
+module _ (limit held n wanted : ℕ) (s T T′ : List ℕ) (a : Answer) (d : Reread limit s T (tableRead limit wanted s T) T′ a) where
+  pub settle-accepted : (rows used : ℕ) → a ≡ answer.Accepted rows used → Settled limit held n wanted s T T′ (Accepted rows used)
+  settle-accepted rows used e = record { says = state-accepted held n s (reading limit s (length T)) a (d .says) rows used e; table = d .leaves }
 
   module _ (m : Refusal) (q x : ℕ) (e : a ≡ answer.Refused m q) (i : x ≡ numberOf m) where
-    pub settle-more : (w : ℕ) (state : State) → x ≡ 1 → w ≡ wantOf s q → state ≡ stillMore held n w q → Settled held n wanted s T T′ state
+    pub settle-more : (w : ℕ) (state : State) → x ≡ 1 → w ≡ wantOf s q → state ≡ stillMore held n w q → Settled limit held n wanted s T T′ state
     settle-more w state f g h =
-        record { says = state-more held n s (reading s (length T)) a (d .says) m q e w state (sym i ∙ f) g h; table = d .leaves }
+        record { says = state-more held n s (reading limit s (length T)) a (d .says) m q e w state (sym i ∙ f) g h; table = d .leaves }
 
-    pub settle-refused : (x ≡ 1 → ⊥) → Settled held n wanted s T T′ (Refused (Message m) q)
+    pub settle-refused : (x ≡ 1 → ⊥) → Settled limit held n wanted s T T′ (Refused (Message m) q)
     settle-refused f =
-        record { says = state-refused held n s (reading s (length T)) a (d .says) m q e (λ (z : numberOf m ≡ 1). f (i ∙ z)); table = d .leaves }
+        record { says = state-refused held n s (reading limit s (length T)) a (d .says) m q e (λ (z : numberOf m ≡ 1). f (i ∙ z)); table = d .leaves }
 
 -- more is wanted, and the room is long enough
-module _ (held wanted place : ℕ) (p R T : List ℕ) (long : 65536 ≤ length R) where
-  pub went-over : 65536 < held → Went (More held wanted place) p R T R T (Refused (Message TooLong) 0)
+module _ (limit held wanted place : ℕ) (p R T : List ℕ) (long : 65536 ≤ length R) (q : allowed limit ≡ true) where
+  pub went-over : 65536 < held → Went limit (More held wanted place) p R T R T (Refused (Message TooLong) 0)
   unfolding stateWent roomWent tableWent
   went-over h =
       record {
-        says = rw (le-ltb _ _ long, lt-ltb _ _ h);
-        room = rw (le-ltb _ _ long, lt-ltb _ _ h);
-        table = rw (le-ltb _ _ long, lt-ltb _ _ h);
+        says = rw (q, le-ltb _ _ long, lt-ltb _ _ h);
+        room = rw (q, le-ltb _ _ long, lt-ltb _ _ h);
+        table = rw (q, le-ltb _ _ long, lt-ltb _ _ h);
       }
 
   module _ (R′ : List ℕ) (n : ℕ) (state : State) (h : held ≤ 65536) (d : Held held p R R′ n) where
-    pub went-still : n < wanted → state ≡ stillMore held (length p) wanted place → Went (More held wanted place) p R T R′ T state
+    pub went-still : n < wanted → state ≡ stillMore held (length p) wanted place → Went limit (More held wanted place) p R T R′ T state
     unfolding stateWent roomWent tableWent
     went-still l e =
         let w : held + taken held p < wanted = rw (d .now) at l in
         record {
-          says = simp (le-ltb _ _ long, le-ltb _ _ h, lt-ltb _ _ w) e;
-          room = simp (le-ltb _ _ long, le-ltb _ _ h) (d .room);
-          table = simp (le-ltb _ _ long, le-ltb _ _ h, lt-ltb _ _ w);
+          says = simp (q, le-ltb _ _ long, le-ltb _ _ h, lt-ltb _ _ w) e;
+          room = simp (q, le-ltb _ _ long, le-ltb _ _ h) (d .room);
+          table = simp (q, le-ltb _ _ long, le-ltb _ _ h, lt-ltb _ _ w);
         }
 
     pub went-read :
-        (T′ : List ℕ) → wanted ≤ n → Settled held (length p) wanted (take (n - 0) (drop 0 R′)) T T′ state → Went (More held wanted place) p R T R′ T′ state
+        (T′ : List ℕ) → wanted ≤ n → Settled limit held (length p) wanted (take (n - 0) (drop 0 R′)) T T′ state → Went limit (More held wanted place) p R T R′ T′ state
     unfolding stateWent roomWent tableWent
     went-read T′ l e =
         let w : wanted ≤ held + taken held p = rw (d .now) at l in
         let z : n - 0 ≡ held + taken held p = omega (arith, d .now) in
         let c : take (n - 0) R′ ≡ bytesHeld held p R = rw (z, d .room) in
         record {
-          says = simp (le-ltb _ _ long, le-ltb _ _ h, le-ltb _ _ w) (rw c at (e .says));
-          room = simp (le-ltb _ _ long, le-ltb _ _ h) (d .room);
-          table = simp (le-ltb _ _ long, le-ltb _ _ h, le-ltb _ _ w) (rw c at (e .table));
+          says = simp (q, le-ltb _ _ long, le-ltb _ _ h, le-ltb _ _ w) (rw c at (e .says));
+          room = simp (q, le-ltb _ _ long, le-ltb _ _ h) (d .room);
+          table = simp (q, le-ltb _ _ long, le-ltb _ _ h, le-ltb _ _ w) (rw c at (e .table));
         }
 
 -- a piece, by the state
-module _ (state : State) (p R T : List ℕ) where
-  pub next-short : (X : List ℕ) → length R < 65536 → X ≡ replicate (length T) 0 → Went state p R T R X (Refused ShortRoom 0)
-  next-short X h e = record { says = simp (lt-ltb _ _ h); room = simp (lt-ltb _ _ h); table = simp (lt-ltb _ _ h) e }
+module _ (limit : ℕ) (state : State) (p R T : List ℕ) where
+  pub next-unlimited : (X : List ℕ) {b : Bool} → b ≡ allowed limit → b ≡ false → X ≡ replicate (length T) 0 → Went limit state p R T R X (Refused (Message NoLimit) 0)
+  next-unlimited X g i e = let q : allowed limit ≡ false = sym g ∙ i in record { says = simp q; room = simp q; table = simp q e }
+
+  pub next-short : (X : List ℕ) → allowed limit ≡ true → length R < 65536 → X ≡ replicate (length T) 0 → Went limit state p R T R X (Refused ShortRoom 0)
+  next-short X i h e = record { says = simp (i, lt-ltb _ _ h); room = simp (i, lt-ltb _ _ h); table = simp (i, lt-ltb _ _ h) e }
 
   pub next-more :
-      (held wanted place : ℕ) (R′ T′ : List ℕ) (r : State) → state ≡ More held wanted place → Went (More held wanted place) p R T R′ T′ r
-      → Went state p R T R′ T′ r
+      (held wanted place : ℕ) (R′ T′ : List ℕ) (r : State) → state ≡ More held wanted place → Went limit (More held wanted place) p R T R′ T′ r
+      → Went limit state p R T R′ T′ r
   next-more held wanted place R′ T′ r e w = rw e w
 
-  pub next-accepted : (rows used : ℕ) → 65536 ≤ length R → state ≡ Accepted rows used → Went state p R T R T (Accepted rows used)
+  pub next-accepted : (rows used : ℕ) → allowed limit ≡ true → 65536 ≤ length R → state ≡ Accepted rows used → Went limit state p R T R T (Accepted rows used)
   unfolding stateWent roomWent tableWent
-  next-accepted rows used h e = rw e (record { says = simp (le-ltb _ _ h); room = simp (le-ltb _ _ h); table = simp (le-ltb _ _ h) })
+  next-accepted rows used i h e = rw e (record { says = simp (i, le-ltb _ _ h); room = simp (i, le-ltb _ _ h); table = simp (i, le-ltb _ _ h) })
 
-  pub next-refused : (m : PieceRefusal) (q : ℕ) → 65536 ≤ length R → state ≡ Refused m q → Went state p R T R T (Refused m q)
+  pub next-refused : (m : PieceRefusal) (q : ℕ) → allowed limit ≡ true → 65536 ≤ length R → state ≡ Refused m q → Went limit state p R T R T (Refused m q)
   unfolding stateWent roomWent tableWent
-  next-refused m q h e = rw e (record { says = simp (le-ltb _ _ h); room = simp (le-ltb _ _ h); table = simp (le-ltb _ _ h) })
+  next-refused m q i h e = rw e (record { says = simp (i, le-ltb _ _ h); room = simp (i, le-ltb _ _ h); table = simp (i, le-ltb _ _ h) })
 
 -- the end, by the state
-module _ (state : State) (bytes : ℕ) (T : List ℕ) where
-  pub end-short : (X : List ℕ) → bytes < 65536 → X ≡ replicate (length T) 0 → Closed state bytes T X (Refused ShortRoom 0)
-  end-short X h e = record { says = simp (lt-ltb _ _ h); table = simp (lt-ltb _ _ h) e }
+module _ (limit : ℕ) (state : State) (bytes : ℕ) (T : List ℕ) where
+  pub end-unlimited : (X : List ℕ) {b : Bool} → b ≡ allowed limit → b ≡ false → X ≡ replicate (length T) 0 → Closed limit state bytes T X (Refused (Message NoLimit) 0)
+  end-unlimited X g i e = let q : allowed limit ≡ false = sym g ∙ i in record { says = simp q; table = simp q e }
+
+  pub end-short : (X : List ℕ) → allowed limit ≡ true → bytes < 65536 → X ≡ replicate (length T) 0 → Closed limit state bytes T X (Refused ShortRoom 0)
+  end-short X i h e = record { says = simp (i, lt-ltb _ _ h); table = simp (i, lt-ltb _ _ h) e }
 
   pub end-more :
-      (held wanted place : ℕ) (X : List ℕ) → 65536 ≤ bytes → state ≡ More held wanted place → X ≡ replicate (length T) 0
-      → Closed state bytes T X (Refused (Message Ended) place)
-  end-more held wanted place X h e x = rw e (record { says = simp (le-ltb _ _ h); table = simp (le-ltb _ _ h) x })
+      (held wanted place : ℕ) (X : List ℕ) → allowed limit ≡ true → 65536 ≤ bytes → state ≡ More held wanted place → X ≡ replicate (length T) 0
+      → Closed limit state bytes T X (Refused (Message Ended) place)
+  end-more held wanted place X i h e x = rw e (record { says = simp (i, le-ltb _ _ h); table = simp (i, le-ltb _ _ h) x })
 
-  pub end-accepted : (rows used : ℕ) → 65536 ≤ bytes → state ≡ Accepted rows used → Closed state bytes T T (Accepted rows used)
-  end-accepted rows used h e = rw e (record { says = simp (le-ltb _ _ h); table = simp (le-ltb _ _ h) })
+  pub end-accepted : (rows used : ℕ) → allowed limit ≡ true → 65536 ≤ bytes → state ≡ Accepted rows used → Closed limit state bytes T T (Accepted rows used)
+  end-accepted rows used i h e = rw e (record { says = simp (i, le-ltb _ _ h); table = simp (i, le-ltb _ _ h) })
 
-  pub end-refused : (m : PieceRefusal) (q : ℕ) → 65536 ≤ bytes → state ≡ Refused m q → Closed state bytes T T (Refused m q)
-  end-refused m q h e = rw e (record { says = simp (le-ltb _ _ h); table = simp (le-ltb _ _ h) })
+  pub end-refused : (m : PieceRefusal) (q : ℕ) → allowed limit ≡ true → 65536 ≤ bytes → state ≡ Refused m q → Closed limit state bytes T T (Refused m q)
+  end-refused m q i h e = rw e (record { says = simp (i, le-ltb _ _ h); table = simp (i, le-ltb _ _ h) })
 
-pub ruleset piecing = (number-short, number-message, still-over, still-more, settle-accepted, settle-more, settle-refused, went-over, went-still, went-read, next-short, next-more, next-accepted, next-refused, end-short, end-more, end-accepted, end-refused)
+pub ruleset piecing = (number-short, number-message, still-over, still-more, settle-accepted, settle-more, settle-refused, went-over, went-still, went-read, limit-is, next-unlimited, end-unlimited, next-short, next-more, next-accepted, next-refused, end-short, end-more, end-accepted, end-refused)

@@ -1,4 +1,4 @@
--- Request E6 over the list of the pieces, into a table of so many words: what a person must believe of messages in pieces. There is no state
+-- Request E6 over the list of the pieces, with one limit of nesting, into a table of so many words: what a person must believe of messages in pieces. There is no state
 -- here, and nothing of how much is waited for. Assumes nothing.
 use mathlib.Core.Bool.{Bool, true, false, _&&_}
 use mathlib.Core.List.{List, [], _∷_, _++_}
@@ -17,22 +17,22 @@ joined [] = []
 joined (p ∷ ps) = p ++ joined ps
 
 -- what some bytes come to: the first 65,536 read as a whole message. Refused with 1, more is wanted; but if there is another byte, it is 10
-unfoldable pub outcome : List ℕ → ℕ → Reading
-outcome s words =
-    pick (refusedWithOne (reading (take 65536 s) words) && ltb 65536 (length s)) (refused TooLong 0) (reading (take 65536 s) words)
+unfoldable pub outcome : ℕ → List ℕ → ℕ → Reading
+outcome limit s words =
+    pick (refusedWithOne (reading limit (take 65536 s) words) && ltb 65536 (length s)) (refused TooLong 0) (reading limit (take 65536 s) words)
 
 -- more is wanted
-abbrev pub wanting : List ℕ → ℕ → Bool
-wanting s words = refusedWithOne (outcome s words)
+abbrev pub wanting : ℕ → List ℕ → ℕ → Bool
+wanting limit s words = refusedWithOne (outcome limit s words)
 
 abbrev pub pickBytes : Bool → List ℕ → List ℕ → List ℕ
 pickBytes true x y = x
 pickBytes false x y = y
 
 -- the bytes through the deciding piece: some bytes so far, and the pieces that come while more is wanted
-unfoldable pub through : ℕ → List ℕ → List (List ℕ) → List ℕ
-through words s [] = s
-through words s (p ∷ ps) = pickBytes (wanting s words) (through words (s ++ p) ps) s
+unfoldable pub through : ℕ → ℕ → List ℕ → List (List ℕ) → List ℕ
+through limit words s [] = s
+through limit words s (p ∷ ps) = pickBytes (wanting limit s words) (through limit words (s ++ p) ps) s
 
 -- the room begins with them, cut at 65,536; its rest is as it was
 unfoldable pub roomWith : List ℕ → List ℕ → List ℕ

@@ -1,12 +1,13 @@
--- What each call does, for any state, room and table. Assumes nothing.
+-- What each call does, for any limit of nesting, state, room and table. Assumes nothing.
 use mathlib.Core.Path.{_≡_}
 use mathlib.Core.Bool.{Bool, true, false}
 use mathlib.Core.List.{List}
 use Prim.Native.Nat.{ℕ, _+_, _-_}
 use lib.ListN.{length, take, replicate}
 use lib.Dec.{ltb, eqb}
-use Rattle.draft.specs.declared.Refusal.the-variants.{TooLong, Ended}
+use Rattle.draft.specs.declared.Refusal.the-variants.{TooLong, Ended, NoLimit}
 use Rattle.draft.specs.Refusals.{numberOf, refusalOf}
+use Rattle.draft.specs.Limits.{allowed}
 use Rattle.draft.specs.Read.{Reading, got, refused}
 use Rattle.wanting.specs.Want.{wantOf}
 use Rattle.reader.specs.Answers.{reading}
@@ -58,13 +59,13 @@ bytesHeld held p R = take (held + taken held p) (roomAfter held p R)
 
 -- the state after a piece, where the room is long enough. Nothing is read while fewer bytes are held than are wanted. A state that no call
 -- gives, with more than 65,536 bytes held, is refused with 10
-unfoldable pub stateWent : State → List ℕ → List ℕ → ℕ → State
-stateWent (More held wanted place) p R words =
+unfoldable pub stateWent : ℕ → State → List ℕ → List ℕ → ℕ → State
+stateWent limit (More held wanted place) p R words =
     pickState (ltb 65536 held) (Refused (Message TooLong) 0)
     (pickState (ltb (held + taken held p) wanted) (stillMore held (length p) wanted place)
-    (stateOf held (length p) (bytesHeld held p R) (reading (bytesHeld held p R) words)))
-stateWent (Accepted rows used) p R words = Accepted rows used
-stateWent (Refused m place) p R words = Refused m place
+    (stateOf held (length p) (bytesHeld held p R) (reading limit (bytesHeld held p R) words)))
+stateWent limit (Accepted rows used) p R words = Accepted rows used
+stateWent limit (Refused m place) p R words = Refused m place
 
 -- the room after it
 unfoldable pub roomWent : State → List ℕ → List ℕ → List ℕ
@@ -73,23 +74,32 @@ roomWent (Accepted rows used) p R = R
 roomWent (Refused m place) p R = R
 
 -- the table after it
-unfoldable pub tableWent : State → List ℕ → List ℕ → List ℕ → List ℕ
-tableWent (More held wanted place) p R T =
+unfoldable pub tableWent : ℕ → State → List ℕ → List ℕ → List ℕ → List ℕ
+tableWent limit (More held wanted place) p R T =
     pickList (ltb 65536 held) T
-    (pickList (ltb (held + taken held p) wanted) T (tableRead wanted (bytesHeld held p R) T))
-tableWent (Accepted rows used) p R T = T
-tableWent (Refused m place) p R T = T
+    (pickList (ltb (held + taken held p) wanted) T (tableRead limit wanted (bytesHeld held p R) T))
+tableWent limit (Accepted rows used) p R T = T
+tableWent limit (Refused m place) p R T = T
 
 -- what reading the bytes s in the room did
-pub record Settled (held n wanted : ℕ) (s T T′ : List ℕ) (state : State) : Type 0 where
-  pub says : state ≡ stateOf held n s (reading s (length T))
-  pub table : T′ ≡ tableRead wanted s T
+pub record Settled (limit held n wanted : ℕ) (s T T′ : List ℕ) (state : State) : Type 0 where
+  pub says : state ≡ stateOf held n s (reading limit s (length T))
+  pub table : T′ ≡ tableRead limit wanted s T
 
--- what a call with a piece p did: 4 before all else
-pub record Went (state : State) (p R T R′ T′ : List ℕ) (state′ : State) : Type 0 where
-  pub says : state′ ≡ pickState (ltb (length R) 65536) (Refused ShortRoom 0) (stateWent state p R (length T))
-  pub room : R′ ≡ pickList (ltb (length R) 65536) R (roomWent state p R)
-  pub table : T′ ≡ pickList (ltb (length R) 65536) (replicate (length T) 0) (tableWent state p R T)
+-- what is refused before all else, whatever the state: 23, then 4
+abbrev pub atFirst : ℕ → ℕ → State → State
+atFirst limit bytes state =
+    pickState (allowed limit) (pickState (ltb bytes 65536) (Refused ShortRoom 0) state) (Refused (Message NoLimit) 0)
+
+-- what is left of lent words or bytes: where that is refused, the first
+abbrev pub thenLeft : ℕ → ℕ → List ℕ → List ℕ → List ℕ
+thenLeft limit bytes first left = pickList (allowed limit) (pickList (ltb bytes 65536) first left) first
+
+-- what a call with a piece p did
+pub record Went (limit : ℕ) (state : State) (p R T R′ T′ : List ℕ) (state′ : State) : Type 0 where
+  pub says : state′ ≡ atFirst limit (length R) (stateWent limit state p R (length T))
+  pub room : R′ ≡ thenLeft limit (length R) R (roomWent state p R)
+  pub table : T′ ≡ thenLeft limit (length R) (replicate (length T) 0) (tableWent limit state p R T)
 
 -- the end: where more is wanted, 1 at the place it would have
 abbrev pub stateClosed : State → State
@@ -103,6 +113,6 @@ tableClosed (Accepted rows used) T = T
 tableClosed (Refused m place) T = T
 
 -- what an end call did, with a room of so many bytes
-pub record Closed (state : State) (bytes : ℕ) (T T′ : List ℕ) (state′ : State) : Type 0 where
-  pub says : state′ ≡ pickState (ltb bytes 65536) (Refused ShortRoom 0) (stateClosed state)
-  pub table : T′ ≡ pickList (ltb bytes 65536) (replicate (length T) 0) (tableClosed state T)
+pub record Closed (limit : ℕ) (state : State) (bytes : ℕ) (T T′ : List ℕ) (state′ : State) : Type 0 where
+  pub says : state′ ≡ atFirst limit bytes (stateClosed state)
+  pub table : T′ ≡ thenLeft limit bytes (replicate (length T) 0) (tableClosed state T)

@@ -2,8 +2,10 @@
 use draft::Refusal;
 use reader::Answer;
 ghost use mathlib.Core.Path.{_≡_};
+ghost use mathlib.Core.Bool.{true};
 ghost use Prim.Native.Nat.{_≤_};
 ghost use lib.ListN.{length};
+ghost use Rattle.draft.specs.Limits.{allowed};
 ghost use Rattle.pieces.specs.Steps.{numberFor, refusalFor, stillMore, Settled, Went, Closed};
 ghost use Rattle.pieces.specs.Runs.{begun};
 
@@ -81,11 +83,18 @@ fn still(held: usize, brought: usize, wanted: usize, place: usize) -> State
 }
 
 // Reads the bytes held. Before the last piece and what it brought, the first `held` of them were.
-fn settle(message: &[u8], held: usize, brought: usize, wanted: usize, table: &mut [u32]) -> State
+fn settle(
+    message: &[u8],
+    held: usize,
+    brought: usize,
+    wanted: usize,
+    table: &mut [u32],
+    limit: usize,
+) -> State
     requires { ⌜ (held ≤ 65536) × (length (now message) ≤ 65536) ⌝ }
-    ensures { λ r. ⌜ Settled held brought wanted (now (message .entry)) (now (table .entry)) (now (table .exit)) r ⌝ }
+    ensures { λ r. ⌜ Settled limit held brought wanted (now (message .entry)) (now (table .entry)) (now (table .exit)) r ⌝ }
 {
-    let answer = rereading::read_again(message, wanted, table);
+    let answer = rereading::read_again(message, wanted, table, limit);
     match answer {
         Answer::Accepted { rows, used } => State::Accepted { rows, used },
         Answer::Refused { refusal, place } => {
@@ -108,9 +117,10 @@ fn go_on(
     piece: &[u8],
     room: &mut [u8],
     table: &mut [u32],
+    limit: usize,
 ) -> State
-    requires { ⌜ 65536 ≤ length (now room) ⌝ }
-    ensures { λ r. ⌜ Went (State.More held wanted place) (now (piece .entry)) (now (room .entry)) (now (table .entry)) (now (room .exit)) (now (table .exit)) r ⌝ }
+    requires { ⌜ (65536 ≤ length (now room)) × (allowed limit ≡ true) ⌝ }
+    ensures { λ r. ⌜ Went limit (State.More held wanted place) (now (piece .entry)) (now (room .entry)) (now (table .entry)) (now (room .exit)) (now (table .exit)) r ⌝ }
 {
     if room::MOST < held {
         return State::Refused {
@@ -122,12 +132,19 @@ fn go_on(
     if n < wanted {
         return still(held, piece.len(), wanted, place);
     }
-    settle(&room[0..n], held, piece.len(), wanted, table)
+    settle(&room[0..n], held, piece.len(), wanted, table, limit)
 }
 
-// Takes the next piece. The room and the table are those of the calls before it.
-pub fn next(state: State, piece: &[u8], room: &mut [u8], table: &mut [u32]) -> State
-    ensures { λ r. ⌜ Went state (now (piece .entry)) (now (room .entry)) (now (table .entry)) (now (room .exit)) (now (table .exit)) r ⌝ }
+// A piece, by a limit that may be stated.
+fn take(
+    state: State,
+    piece: &[u8],
+    room: &mut [u8],
+    table: &mut [u32],
+    limit: usize,
+) -> State
+    requires { ⌜ allowed limit ≡ true ⌝ }
+    ensures { λ r. ⌜ Went limit state (now (piece .entry)) (now (room .entry)) (now (table .entry)) (now (room .exit)) (now (table .exit)) r ⌝ }
 {
     if room.len() < room::MOST {
         table::clear(table);
@@ -141,15 +158,16 @@ pub fn next(state: State, piece: &[u8], room: &mut [u8], table: &mut [u32]) -> S
             held,
             wanted,
             place,
-        } => go_on(held, wanted, place, piece, room, table),
+        } => go_on(held, wanted, place, piece, room, table, limit),
         State::Accepted { rows, used } => State::Accepted { rows, used },
         State::Refused { refusal, place } => State::Refused { refusal, place },
     }
 }
 
-// No more pieces come: where more is wanted, the message is refused with 1.
-pub fn end(state: State, room: &[u8], table: &mut [u32]) -> State
-    ensures { λ r. ⌜ Closed state (length (now (room .entry))) (now (table .entry)) (now (table .exit)) r ⌝ }
+// The end, by a limit that may be stated.
+fn close(state: State, room: &[u8], table: &mut [u32], limit: usize) -> State
+    requires { ⌜ allowed limit ≡ true ⌝ }
+    ensures { λ r. ⌜ Closed limit state (length (now (room .entry))) (now (table .entry)) (now (table .exit)) r ⌝ }
 {
     if room.len() < room::MOST {
         table::clear(table);
@@ -172,5 +190,39 @@ pub fn end(state: State, room: &[u8], table: &mut [u32]) -> State
         }
         State::Accepted { rows, used } => State::Accepted { rows, used },
         State::Refused { refusal, place } => State::Refused { refusal, place },
+    }
+}
+
+// Takes the next piece. The room, the table and the limit of nesting are those of the calls before it.
+pub fn next(
+    state: State,
+    piece: &[u8],
+    room: &mut [u8],
+    table: &mut [u32],
+    limit: usize,
+) -> State
+    ensures { λ r. ⌜ Went limit state (now (piece .entry)) (now (room .entry)) (now (table .entry)) (now (room .exit)) (now (table .exit)) r ⌝ }
+{
+    if draft::allowed(limit) {
+        return take(state, piece, room, table, limit);
+    }
+    table::clear(table);
+    State::Refused {
+        refusal: PieceRefusal::Message(Refusal::NoLimit),
+        place: 0,
+    }
+}
+
+// No more pieces come: where more is wanted, the message is refused with 1.
+pub fn end(state: State, room: &[u8], table: &mut [u32], limit: usize) -> State
+    ensures { λ r. ⌜ Closed limit state (length (now (room .entry))) (now (table .entry)) (now (table .exit)) r ⌝ }
+{
+    if draft::allowed(limit) {
+        return close(state, room, table, limit);
+    }
+    table::clear(table);
+    State::Refused {
+        refusal: PieceRefusal::Message(Refusal::NoLimit),
+        place: 0,
     }
 }

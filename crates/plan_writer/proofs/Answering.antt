@@ -8,11 +8,12 @@ use lib.ListN.{length, replicate}
 use lib.Dec.{leb, eqb}
 use borrow.Author.Tests.{lt-leb, le-leb, leb-true, leb-false, eqb-true}
 use Rattle.text.proofs.Comparing.{both}
-use Rattle.draft.specs.declared.Refusal.the-variants.{TooLong, NotWritable, FormTooLong, OutputTooShort}
+use Rattle.draft.specs.declared.Refusal.the-variants.{TooLong, NotWritable, FormTooLong, OutputTooShort, NoLimit}
 use Rattle.draft.specs.declared.Row.{Row}
 use Rattle.draft.specs.Table.{roomOf, rowAt, from}
 use Rattle.draft.specs.Strings.{Text, textsOf}
-use Rattle.draft.specs.Writable.{writable}
+use Rattle.draft.specs.Limits.{allowed}
+use Rattle.draft.specs.Writable.{writableTo}
 use Rattle.draft.specs.Written.{written, rowsOf}
 use Rattle.buckets.specs.Numbered.{textAt}
 use Rattle.sending.specs.Contract.{Collected}
@@ -139,20 +140,24 @@ module _ {row : ℕ → Row} {rows : ℕ} (s plan : List ℕ) {W : List ℕ} {n 
   by-refused f r = record { says = r .says ∙ sym (rw (taken-is, f)); leaves = r .leaves ∙ rw (r .says) }
 
 -- the whole answer
-module _ (T : List ℕ) (rows : ℕ) (s plan : List ℕ) {o o′ : List ℕ} {a : Answer} where
-  pub did-long : 65536 < length s → RefusedWith (Refused TooLong) o o′ a → Did T rows s plan o o′ a
+module _ (limit : ℕ) (T : List ℕ) (rows : ℕ) (s plan : List ℕ) {o o′ : List ℕ} {a : Answer} where
+  pub did-unlimited : {l : Bool} → l ≡ allowed limit → l ≡ false → RefusedWith (Refused NoLimit) o o′ a → Did limit T rows s plan o o′ a
   unfolding answerOf
-  did-long h r = record { says = r .says ∙ sym (rw (lt-leb (length s) 65536 h)); leaves = r .leaves ∙ rw (r .says) }
+  did-unlimited k i r = let q : allowed limit ≡ false = sym k ∙ i in record { says = r .says ∙ sym (rw q); leaves = r .leaves ∙ rw (r .says) }
 
-  module _ (h : length s ≤ 65536) {b : Bool} (e : b ≡ writable T rows s) where
-    pub did-unfit : b ≡ false → RefusedWith (Refused NotWritable) o o′ a → Did T rows s plan o o′ a
+  pub did-long : allowed limit ≡ true → 65536 < length s → RefusedWith (Refused TooLong) o o′ a → Did limit T rows s plan o o′ a
+  unfolding answerOf
+  did-long i h r = record { says = r .says ∙ sym (rw (i, lt-leb (length s) 65536 h)); leaves = r .leaves ∙ rw (r .says) }
+
+  module _ (i : allowed limit ≡ true) (h : length s ≤ 65536) {b : Bool} (e : b ≡ writableTo limit T rows s) where
+    pub did-unfit : b ≡ false → RefusedWith (Refused NotWritable) o o′ a → Did limit T rows s plan o o′ a
     unfolding answerOf
     did-unfit f r =
-        let w : writable T rows s ≡ false = sym e ∙ f in
-        record { says = r .says ∙ sym (rw (le-leb (length s) 65536 h, w)); leaves = r .leaves ∙ rw (r .says) }
+        let w : writableTo limit T rows s ≡ false = sym e ∙ f in
+        record { says = r .says ∙ sym (rw (i, le-leb (length s) 65536 h, w)); leaves = r .leaves ∙ rw (r .says) }
 
-    pub did-rows : {room : ℕ} → b ≡ true → room ≡ roomOf 4096 (length T) → DidBy s (from (rowAt room T) 0 rows) plan o o′ a → Did T rows s plan o o′ a
+    pub did-rows : {room : ℕ} → b ≡ true → room ≡ roomOf 4096 (length T) → DidBy s (from (rowAt room T) 0 rows) plan o o′ a → Did limit T rows s plan o o′ a
     unfolding answerOf messageFor rowsOf
     did-rows f g r =
-        let w : writable T rows s ≡ true = sym e ∙ f in
-        record { says = r .says ∙ sym (rw (le-leb (length s) 65536 h, w, g)); leaves = rw g at (r .leaves) }
+        let w : writableTo limit T rows s ≡ true = sym e ∙ f in
+        record { says = r .says ∙ sym (rw (i, le-leb (length s) 65536 h, w, g)); leaves = rw g at (r .leaves) }

@@ -1,5 +1,5 @@
--- What writing a table with a plan gives: its answer, and the output after it. Both depend on the table, its stated rows, the text bytes, the plan and
--- the output's length alone. Assumes nothing.
+-- What writing a table with a plan gives: its answer, and the output after it. Both depend on the limit of nesting, the table, its stated rows,
+-- the text bytes, the plan and the output's length alone. Assumes nothing.
 use Prim.Native.Nat.{ℕ, _-_}
 use mathlib.Core.Path.{_≡_}
 use mathlib.Core.Bool.{Bool, true, false, cond}
@@ -7,11 +7,12 @@ use mathlib.Core.List.{List, _++_}
 use lib.ListN.{length, replicate}
 use lib.Dec.{leb}
 use Rattle.draft.specs.declared.Refusal.{Refusal}
-use Rattle.draft.specs.declared.Refusal.the-variants.{TooLong, NotWritable, FormTooLong, OutputTooShort}
+use Rattle.draft.specs.declared.Refusal.the-variants.{TooLong, NotWritable, FormTooLong, OutputTooShort, NoLimit}
 use Rattle.draft.specs.Refusals.{numberOf}
 use Rattle.draft.specs.declared.Row.{Row}
 use Rattle.draft.specs.Strings.{textsOf}
-use Rattle.draft.specs.Writable.{writable}
+use Rattle.draft.specs.Limits.{allowed}
+use Rattle.draft.specs.Writable.{writableTo}
 use Rattle.draft.specs.Written.{written, rowsOf}
 use Rattle.plans.specs.Plans.{planned, taken}
 use Rattle.plan_writer.specs.declared.Answer.{Answer}
@@ -42,10 +43,13 @@ answerFor n room = given (leb n 65536) (Refused FormTooLong) (given (leb n room)
 unfoldable pub answerBy : List ℕ → List Row → List ℕ → ℕ → Answer
 answerBy s rows plan room = given (taken plan (textsOf s rows)) NotTaken (answerFor (length (chosen s rows plan)) room)
 
--- the answer: 10, 11, 24, then as the message has it
-unfoldable pub answerOf : List ℕ → ℕ → List ℕ → List ℕ → ℕ → Answer
-answerOf T rows s plan room =
-    given (leb (length s) 65536) (Refused TooLong) (given (writable T rows s) (Refused NotWritable) (answerBy s (rowsOf 4096 T rows) plan room))
+-- the answer to a call that states a limit of nesting: 23, 10, 11, 24, then as the message has it
+unfoldable pub answerOf : ℕ → List ℕ → ℕ → List ℕ → List ℕ → ℕ → Answer
+answerOf limit T rows s plan room =
+    given (allowed limit) (Refused NoLimit)
+    (given (leb (length s) 65536) (Refused TooLong)
+    (given (writableTo limit T rows s) (Refused NotWritable)
+    (answerBy s (rowsOf 4096 T rows) plan room)))
 
 -- the output after an answer: the message and zeros behind it; on a refusal all zeros
 abbrev pub outputOf : Answer → List ℕ → ℕ → List ℕ
@@ -54,8 +58,8 @@ outputOf (Refused refusal) form room = replicate room 0
 outputOf NotTaken form room = replicate room 0
 
 -- what a call did
-pub record Did (T : List ℕ) (rows : ℕ) (s plan out out′ : List ℕ) (answer : Answer) : Type 0 where
-  pub says : answer ≡ answerOf T rows s plan (length out)
+pub record Did (limit : ℕ) (T : List ℕ) (rows : ℕ) (s plan out out′ : List ℕ) (answer : Answer) : Type 0 where
+  pub says : answer ≡ answerOf limit T rows s plan (length out)
   pub leaves : out′ ≡ outputOf answer (messageFor T rows s plan) (length out)
 
 -- the numbers that documents 01 and 02 give for an answer

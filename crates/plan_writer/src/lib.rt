@@ -2,8 +2,10 @@
 // document 01's form. Here are the refusals and their order, and which of the two is written.
 use draft::Refusal;
 ghost use mathlib.Core.Path.{_≡_};
+ghost use mathlib.Core.Bool.{true};
 ghost use Prim.Native.Nat.{_≤_};
 ghost use lib.ListN.{length};
+ghost use Rattle.draft.specs.Limits.{allowed};
 ghost use Rattle.draft.specs.Table.{rowAt, from};
 ghost use Rattle.extents.specs.Asked.{Ready};
 ghost use Rattle.message.specs.Filled.{Filled};
@@ -102,17 +104,42 @@ fn write_judged(
     write_rows(table, room, rows, text, plan, strings, output)
 }
 
-// Writes a table with a stated number of rows, whose texts lie in the text bytes, by a plan. Every byte of the output is settled: the
-// message, and zeros behind it; on a refusal, zeros.
-pub fn write(table: &[u32], rows: usize, text: &[u8], plan: &[u8], output: &mut [u8]) -> Answer
-    ensures { λ r. ⌜ Did (now (table .entry)) rows (now (text .entry)) (now (plan .entry)) (now (output .entry)) (now (output .exit)) r ⌝ }
+// What `write` does by a limit that may be stated.
+fn write_within(
+    table: &[u32],
+    rows: usize,
+    text: &[u8],
+    plan: &[u8],
+    limit: usize,
+    output: &mut [u8],
+) -> Answer
+    requires { ⌜ allowed limit ≡ true ⌝ }
+    ensures { λ r. ⌜ Did limit (now (table .entry)) rows (now (text .entry)) (now (plan .entry)) (now (output .entry)) (now (output .exit)) r ⌝ }
 {
     if MOST_BYTES < text.len() {
         return refuse(output, Answer::Refused(Refusal::TooLong));
     }
-    if shape::writable(table, rows, text) {
+    if shape::writable_to(table, rows, text, limit) {
         let room = table::room_of(table.len());
         return write_judged(table, room, rows, text, plan, output);
     }
     refuse(output, Answer::Refused(Refusal::NotWritable))
+}
+
+// Writes a table with a stated number of rows, whose texts lie in the text bytes, by a plan, nested to at most the limit that is stated. Every byte
+// of the output is settled: the message, and zeros behind it; on a refusal, zeros.
+pub fn write(
+    table: &[u32],
+    rows: usize,
+    text: &[u8],
+    plan: &[u8],
+    limit: usize,
+    output: &mut [u8],
+) -> Answer
+    ensures { λ r. ⌜ Did limit (now (table .entry)) rows (now (text .entry)) (now (plan .entry)) (now (output .entry)) (now (output .exit)) r ⌝ }
+{
+    if draft::allowed(limit) {
+        return write_within(table, rows, text, plan, limit, output);
+    }
+    refuse(output, Answer::Refused(Refusal::NoLimit))
 }

@@ -1,2 +1,3 @@
 pub mod Beginning
 pub mod Messages
+pub mod Limited

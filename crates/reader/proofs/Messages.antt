@@ -8,11 +8,13 @@ use native.Mathlib.Nat.{zero-add}
 use lib.ListN.{length, getD, replicate}
 use borrow.Author.Tests.{lt-ltb, le-ltb, le-leb, lt-leb, eq-eqb, ne-eqb}
 use Rattle.draft.specs.declared.Refusal.{Refusal}
-use Rattle.draft.specs.declared.Refusal.the-variants.{Ended, WrongPrefix, UnexpectedByte, TooLong}
+use Rattle.draft.specs.declared.Refusal.the-variants.{Ended, WrongPrefix, UnexpectedByte, TooLong, NoLimit}
 use Rattle.draft.specs.Refusals.{refusalOf}
+use Rattle.draft.specs.Limits.{allowed}
 use Rattle.draft.specs.Codebook.{Book, clear}
 use Rattle.draft.specs.Table.{roomOf}
 use Rattle.draft.specs.Read.{Reading, callItem, responseItem, callOrResponse, prefix, agree, message, messageWithin}
+use Rattle.draft.proofs.Limiting.{limit-is}
 use Rattle.draft.proofs.Naming.{number-own}
 use Rattle.codebook.specs.Words.{bookOf}
 use Rattle.codebook.proofs.Recording.{clear-holds}
@@ -45,48 +47,56 @@ module _ (s : List ℕ) (deep at : ℕ) (book : Book) {bytes room from r : ℕ} 
 pub ruleset messages = (first-short, first-call, first-response, first-neither)
 
 -- what follows the first bytes, read into zeros with an empty codebook
-module _ (s : List ℕ) (words : ℕ) {room from : ℕ} {T T₁ W W₁ : List ℕ} {step : Step} (f : room ≡ roomOf 4096 words) (w : W ≡ replicate 512 0) (d : Did (callOrResponse s room 32 12 0 (bookOf W)) (length s) room from 0 T T₁ W₁ step) where
-  began : callOrResponse s (roomOf 4096 words) 32 12 0 clear ≡ callOrResponse s room 32 12 0 (bookOf W)
+module _ (s : List ℕ) (deep words : ℕ) {room from : ℕ} {T T₁ W W₁ : List ℕ} {step : Step} (f : room ≡ roomOf 4096 words) (w : W ≡ replicate 512 0) (d : Did (callOrResponse s room deep 12 0 (bookOf W)) (length s) room from 0 T T₁ W₁ step) where
+  began : callOrResponse s (roomOf 4096 words) deep 12 0 clear ≡ callOrResponse s room deep 12 0 (bookOf W)
   began = simp (f, w, clear-holds 512)
 
-  pub body-no : (words₁ : ℕ) {T′ : List ℕ} {m : Refusal} → (step .number ≡ 0 → ⊥) → m ≡ refusalOf (step .number) → T′ ≡ replicate words₁ 0 → words₁ ≡ words → Answers (callOrResponse s (roomOf 4096 words) 32 12 0 clear) words T′ (answer.Refused m (step .at))
+  pub body-no : (words₁ : ℕ) {T′ : List ℕ} {m : Refusal} → (step .number ≡ 0 → ⊥) → m ≡ refusalOf (step .number) → T′ ≡ replicate words₁ 0 → words₁ ≡ words → Answers (callOrResponse s (roomOf 4096 words) deep 12 0 clear) words T′ (answer.Refused m (step .at))
   body-no words₁ {T′} {m} n i t k = go (did-not d n)
     where
-      go : Not (callOrResponse s room 32 12 0 (bookOf W)) step → Answers (callOrResponse s (roomOf 4096 words) 32 12 0 clear) words T′ (answer.Refused m (step .at))
+      go : Not (callOrResponse s room deep 12 0 (bookOf W)) step → Answers (callOrResponse s (roomOf 4096 words) deep 12 0 clear) words T′ (answer.Refused m (step .at))
       go z =
           let o = began ∙ z .reading in
           let q : step .at ≡ z .place = ap (λ (x : Step). x .at) (z .says) in
           let y : m ≡ z .why = i ∙ ap (λ (x : Step). refusalOf (x .number)) (z .says) ∙ number-own (z .why) in
           record { says = simp (o, q, y); leaves = t ∙ simp (o, k) }
 
-  pub body-got : step .number ≡ 0 → T ≡ replicate words 0 → Answers (callOrResponse s (roomOf 4096 words) 32 12 0 clear) words T₁ (answer.Accepted (step .row) (step .at))
+  pub body-got : step .number ≡ 0 → T ≡ replicate words 0 → Answers (callOrResponse s (roomOf 4096 words) deep 12 0 clear) words T₁ (answer.Accepted (step .row) (step .at))
   body-got e t = go (did-next d e)
     where
-      go : Got (callOrResponse s room 32 12 0 (bookOf W)) (length s) room from 0 T T₁ W₁ step → Answers (callOrResponse s (roomOf 4096 words) 32 12 0 clear) words T₁ (answer.Accepted (step .row) (step .at))
+      go : Got (callOrResponse s room deep 12 0 (bookOf W)) (length s) room from 0 T T₁ W₁ step → Answers (callOrResponse s (roomOf 4096 words) deep 12 0 clear) words T₁ (answer.Accepted (step .row) (step .at))
       go g =
           let o = began ∙ g .reading in
           let n : step .row ≡ length (g .rows) = g .next ∙ zero-add _ in
           record { says = simp (o, n); leaves = g .wrote ∙ simp (o, f, t) }
 
 -- the whole message
-module _ (s : List ℕ) (words : ℕ) where
-  pub read-long : {T′ : List ℕ} → T′ ≡ replicate words 0 → 65536 < length s → Answers (reading s words) words T′ (answer.Refused TooLong 0)
-  unfolding reading messageWithin
-  read-long w h = record { says = simp (lt-leb _ _ h); leaves = simp (lt-leb _ _ h, w) }
+pub read-unlimited : (s : List ℕ) (words limit : ℕ) {T′ : List ℕ} {a : Bool} → a ≡ allowed limit → a ≡ false → T′ ≡ replicate words 0 → Answers (reading limit s words) words T′ (answer.Refused NoLimit 0)
+unfolding reading
+read-unlimited s words limit p q w = let g : allowed limit ≡ false = cc in record { says = simp (g); leaves = simp (g, w) }
 
-  module _ {b : Bool} (h : length s ≤ 65536) (a : b ≡ agree s prefix) where
-    pub read-wrong : {T′ : List ℕ} → b ≡ false → T′ ≡ replicate words 0 → Answers (reading s words) words T′ (answer.Refused WrongPrefix 0)
+-- by a limit that may be stated
+pub read-stated : (s : List ℕ) (words limit words₁ : ℕ) {T′ : List ℕ} {r : Answer} → Answers (reading limit s words₁) words₁ T′ r → words₁ ≡ words → Answers (reading limit s words) words T′ r
+read-stated s words limit words₁ d k = rw (← k) d
+
+module _ (s : List ℕ) (words limit : ℕ) (stated : allowed limit ≡ true) where
+  pub read-long : {T′ : List ℕ} → T′ ≡ replicate words 0 → 65536 < length s → Answers (reading limit s words) words T′ (answer.Refused TooLong 0)
+  unfolding reading messageWithin
+  read-long w h = record { says = simp (stated, lt-leb _ _ h); leaves = simp (stated, lt-leb _ _ h, w) }
+
+  module _ {b : Bool} (h : length s ≤ 65536) (v : b ≡ agree s prefix) where
+    pub read-wrong : {T′ : List ℕ} → b ≡ false → T′ ≡ replicate words 0 → Answers (reading limit s words) words T′ (answer.Refused WrongPrefix 0)
     unfolding reading messageWithin message
-    read-wrong i w = let e : agree s prefix ≡ false = cc in record { says = simp (le-leb _ _ h, e); leaves = simp (le-leb _ _ h, e, w) }
+    read-wrong i w = let e : agree s prefix ≡ false = cc in record { says = simp (stated, le-leb _ _ h, e); leaves = simp (stated, le-leb _ _ h, e, w) }
 
     module _ (i : b ≡ true) where
-      pub read-short : {T′ : List ℕ} → T′ ≡ replicate words 0 → length s < 12 → Answers (reading s words) words T′ (answer.Refused Ended 0)
+      pub read-short : {T′ : List ℕ} → T′ ≡ replicate words 0 → length s < 12 → Answers (reading limit s words) words T′ (answer.Refused Ended 0)
       unfolding reading messageWithin message
-      read-short w l = let e : agree s prefix ≡ true = cc in record { says = simp (le-leb _ _ h, e, lt-leb _ _ l); leaves = simp (le-leb _ _ h, e, lt-leb _ _ l, w) }
+      read-short w l = let e : agree s prefix ≡ true = cc in record { says = simp (stated, le-leb _ _ h, e, lt-leb _ _ l); leaves = simp (stated, le-leb _ _ h, e, lt-leb _ _ l, w) }
 
-      pub read-on : (words₁ : ℕ) {T′ : List ℕ} {r : Answer} → 12 ≤ length s → Answers (callOrResponse s (roomOf 4096 words₁) 32 12 0 clear) words₁ T′ r → words₁ ≡ words → Answers (reading s words) words T′ r
+      pub read-on : (words₁ : ℕ) {T′ : List ℕ} {r : Answer} → 12 ≤ length s → Answers (callOrResponse s (roomOf 4096 words₁) limit 12 0 clear) words₁ T′ r → words₁ ≡ words → Answers (reading limit s words) words T′ r
       unfolding reading messageWithin message
-      read-on words₁ l d k = let e : agree s prefix ≡ true = cc in rw (le-leb _ _ h, e, le-leb _ _ l, ← k) d
+      read-on words₁ l d k = let e : agree s prefix ≡ true = cc in rw (stated, le-leb _ _ h, e, le-leb _ _ l, ← k) d
 
 pub zeros : (words words₁ : ℕ) {T : List ℕ} → T ≡ replicate words 0 → words₁ ≡ words → T ≡ replicate words₁ 0
 zeros words words₁ e k = rw k e
@@ -95,4 +105,4 @@ zeros words words₁ e k = rw k e
 pub many-enough : (room bytes : ℕ) → room ≤ 4096 → min room bytes ≤ 12288 / 3
 many-enough room bytes h = omega arith
 
-pub ruleset whole = (many-enough, body-no, body-got, read-long, read-wrong, read-short, read-on, zeros)
+pub ruleset whole = (many-enough, body-no, body-got, limit-is, read-unlimited, read-stated, read-long, read-wrong, read-short, read-on, zeros)

@@ -1,18 +1,21 @@
--- What reading a whole message gives: its answer, and the table after it. Both depend on the message and the table's length alone.
+-- What reading a whole message gives: its answer, and the table after it. Both depend on the
+-- message, the limit of nesting and the table's length alone.
 -- Assumes nothing.
 use mathlib.Core.Path.{_≡_}
 use mathlib.Core.List.{List}
 use Prim.Native.Nat.{ℕ}
 use lib.ListN.{length, replicate}
+use Rattle.draft.specs.declared.Refusal.the-variants.{NoLimit}
 use Rattle.draft.specs.Refusals.{numberOf}
+use Rattle.draft.specs.Limits.{allowed}
 use Rattle.draft.specs.Table.{roomOf, putRows}
-use Rattle.draft.specs.Read.{Reading, got, refused, messageWithin}
+use Rattle.draft.specs.Read.{Reading, got, refused, pick, messageWithin}
 use Rattle.reader.specs.declared.Answer.{Answer}
 use Rattle.reader.specs.declared.Answer.the-variants.{Accepted, Refused}
 
--- document 01's limits: 65,536 bytes, 4,096 rows, nesting to 32
-unfoldable pub reading : List ℕ → ℕ → Reading
-reading s words = messageWithin 65536 s (roomOf 4096 words) 32
+-- document 01's limits, 65,536 bytes and 4,096 rows, and nesting to the limit that the call states: 23 'for a limit outside 1 to 32' (02, E11)
+unfoldable pub reading : ℕ → List ℕ → ℕ → Reading
+reading limit s words = pick (allowed limit) (messageWithin 65536 s (roomOf 4096 words) limit) (refused NoLimit 0)
 
 abbrev pub answerOf : Reading → Answer
 answerOf (refused refusal place) = Refused refusal place

@@ -2,9 +2,11 @@
 use draft::Refusal;
 use item::Step;
 ghost use mathlib.Core.Path.{_≡_};
+ghost use mathlib.Core.Bool.{true};
 ghost use Prim.Native.Nat.{_+_, _≤_, min};
 ghost use lib.ListN.{length, replicate};
 ghost use Rattle.draft.specs.Read.{callOrResponse, prefix, agree};
+ghost use Rattle.draft.specs.Limits.{allowed};
 ghost use Rattle.draft.specs.Codebook.{clear};
 ghost use Rattle.draft.specs.Table.{roomOf};
 ghost use Rattle.codebook.specs.Words.{bookOf};
@@ -18,10 +20,8 @@ pub enum Answer {
     Refused { refusal: Refusal, place: usize },
 }
 
-// Document 01's limits.
+// Document 01's limit.
 const MOST_BYTES: usize = 65536;
-
-const MOST_NESTING: usize = 32;
 
 fn read_call_or_response(
     s: &[u8],
@@ -68,33 +68,33 @@ fn agrees(s: &[u8]) -> bool
 
 // Notes on keys for up to 64 rows. Laying out the largest takes longer than reading a small message, so a small one gets small ones; the
 // length of an array has to be a constant, so there is a function for each.
-fn read_few(s: &[u8], room: usize, table: &mut [u32], book: &mut [u32]) -> Step
+fn read_few(s: &[u8], deep: usize, room: usize, table: &mut [u32], book: &mut [u32]) -> Step
     requires { ⌜ Ready 12 0 room (length (now s)) (length (now table)) (length (now book)) × (min room (length (now s)) ≤ 64) ⌝ }
-    ensures { λ r. ⌜ Did (callOrResponse (now (s .entry)) room 32 12 0 (bookOf (now (book .entry)))) (length (now (s .entry))) room 13 0 (now (table .entry)) (now (table .exit)) (now (book .exit)) r ⌝ }
+    ensures { λ r. ⌜ Did (callOrResponse (now (s .entry)) room deep 12 0 (bookOf (now (book .entry)))) (length (now (s .entry))) room 13 0 (now (table .entry)) (now (table .exit)) (now (book .exit)) r ⌝ }
 {
     let mut words = [0u16; 192];
     let notes: &mut [u16] = &mut words;
-    read_call_or_response(s, 12, 0, MOST_NESTING, room, table, book, notes)
+    read_call_or_response(s, 12, 0, deep, room, table, book, notes)
 }
 
 // For up to 512 rows.
-fn read_some(s: &[u8], room: usize, table: &mut [u32], book: &mut [u32]) -> Step
+fn read_some(s: &[u8], deep: usize, room: usize, table: &mut [u32], book: &mut [u32]) -> Step
     requires { ⌜ Ready 12 0 room (length (now s)) (length (now table)) (length (now book)) × (min room (length (now s)) ≤ 512) ⌝ }
-    ensures { λ r. ⌜ Did (callOrResponse (now (s .entry)) room 32 12 0 (bookOf (now (book .entry)))) (length (now (s .entry))) room 13 0 (now (table .entry)) (now (table .exit)) (now (book .exit)) r ⌝ }
+    ensures { λ r. ⌜ Did (callOrResponse (now (s .entry)) room deep 12 0 (bookOf (now (book .entry)))) (length (now (s .entry))) room 13 0 (now (table .entry)) (now (table .exit)) (now (book .exit)) r ⌝ }
 {
     let mut words = [0u16; 1536];
     let notes: &mut [u16] = &mut words;
-    read_call_or_response(s, 12, 0, MOST_NESTING, room, table, book, notes)
+    read_call_or_response(s, 12, 0, deep, room, table, book, notes)
 }
 
 // For as many rows as a table may have.
-fn read_many(s: &[u8], room: usize, table: &mut [u32], book: &mut [u32]) -> Step
+fn read_many(s: &[u8], deep: usize, room: usize, table: &mut [u32], book: &mut [u32]) -> Step
     requires { ⌜ Ready 12 0 room (length (now s)) (length (now table)) (length (now book)) ⌝ }
-    ensures { λ r. ⌜ Did (callOrResponse (now (s .entry)) room 32 12 0 (bookOf (now (book .entry)))) (length (now (s .entry))) room 13 0 (now (table .entry)) (now (table .exit)) (now (book .exit)) r ⌝ }
+    ensures { λ r. ⌜ Did (callOrResponse (now (s .entry)) room deep 12 0 (bookOf (now (book .entry)))) (length (now (s .entry))) room 13 0 (now (table .entry)) (now (table .exit)) (now (book .exit)) r ⌝ }
 {
     let mut words = [0u16; 12288];
     let notes: &mut [u16] = &mut words;
-    read_call_or_response(s, 12, 0, MOST_NESTING, room, table, book, notes)
+    read_call_or_response(s, 12, 0, deep, room, table, book, notes)
 }
 
 fn fewer(a: usize, b: usize) -> usize
@@ -104,29 +104,29 @@ fn fewer(a: usize, b: usize) -> usize
 }
 
 // The first item, with notes on keys for as many rows as there can be: no more than there is room for, nor than the message has bytes.
-fn read_first(s: &[u8], room: usize, table: &mut [u32], book: &mut [u32]) -> Step
+fn read_first(s: &[u8], deep: usize, room: usize, table: &mut [u32], book: &mut [u32]) -> Step
     requires { ⌜ Ready 12 0 room (length (now s)) (length (now table)) (length (now book)) ⌝ }
-    ensures { λ r. ⌜ Did (callOrResponse (now (s .entry)) room 32 12 0 (bookOf (now (book .entry)))) (length (now (s .entry))) room 13 0 (now (table .entry)) (now (table .exit)) (now (book .exit)) r ⌝ }
+    ensures { λ r. ⌜ Did (callOrResponse (now (s .entry)) room deep 12 0 (bookOf (now (book .entry)))) (length (now (s .entry))) room 13 0 (now (table .entry)) (now (table .exit)) (now (book .exit)) r ⌝ }
 {
     let rows = fewer(room, s.len());
     if rows <= 64 {
-        return read_few(s, room, table, book);
+        return read_few(s, deep, room, table, book);
     }
     if rows <= 512 {
-        return read_some(s, room, table, book);
+        return read_some(s, deep, room, table, book);
     }
-    read_many(s, room, table, book)
+    read_many(s, deep, room, table, book)
 }
 
 // What follows the first 12 bytes, into a table of zeros.
-fn read_body(s: &[u8], table: &mut [u32]) -> Answer
+fn read_body(s: &[u8], deep: usize, table: &mut [u32]) -> Answer
     requires { ⌜ (12 ≤ length (now s)) × (length (now s) ≤ 65536) × (now table ≡ replicate (length (now table)) 0) ⌝ }
-    ensures { λ r. ⌜ Answers (callOrResponse (now (s .entry)) (roomOf 4096 (length (now (table .entry)))) 32 12 0 clear) (length (now (table .entry))) (now (table .exit)) r ⌝ }
+    ensures { λ r. ⌜ Answers (callOrResponse (now (s .entry)) (roomOf 4096 (length (now (table .entry)))) deep 12 0 clear) (length (now (table .entry))) (now (table .exit)) r ⌝ }
 {
     let room = table::room_of(table.len());
     let mut words = [0u32; 512];
     let book: &mut [u32] = &mut words;
-    let step = read_first(s, room, table, book);
+    let step = read_first(s, deep, room, table, book);
     if step.number != 0 {
         table::clear(table);
         return Answer::Refused {
@@ -140,11 +140,11 @@ fn read_body(s: &[u8], table: &mut [u32]) -> Answer
     }
 }
 
-// Reads a message into a table. Every word of the table is settled: the rows, and zeros behind them; on a refusal, zeros.
-pub fn read(message: &[u8], table: &mut [u32]) -> Answer
-    ensures { λ r. ⌜ Answers (reading (now (message .entry)) (length (now (table .entry)))) (length (now (table .entry))) (now (table .exit)) r ⌝ }
+// The whole message, into a table of zeros.
+fn read_within(message: &[u8], limit: usize, table: &mut [u32]) -> Answer
+    requires { ⌜ (allowed limit ≡ true) × (now table ≡ replicate (length (now table)) 0) ⌝ }
+    ensures { λ r. ⌜ Answers (reading limit (now (message .entry)) (length (now (table .entry)))) (length (now (table .entry))) (now (table .exit)) r ⌝ }
 {
-    table::clear(table);
     if MOST_BYTES < message.len() {
         return Answer::Refused {
             refusal: Refusal::TooLong,
@@ -158,11 +158,26 @@ pub fn read(message: &[u8], table: &mut [u32]) -> Answer
                 place: 0,
             };
         }
-        read_body(message, table)
+        read_body(message, limit, table)
     } else {
         Answer::Refused {
             refusal: Refusal::WrongPrefix,
             place: 0,
         }
+    }
+}
+
+// Reads a message into a table, nested to at most the limit that is stated. Every word of the table is settled: the rows, and zeros behind them;
+// on a refusal, zeros.
+pub fn read(message: &[u8], table: &mut [u32], limit: usize) -> Answer
+    ensures { λ r. ⌜ Answers (reading limit (now (message .entry)) (length (now (table .entry)))) (length (now (table .entry))) (now (table .exit)) r ⌝ }
+{
+    table::clear(table);
+    if draft::allowed(limit) {
+        return read_within(message, limit, table);
+    }
+    Answer::Refused {
+        refusal: Refusal::NoLimit,
+        place: 0,
     }
 }

@@ -11,7 +11,7 @@ fn complain(number: u8, place: usize) {
 
 // The written form of a table that was read, whose texts lie in its message.
 fn write_form(table: &[u32], rows: usize, message: &[u8], output: &mut [u8]) {
-    let answer = writer::write(table, rows, message, output);
+    let answer = writer::write(table, rows, message, draft::MOST_NESTING, output);
     match answer {
         writer::Answer::Written { length } => {
             console::write(content::part(output, 0, length));
@@ -25,7 +25,7 @@ fn write_form(table: &[u32], rows: usize, message: &[u8], output: &mut [u8]) {
 fn rewrite(message: &[u8]) {
     let mut table = [0u32; 16384];
     let mut output = [0u8; 65536];
-    let answer = reader::read(message, &mut table);
+    let answer = reader::read(message, &mut table, draft::MOST_NESTING);
     match answer {
         reader::Answer::Accepted { rows, used: _ } => {
             write_form(&table, rows, message, &mut output);

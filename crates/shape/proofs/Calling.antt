@@ -21,7 +21,7 @@ use Rattle.draft.specs.Rows.{itemOf}
 use Rattle.draft.specs.Table.{roomOf, rowAt, from}
 use Rattle.draft.specs.Content.{faultRule}
 use Rattle.draft.specs.Read.{heldRows}
-use Rattle.draft.specs.Writable.{only, string, structItem, item, nested, faultStruct, first, callOrResponse, wholly, writableWithin, writable}
+use Rattle.draft.specs.Writable.{only, string, structItem, item, nested, faultStruct, first, callOrResponse, wholly, writableWithin, writable, writableTo}
 use Rattle.extents.specs.Asked.{Ready, Checked, Walkable}
 use Rattle.extents.specs.Ends.{extentOf}
 use Rattle.extents.proofs.Walking.{none-found, some-found, only-there}
@@ -88,29 +88,34 @@ wholly-is zero {rows} h = ne-eqb 0 rows (λ e. omega arith)
 wholly-is (suc n) h = refl
 
 -- the whole table
-module _ (T : List ℕ) (rows : ℕ) (s : List ℕ) where
-  pub table-long : 65536 < length s → false ≡ writable T rows s
-  unfolding writable writableWithin
+module _ (deep : ℕ) (T : List ℕ) (rows : ℕ) (s : List ℕ) where
+  pub table-long : 65536 < length s → false ≡ writableTo deep T rows s
+  unfolding writableTo writableWithin
   table-long h = rw (lt-leb _ _ h)
 
   module _ (h : length s ≤ 65536) where
-    pub table-empty : rows < 1 → false ≡ writable T rows s
-    unfolding writable writableWithin
+    pub table-empty : rows < 1 → false ≡ writableTo deep T rows s
+    unfolding writableTo writableWithin
     table-empty i = rw (le-leb _ _ h, lt-leb 1 rows i)
 
     module _ (i : 1 ≤ rows) where
-      pub table-many : 4096 < rows → false ≡ writable T rows s
-      unfolding writable writableWithin
+      pub table-many : 4096 < rows → false ≡ writableTo deep T rows s
+      unfolding writableTo writableWithin
       table-many j = rw (le-leb _ _ h, le-leb 1 rows i, lt-leb rows 4096 j)
 
       module _ (j : rows ≤ 4096) where
-        pub table-short : length T < rows * 4 → false ≡ writable T rows s
-        unfolding writable writableWithin
+        pub table-short : length T < rows * 4 → false ≡ writableTo deep T rows s
+        unfolding writableTo writableWithin
         table-short k = rw (le-leb _ _ h, le-leb 1 rows i, le-leb rows 4096 j, lt-leb (rows * 4) (length T) k)
 
-        pub table-walked : (n : ℕ) {room : ℕ} → rows * 4 ≤ length T → room ≡ roomOf 4096 (length T) → extentOf n ≡ callOrResponse (rowAt room T) rows s 32 0 → eqb n rows ≡ writable T rows s
-        unfolding writable writableWithin
+        pub table-walked : (n : ℕ) {room : ℕ} → rows * 4 ≤ length T → room ≡ roomOf 4096 (length T) → extentOf n ≡ callOrResponse (rowAt room T) rows s deep 0 → eqb n rows ≡ writableTo deep T rows s
+        unfolding writableTo writableWithin
         table-walked n k l m = wholly-is n (omega arith) ∙ rw (le-leb _ _ h, le-leb 1 rows i, le-leb rows 4096 j, le-leb (rows * 4) (length T) k, m, l)
+
+-- judged at 32
+pub table-judged : (T : List ℕ) (rows : ℕ) (s : List ℕ) {b : Bool} → b ≡ writableTo 32 T rows s → b ≡ writable T rows s
+unfolding writable writableTo
+table-judged T rows s e = e
 
 -- no row's Strings were checked before
 pub checked-none : {row : ℕ → Row} {s : List ℕ} → Checked row s 0
@@ -131,4 +136,4 @@ ready-table words h i e = record { stated = omega (arith, e); most = omega (arit
 pub rows-few : {rows room words : ℕ} → Ready rows room words → rows ≤ 4096
 rows-few h = omega (arith, h .stated, h .most)
 
-pub ruleset whole = (rows-few, table-long, table-empty, table-many, table-short, table-walked, ready-table, checked-none, all-bytes)
+pub ruleset whole = (rows-few, table-long, table-empty, table-many, table-short, table-walked, table-judged, ready-table, checked-none, all-bytes)

@@ -5,16 +5,13 @@ ghost use mathlib.Core.Path.{_≡_};
 ghost use Prim.Native.Nat.{_+_, _≤_, _<_};
 ghost use lib.ListN.{length, replicate};
 ghost use Rattle.draft.specs.Table.{rowAt};
-ghost use Rattle.draft.specs.Writable.{only, string, arrayItem, nested, pair, faultStruct, callOrResponse, writable as writableBy};
+ghost use Rattle.draft.specs.Writable.{only, string, arrayItem, nested, pair, faultStruct, callOrResponse, writableTo, writable as writableBy};
 ghost use Rattle.extents.specs.Asked.{Ready, Checked, Walkable};
 ghost use Rattle.extents.specs.Ends.{extentOf};
 ghost use Rattle.key_rows.specs.Contract.{Entries, Prepared};
 
 // The most bytes that the texts may lie in.
 pub const MOST_BYTES: usize = 65536;
-
-// How many Arrays and Structs may stand in one another.
-pub const MOST_NESTING: usize = 32;
 
 // Strings of fewer bytes altogether are checked one by one, as the rows are walked.
 const MANY_BYTES: usize = 8388608;
@@ -111,47 +108,75 @@ fn walk_call_or_response(
 
 // Notes on keys for up to 64 rows. Laying out the largest takes longer than walking a small table, so a small one gets small ones; the
 // length of an array has to be a constant, so there is a function for each.
-fn walk_few(table: &[u32], room: usize, rows: usize, text: &[u8], good: usize) -> usize
+fn walk_few(
+    table: &[u32],
+    room: usize,
+    rows: usize,
+    text: &[u8],
+    good: usize,
+    deep: usize,
+) -> usize
     requires { ⌜ Walkable (now text) room rows (now table) good × (rows ≤ 64) ⌝ }
-    ensures { λ e. ⌜ extentOf e ≡ callOrResponse (rowAt room (now (table .entry))) rows (now (text .entry)) 32 0 ⌝ }
+    ensures { λ e. ⌜ extentOf e ≡ callOrResponse (rowAt room (now (table .entry))) rows (now (text .entry)) deep 0 ⌝ }
 {
     let mut words = [0u16; 192];
     let notes: &mut [u16] = &mut words;
-    walk_call_or_response(table, room, rows, text, good, MOST_NESTING, 0, notes)
+    walk_call_or_response(table, room, rows, text, good, deep, 0, notes)
 }
 
 // For up to 1,024 rows.
-fn walk_some(table: &[u32], room: usize, rows: usize, text: &[u8], good: usize) -> usize
+fn walk_some(
+    table: &[u32],
+    room: usize,
+    rows: usize,
+    text: &[u8],
+    good: usize,
+    deep: usize,
+) -> usize
     requires { ⌜ Walkable (now text) room rows (now table) good × (rows ≤ 1024) ⌝ }
-    ensures { λ e. ⌜ extentOf e ≡ callOrResponse (rowAt room (now (table .entry))) rows (now (text .entry)) 32 0 ⌝ }
+    ensures { λ e. ⌜ extentOf e ≡ callOrResponse (rowAt room (now (table .entry))) rows (now (text .entry)) deep 0 ⌝ }
 {
     let mut words = [0u16; 3072];
     let notes: &mut [u16] = &mut words;
-    walk_call_or_response(table, room, rows, text, good, MOST_NESTING, 0, notes)
+    walk_call_or_response(table, room, rows, text, good, deep, 0, notes)
 }
 
 // For as many rows as a table may have.
-fn walk_many(table: &[u32], room: usize, rows: usize, text: &[u8], good: usize) -> usize
+fn walk_many(
+    table: &[u32],
+    room: usize,
+    rows: usize,
+    text: &[u8],
+    good: usize,
+    deep: usize,
+) -> usize
     requires { ⌜ Walkable (now text) room rows (now table) good ⌝ }
-    ensures { λ e. ⌜ extentOf e ≡ callOrResponse (rowAt room (now (table .entry))) rows (now (text .entry)) 32 0 ⌝ }
+    ensures { λ e. ⌜ extentOf e ≡ callOrResponse (rowAt room (now (table .entry))) rows (now (text .entry)) deep 0 ⌝ }
 {
     let mut words = [0u16; 12288];
     let notes: &mut [u16] = &mut words;
-    walk_call_or_response(table, room, rows, text, good, MOST_NESTING, 0, notes)
+    walk_call_or_response(table, room, rows, text, good, deep, 0, notes)
 }
 
 // The Call or Response of row 0, with notes on keys for the stated rows.
-fn walk_first(table: &[u32], room: usize, rows: usize, text: &[u8], good: usize) -> usize
+fn walk_first(
+    table: &[u32],
+    room: usize,
+    rows: usize,
+    text: &[u8],
+    good: usize,
+    deep: usize,
+) -> usize
     requires { ⌜ Walkable (now text) room rows (now table) good ⌝ }
-    ensures { λ e. ⌜ extentOf e ≡ callOrResponse (rowAt room (now (table .entry))) rows (now (text .entry)) 32 0 ⌝ }
+    ensures { λ e. ⌜ extentOf e ≡ callOrResponse (rowAt room (now (table .entry))) rows (now (text .entry)) deep 0 ⌝ }
 {
     if rows <= 64 {
-        return walk_few(table, room, rows, text, good);
+        return walk_few(table, room, rows, text, good, deep);
     }
     if rows <= 1024 {
-        return walk_some(table, room, rows, text, good);
+        return walk_some(table, room, rows, text, good, deep);
     }
-    walk_many(table, room, rows, text, good)
+    walk_many(table, room, rows, text, good, deep)
 }
 
 // The rows whose long Strings need no check when they are walked: none, unless all Strings together may be very long.
@@ -165,9 +190,9 @@ fn checked_before(table: &[u32], room: usize, rows: usize, text: &[u8]) -> usize
     long_texts::good_rows(table, room, rows, text)
 }
 
-// Whether a table with a stated number of rows is writable, its texts lying in the text bytes.
-pub fn writable(table: &[u32], rows: usize, text: &[u8]) -> bool
-    ensures { λ b. ⌜ b ≡ writableBy (now (table .entry)) rows (now (text .entry)) ⌝ }
+// Whether a table with a stated number of rows is writable, its texts lying in the text bytes, with Arrays and Structs nested to at most so deep.
+pub fn writable_to(table: &[u32], rows: usize, text: &[u8], deep: usize) -> bool
+    ensures { λ b. ⌜ b ≡ writableTo deep (now (table .entry)) rows (now (text .entry)) ⌝ }
 {
     if MOST_BYTES < text.len() {
         return false;
@@ -183,5 +208,12 @@ pub fn writable(table: &[u32], rows: usize, text: &[u8]) -> bool
     }
     let room = table::room_of(table.len());
     let good = checked_before(table, room, rows, text);
-    walk_first(table, room, rows, text, good) == rows
+    walk_first(table, room, rows, text, good, deep) == rows
+}
+
+// Whether a table is writable, nested to at most 32: one that is looked at, and not written.
+pub fn writable(table: &[u32], rows: usize, text: &[u8]) -> bool
+    ensures { λ b. ⌜ b ≡ writableBy (now (table .entry)) rows (now (text .entry)) ⌝ }
+{
+    writable_to(table, rows, text, draft::MOST_NESTING)
 }

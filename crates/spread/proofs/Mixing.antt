@@ -1,6 +1,7 @@
 -- What answers the returns and turns of the functions that find a text's bucket. Assumes nothing.
 use Prim.Native.Nat.{ℕ, zero, suc, _+_, _-_, _*_, _/_, _%_, _≤_, _<_, min}
 use mathlib.Core.Path.{_≡_, refl, sym, ap, _∙_}
+use mathlib.Core.Bool.{Bool, true, false, _&&_}
 use mathlib.Core.List.{List, [], _∷_}
 use native.Mathlib.Omega.{arith}
 use native.Mathlib.Nat.{add-zero, mod-lt, mul-lt-mul-of-pos-right, mul-le-mul-left}
@@ -8,10 +9,12 @@ use native.Mathlib.Numerals.{add-one}
 use mir.Syntax.{w64}
 use mir.Val.{Fits}
 use lib.ListN.{length, getD}
-use borrow.Author.Tests.{le-leb, lt-leb}
+use lib.Dec.{leb}
+use borrow.Author.Tests.{le-leb, lt-leb, leb-true}
+use Rattle.text.proofs.Comparing.{both}
 use Rattle.draft.specs.Bytes.{unsignedAt}
 use Rattle.draft.specs.Strings.{Text}
-use Rattle.spread.specs.Buckets.{mixed, fours, long, five, mixedOf, bucketOf, folded, lane, whole, wholeBucketOf}
+use Rattle.spread.specs.Buckets.{mixed, fours, long, five, short, three, otherOf, mixedOf, scaledBy, bucketOf, folded, lane, whole, wholeOf, wholeBucketOf}
 
 pub none-past : (t : List ℕ) (i : ℕ) → length t ≤ i → _≡_ {A = ℕ} 0 (getD t i 0)
 none-past [] zero h = refl
@@ -42,21 +45,33 @@ module _ (t : Text) where
   unfolding five
   five-is m ea eb ec ed ee ep eq er ex = ex ∙ rw (er, eq, ep, ea, eb, ec, ed, ee)
 
-  pub mixed-five : {x : ℕ} → 4 ≤ length t → length t ≤ 20 → x ≡ five t (length t - 4) → x ≡ mixedOf t
-  unfolding mixedOf
-  mixed-five h k e = e ∙ rw (le-leb 4 (length t) h, le-leb (length t) 20 k)
+  pub other-five : {x : ℕ} → 4 ≤ length t → length t ≤ 20 → x ≡ five t (length t - 4) → x ≡ otherOf t
+  unfolding otherOf
+  other-five h k e = e ∙ rw (le-leb 4 (length t) h, le-leb (length t) 20 k)
 
-  pub mixed-long : {x : ℕ} → 4 ≤ length t → 20 < length t → x ≡ long t → x ≡ mixedOf t
-  unfolding mixedOf
-  mixed-long h k e = e ∙ rw (le-leb 4 (length t) h, lt-leb (length t) 20 k)
+  pub other-long : {x : ℕ} → 4 ≤ length t → 20 < length t → x ≡ long t → x ≡ otherOf t
+  unfolding otherOf
+  other-long h k e = e ∙ rw (le-leb 4 (length t) h, lt-leb (length t) 20 k)
 
-  pub mixed-short : {x : ℕ} → length t < 4 → x ≡ long t → x ≡ mixedOf t
-  unfolding mixedOf
-  mixed-short h e = e ∙ rw (lt-leb 4 (length t) h)
+  pub other-short : {x : ℕ} → length t < 4 → x ≡ long t → x ≡ otherOf t
+  unfolding otherOf
+  other-short h e = e ∙ rw (lt-leb 4 (length t) h)
 
-  pub bucket-is : (buckets salt : ℕ) {h x : ℕ} → h ≡ mixedOf t → x ≡ mixed h salt → x * buckets / 4294967296 ≡ bucketOf buckets salt t
+  pub three-is : (m : ℕ) {a b c p x : ℕ} → a ≡ unsignedAt t 0 → b ≡ unsignedAt t (m / 2) → c ≡ unsignedAt t m → p ≡ mixed a b → x ≡ mixed p c → x ≡ three t m
+  unfolding three
+  three-is m ea eb ec ep ex = ex ∙ rw (ep, ea, eb, ec)
+
+  pub mixed-three : {x : ℕ} {r : Bool} → r ≡ short (length t) → r ≡ true → x ≡ three t (length t - 4) → x ≡ mixedOf t
+  unfolding mixedOf
+  mixed-three q h e = e ∙ rw (sym q, h)
+
+  pub mixed-other : {x : ℕ} {r : Bool} → r ≡ short (length t) → r ≡ false → x ≡ otherOf t → x ≡ mixedOf t
+  unfolding mixedOf
+  mixed-other q h e = e ∙ rw (sym q, h)
+
+  pub bucket-is : (buckets salt : ℕ) {h x : ℕ} → h ≡ mixedOf t → x ≡ scaledBy buckets salt h → x ≡ bucketOf buckets salt t
   unfolding bucketOf
-  bucket-is buckets salt e f = rw (f, e)
+  bucket-is buckets salt e f = f ∙ rw e
 
 -- a long text
 module _ (t : Text) where
@@ -119,13 +134,21 @@ module _ (t : Text) where
   unfolding whole
   whole-is eh ea eb ec ed ex ey ez er = er ∙ rw (ez, ey, ex, eh, ea, eb, ec, ed)
 
-  pub bucket-short : (buckets salt : ℕ) {r : ℕ} → length t ≤ 64 → r ≡ bucketOf buckets salt t → r ≡ wholeBucketOf buckets salt t
-  unfolding wholeBucketOf
-  bucket-short buckets salt h e = e ∙ rw (le-leb (length t) 64 h)
+  pub whole-three : {x : ℕ} {r : Bool} → r ≡ short (length t) → r ≡ true → x ≡ three t (length t - 4) → x ≡ wholeOf t
+  unfolding wholeOf
+  whole-three q h e = e ∙ rw (sym q, h)
 
-  pub bucket-long : (buckets salt : ℕ) {h x : ℕ} → 64 < length t → h ≡ whole t → x ≡ mixed (h % 4294967296) salt → x * buckets / 4294967296 ≡ wholeBucketOf buckets salt t
+  pub whole-other : {x : ℕ} {r : Bool} → r ≡ short (length t) → r ≡ false → length t ≤ 64 → x ≡ otherOf t → x ≡ wholeOf t
+  unfolding wholeOf
+  whole-other q h k e = e ∙ rw (sym q, h, le-leb (length t) 64 k)
+
+  pub whole-long : {x : ℕ} {r : Bool} → r ≡ short (length t) → r ≡ false → 64 < length t → x ≡ whole t → x % 4294967296 ≡ wholeOf t
+  unfolding wholeOf
+  whole-long q h k e = rw (e, sym q, h, lt-leb (length t) 64 k)
+
+  pub whole-bucket-is : (buckets salt : ℕ) {h x : ℕ} → h ≡ wholeOf t → x ≡ scaledBy buckets salt h → x ≡ wholeBucketOf buckets salt t
   unfolding wholeBucketOf
-  bucket-long buckets salt l e f = rw (f, e, lt-leb (length t) 64 l)
+  whole-bucket-is buckets salt e f = f ∙ rw e
 
 pub folded-is : (h w : ℕ) {p : ℕ} → p ≡ (h + w) * 625341585 → p % 4294967296 + p / 4294967296 ≡ folded h w
 unfolding folded
@@ -133,6 +156,18 @@ folded-is h w e = rw e
 
 pub folded-small : (h w : ℕ) {p : ℕ} → h < 8589934592 → w < 8589934592 → p ≡ (h + w) * 625341585 → p % 4294967296 + p / 4294967296 < 8589934592
 folded-small h w l m e = omega arith
+
+pub short-is : (n : ℕ) → (leb 4 n && leb n 12) ≡ short n
+unfolding short
+short-is n = refl
+
+pub short-least : (n : ℕ) {r : Bool} → r ≡ short n → r ≡ true → 4 ≤ n
+unfolding short
+short-least n e f = leb-true 4 n (both (leb 4 n) (leb n 12) (sym e ∙ f) .0)
+
+pub scaled-is : (h buckets salt : ℕ) {x : ℕ} → x ≡ mixed h salt → x * buckets / 4294967296 ≡ scaledBy buckets salt h
+unfolding scaledBy
+scaled-is h buckets salt e = rw e
 
 pub mixed-is : (h w : ℕ) → (h + w) * 1540483477 % 4294967296 ≡ mixed h w
 unfolding mixed
@@ -147,4 +182,4 @@ scaled-fits h buckets l k = let m : h * buckets ≤ h * 4096 = mul-le-mul-left h
 pub scaled : (h buckets : ℕ) → h < 4294967296 → 0 < buckets → h * buckets / 4294967296 < buckets
 scaled h buckets l k = let m : h * buckets < 4294967296 * buckets = mul-lt-mul-of-pos-right l k in omega arith
 
-pub ruleset mixing = (none-past, last-short, fours-again, fours-done, fours-none, long-is, five-is, mixed-five, mixed-long, mixed-short, bucket-is, mixed-is, mixed-small, scaled-fits, scaled, lanes-first, lanes-done, whole-is, bucket-short, bucket-long, folded-is, folded-small)
+pub ruleset mixing = (none-past, last-short, fours-again, fours-done, fours-none, long-is, five-is, other-five, other-long, other-short, short-is, short-least, three-is, mixed-three, mixed-other, bucket-is, mixed-is, mixed-small, scaled-fits, scaled, scaled-is, lanes-first, lanes-done, whole-is, whole-three, whole-other, whole-long, whole-bucket-is, folded-is, folded-small)

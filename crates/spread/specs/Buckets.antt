@@ -1,7 +1,7 @@
 -- A text's bucket, of so many: its bytes, four at a time, and then a salt are mixed into a number below 2^32, which is scaled. Bytes that
 -- are not there count as 0. Assumes nothing.
 use Prim.Native.Nat.{ℕ, zero, suc, _+_, _-_, _*_, _/_, _%_, min}
-use mathlib.Core.Bool.{cond}
+use mathlib.Core.Bool.{Bool, cond, _&&_}
 use mathlib.Core.List.{List}
 use lib.ListN.{length}
 use lib.Dec.{leb}
@@ -24,12 +24,26 @@ unfoldable pub five : List ℕ → ℕ → ℕ
 five t m =
     mixed (mixed (mixed (mixed (unsignedAt t 0) (unsignedAt t (m / 4))) (unsignedAt t (m / 2))) (unsignedAt t (m * 3 / 4))) (unsignedAt t m)
 
-unfoldable pub mixedOf : List ℕ → ℕ
-mixedOf t = cond (leb 4 (length t)) (cond (leb (length t) 20) (five t (length t - 4)) (long t)) (long t)
+-- of a text of other lengths than 4 to 12 bytes
+unfoldable pub otherOf : List ℕ → ℕ
+otherOf t = cond (leb 4 (length t)) (cond (leb (length t) 20) (five t (length t - 4)) (long t)) (long t)
 
--- so that equal texts go to different buckets where the salts differ
+-- of 4 to 12 bytes each is in one of three fours that lie evenly in the text
+unfoldable pub short : ℕ → Bool
+short n = leb 4 n && leb n 12
+
+unfoldable pub three : List ℕ → ℕ → ℕ
+three t m = mixed (mixed (unsignedAt t 0) (unsignedAt t (m / 2))) (unsignedAt t m)
+
+unfoldable pub mixedOf : List ℕ → ℕ
+mixedOf t = cond (short (length t)) (three t (length t - 4)) (otherOf t)
+
+-- a salt, so that equal texts go to different buckets where the salts differ
+unfoldable pub scaledBy : ℕ → ℕ → ℕ → ℕ
+scaledBy buckets salt h = mixed h salt * buckets / 4294967296
+
 unfoldable pub bucketOf : ℕ → ℕ → List ℕ → ℕ
-bucketOf buckets salt t = mixed (mixedOf t) salt * buckets / 4294967296
+bucketOf buckets salt t = scaledBy buckets salt (mixedOf t)
 
 -- of a long text all bytes count, so that texts in one another that differ in a few bytes are spread too. What overflows is added, so that
 -- the highest bits of a four are not lost
@@ -58,6 +72,9 @@ whole t =
     (unsignedAt t (length t - 8)))
     (unsignedAt t (length t - 4))
 
--- a text's bucket by all its bytes
+-- a text by all its bytes
+unfoldable pub wholeOf : List ℕ → ℕ
+wholeOf t = cond (short (length t)) (three t (length t - 4)) (cond (leb (length t) 64) (otherOf t) (whole t % 4294967296))
+
 unfoldable pub wholeBucketOf : ℕ → ℕ → List ℕ → ℕ
-wholeBucketOf buckets salt t = cond (leb (length t) 64) (bucketOf buckets salt t) (mixed (whole t % 4294967296) salt * buckets / 4294967296)
+wholeBucketOf buckets salt t = scaledBy buckets salt (wholeOf t)

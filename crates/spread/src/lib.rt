@@ -3,7 +3,7 @@ ghost use mathlib.Core.Path.{_≡_};
 ghost use Prim.Native.Nat.{_+_, _*_, _-_, _≤_, _<_, _/_, min};
 ghost use lib.ListN.{length};
 ghost use Rattle.draft.specs.Bytes.{unsignedAt, byteAt};
-ghost use Rattle.spread.specs.Buckets.{mixed, fours, long, five, mixedOf, bucketOf, folded, lane, whole, wholeBucketOf};
+ghost use Rattle.spread.specs.Buckets.{mixed, fours, long, five, short, three, otherOf, mixedOf, scaledBy, bucketOf, folded, lane, whole, wholeOf, wholeBucketOf};
 
 // A byte as a number: the caller has no fit of the element to show.
 fn byte(x: u8) -> usize
@@ -87,8 +87,9 @@ fn mix_five(t: &[u8]) -> usize
     mix(more, four(t, m))
 }
 
-fn mix_text(t: &[u8]) -> usize
-    ensures { λ r. ⌜ (r ≡ mixedOf (now (t .entry))) × (r < 4294967296) ⌝ }
+// A text of other lengths than 4 to 12 bytes.
+fn mix_other(t: &[u8]) -> usize
+    ensures { λ r. ⌜ (r ≡ otherOf (now (t .entry))) × (r < 4294967296) ⌝ }
 {
     if 4 <= t.len() {
         if t.len() <= 20 {
@@ -99,12 +100,45 @@ fn mix_text(t: &[u8]) -> usize
     mix_long(t)
 }
 
+// Whether a text of n bytes has 4 to 12, as most keys have.
+fn is_short(n: usize) -> bool
+    ensures { λ r. ⌜ r ≡ short n ⌝ }
+{
+    (4 <= n) & (n <= 12)
+}
+
+fn mix_three(t: &[u8]) -> usize
+    requires { ⌜ 4 ≤ length (now t) ⌝ }
+    ensures { λ r. ⌜ (r ≡ three (now (t .entry)) (length (now (t .entry)) - 4)) × (r < 4294967296) ⌝ }
+{
+    let m = t.len() - 4;
+    let two = mix(four(t, 0), four(t, m / 2));
+    mix(two, four(t, m))
+}
+
+fn mix_text(t: &[u8]) -> usize
+    ensures { λ r. ⌜ (r ≡ mixedOf (now (t .entry))) × (r < 4294967296) ⌝ }
+{
+    if is_short(t.len()) {
+        return mix_three(t);
+    }
+    mix_other(t)
+}
+
+// A number and a salt, scaled to so many buckets.
+fn scale(h: usize, salt: usize, buckets: usize) -> usize
+    requires { ⌜ (h < 4294967296) × (salt < 4294967296) × (0 < buckets) × (buckets ≤ 4096) ⌝ }
+    ensures { λ r. ⌜ (r ≡ scaledBy buckets salt h) × (r < buckets) ⌝ }
+{
+    mix(h, salt) * buckets / 4294967296
+}
+
 // The bucket of a text, of so many.
 pub fn bucket(t: &[u8], salt: usize, buckets: usize) -> usize
     requires { ⌜ (salt < 4294967296) × (0 < buckets) × (buckets ≤ 4096) ⌝ }
     ensures { λ r. ⌜ (r ≡ bucketOf buckets salt (now (t .entry))) × (r < buckets) ⌝ }
 {
-    mix(mix_text(t), salt) * buckets / 4294967296
+    scale(mix_text(t), salt, buckets)
 }
 
 fn fold(h: usize, w: usize) -> usize
@@ -147,13 +181,23 @@ fn fold_whole(t: &[u8]) -> usize
     fold(three, four(t, n - 4))
 }
 
+// A text by all its bytes. Few are long: what is short is found by one test.
+fn mix_whole(t: &[u8]) -> usize
+    ensures { λ r. ⌜ (r ≡ wholeOf (now (t .entry))) × (r < 4294967296) ⌝ }
+{
+    if is_short(t.len()) {
+        return mix_three(t);
+    }
+    if t.len() <= 64 {
+        return mix_other(t);
+    }
+    fold_whole(t) % 4294967296
+}
+
 // The bucket of a text, of so many, by all its bytes.
 pub fn bucket_whole(t: &[u8], salt: usize, buckets: usize) -> usize
     requires { ⌜ (salt < 4294967296) × (0 < buckets) × (buckets ≤ 4096) ⌝ }
     ensures { λ r. ⌜ (r ≡ wholeBucketOf buckets salt (now (t .entry))) × (r < buckets) ⌝ }
 {
-    if t.len() <= 64 {
-        return bucket(t, salt, buckets);
-    }
-    mix(fold_whole(t) % 4294967296, salt) * buckets / 4294967296
+    scale(mix_whole(t), salt, buckets)
 }

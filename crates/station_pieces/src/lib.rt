@@ -20,26 +20,34 @@ pub fn next(
     table: &mut [u32],
     split: usize,
     station: Station,
+    limit: usize,
 ) -> Answer
-    ensures { λ r. ⌜ NextFor state (now (piece .entry)) station split (now (room .entry)) (now (table .entry)) (now (room .exit)) (now (table .exit)) r ⌝ }
+    ensures { λ r. ⌜ NextFor limit state (now (piece .entry)) station split (now (room .entry)) (now (table .entry)) (now (room .exit)) (now (table .exit)) r ⌝ }
 {
     let share = shares::share_of(table.len(), split, station);
     match share {
         Share::Words { first, end } => {
-            Answer::Stands(pieces::next(state, piece, room, &mut table[first..end]))
+            Answer::Stands(pieces::next(state, piece, room, &mut table[first..end], limit))
         }
         Share::NotSplit => Answer::NotSplit,
     }
 }
 
 // No more pieces come.
-pub fn end(state: State, room: &[u8], table: &mut [u32], split: usize, station: Station) -> Answer
-    ensures { λ r. ⌜ EndFor state (length (now (room .entry))) station split (now (table .entry)) (now (table .exit)) r ⌝ }
+pub fn end(
+    state: State,
+    room: &[u8],
+    table: &mut [u32],
+    split: usize,
+    station: Station,
+    limit: usize,
+) -> Answer
+    ensures { λ r. ⌜ EndFor limit state (length (now (room .entry))) station split (now (table .entry)) (now (table .exit)) r ⌝ }
 {
     let share = shares::share_of(table.len(), split, station);
     match share {
         Share::Words { first, end } => {
-            Answer::Stands(pieces::end(state, room, &mut table[first..end]))
+            Answer::Stands(pieces::end(state, room, &mut table[first..end], limit))
         }
         Share::NotSplit => Answer::NotSplit,
     }

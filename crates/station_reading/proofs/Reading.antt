@@ -20,14 +20,14 @@ use Rattle.station_reading.specs.Answers.{readAnswer, readWords, ReadFor
 module _ (station : Station) (split : ℕ) (T : List ℕ) {share : Share} (i : share ≡ shareFor (length T) split station) where
   module _ {first end : ℕ} (e : share ≡ Words first end) {X : List ℕ} where
     pub read-there :
-        (s : List ℕ) {a : ReaderAnswer}
-        → Answers (reading s (length (take (end - first) (drop first T)))) (length (take (end - first) (drop first T))) X a
-        → ReadFor s station split T (take first T ++ (X ++ drop (end - first) (drop first T))) (answer.Answered a)
+        (limit : ℕ) (s : List ℕ) {a : ReaderAnswer}
+        → Answers (reading limit s (length (take (end - first) (drop first T)))) (length (take (end - first) (drop first T))) X a
+        → ReadFor limit s station split T (take first T ++ (X ++ drop (end - first) (drop first T))) (answer.Answered a)
     unfolding readAnswer readWords
-    read-there s d =
+    read-there limit s d =
         record {
-          says = lent-answer split station T i e (readAnswer s) _ (ap answer.Answered (d .says));
-          leaves = lent-table split station T i e (readWords s) (d .leaves);
+          says = lent-answer split station T i e (readAnswer limit s) _ (ap answer.Answered (d .says));
+          leaves = lent-table split station T i e (readWords limit s) (d .leaves);
         }
 
     pub card-there :
@@ -41,9 +41,9 @@ module _ (station : Station) (split : ℕ) (T : List ℕ) {share : Share} (i : s
         }
 
   module _ (e : share ≡ NotSplit) where
-    pub read-nowhere : (s : List ℕ) → ReadFor s station split T T answer.NotSplit
-    read-nowhere s =
-        record { says = unlent-answer split station T i e (readAnswer s) answer.NotSplit; leaves = unlent-table split station T i e (readWords s) }
+    pub read-nowhere : (limit : ℕ) (s : List ℕ) → ReadFor limit s station split T T answer.NotSplit
+    read-nowhere limit s =
+        record { says = unlent-answer split station T i e (readAnswer limit s) answer.NotSplit; leaves = unlent-table split station T i e (readWords limit s) }
 
     pub card-nowhere : (s : List ℕ) (n : ℕ) → CardFor s n station split T T card.NotSplit
     card-nowhere s n =

@@ -16,16 +16,16 @@ use Rattle.station_reading.specs.declared.CardAnswer.{CardAnswer}
 use Rattle.station_reading.specs.declared.CardAnswer.the-variants as card
 
 -- a message
-unfoldable pub readAnswer : List ℕ → List ℕ → Answer
-readAnswer s W = answer.Answered (answerOf (reading s (length W)))
+unfoldable pub readAnswer : ℕ → List ℕ → List ℕ → Answer
+readAnswer limit s W = answer.Answered (answerOf (reading limit s (length W)))
 
-unfoldable pub readWords : List ℕ → List ℕ → List ℕ
-readWords s W = tableOf (length W) (reading s (length W))
+unfoldable pub readWords : ℕ → List ℕ → List ℕ → List ℕ
+readWords limit s W = tableOf (length W) (reading limit s (length W))
 
 -- what a call did for a station with a message s, and a table T that is T′ after it
-pub record ReadFor (s : List ℕ) (station : Station) (split : ℕ) (T T′ : List ℕ) (a : Answer) : Type 0 where
-  pub says : a ≡ onShare station split T (readAnswer s) answer.NotSplit
-  pub leaves : T′ ≡ tableOn station split T (readWords s)
+pub record ReadFor (limit : ℕ) (s : List ℕ) (station : Station) (split : ℕ) (T T′ : List ℕ) (a : Answer) : Type 0 where
+  pub says : a ≡ onShare station split T (readAnswer limit s) answer.NotSplit
+  pub leaves : T′ ≡ tableOn station split T (readWords limit s)
 
 -- card n of a job file
 unfoldable pub cardAnswer : List ℕ → ℕ → List ℕ → CardAnswer

@@ -17,13 +17,19 @@ pub enum CardAnswer {
 }
 
 // Reads a message into a station's share of a table that is split at a row. Every word of the share is settled, and no other is changed.
-pub fn read(message: &[u8], table: &mut [u32], split: usize, station: Station) -> Answer
-    ensures { λ r. ⌜ ReadFor (now (message .entry)) station split (now (table .entry)) (now (table .exit)) r ⌝ }
+pub fn read(
+    message: &[u8],
+    table: &mut [u32],
+    split: usize,
+    station: Station,
+    limit: usize,
+) -> Answer
+    ensures { λ r. ⌜ ReadFor limit (now (message .entry)) station split (now (table .entry)) (now (table .exit)) r ⌝ }
 {
     let share = shares::share_of(table.len(), split, station);
     match share {
         Share::Words { first, end } => {
-            Answer::Answered(reader::read(message, &mut table[first..end]))
+            Answer::Answered(reader::read(message, &mut table[first..end], limit))
         }
         Share::NotSplit => Answer::NotSplit,
     }

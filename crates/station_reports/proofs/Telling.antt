@@ -30,6 +30,11 @@ use Rattle.station_reading.specs.declared.CardAnswer.the-variants as card
 use Rattle.station_reading.specs.Answers.{reportOf, cardReportOf}
 use Rattle.station_pieces.specs.declared.Answer as SP
 use Rattle.station_pieces.specs.declared.Answer.the-variants.{Stands, NotSplit}
+use Rattle.plan_writer.specs.declared.Answer as P
+use Rattle.plan_writer.specs.Answers as planners
+use Rattle.station_plans.specs.declared.Answer as SQ
+use Rattle.station_plans.specs.declared.Answer.the-variants as plan
+use Rattle.station_plans.specs.Answers as plans
 use Rattle.station_tables.specs.declared.WriteAnswer as SW
 use Rattle.station_tables.specs.declared.WriteAnswer.the-variants as write
 use Rattle.station_tables.specs.declared.LookupAnswer as SL
@@ -80,6 +85,13 @@ module _ {a : SP.Answer} where
   pub tells-no-piece : {w : List ℕ} → a ≡ NotSplit → PieceKept a w w 22
   tells-no-piece e = record { words = rw e; says = rw e }
 
+module _ {a : SQ.Answer} where
+  pub tells-planned : {b : P.Answer} {r : planners.Report} → a ≡ plan.Answered b → r ≡ planners.reportOf b → r ≡ plans.reportOf a
+  tells-planned e f = rw (e, f)
+
+  pub tells-unplanned : a ≡ plan.NotSplit → writing.planReport 22 0 ≡ plans.reportOf a
+  tells-unplanned e = rw e
+
 module _ {a : SW.WriteAnswer} where
   pub tells-written : {b : W.Answer} {r : writers.Report} → a ≡ write.Answered b → r ≡ writers.reportOf b → r ≡ writeReportOf a
   tells-written e f = rw (e, f)
@@ -103,4 +115,4 @@ module _ {a : ST.PositionAnswer} where
   unfolding ofBits ofFields odd
   tells-no-position e = record { says = rw e; gives = rw e }
 
-pub ruleset telling = (tells-read, tells-no-read, tells-card, tells-no-card, tells-piece, tells-no-piece, tells-written, tells-unwritten, tells-member, tells-no-member, tells-position, tells-no-position)
+pub ruleset telling = (tells-read, tells-no-read, tells-card, tells-no-card, tells-piece, tells-no-piece, tells-written, tells-unwritten, tells-planned, tells-unplanned, tells-member, tells-no-member, tells-position, tells-no-position)

@@ -12,6 +12,7 @@ ghost use Rattle.lookup.specs.Reports.{reported};
 ghost use Rattle.position.specs.Placing.{at};
 ghost use Rattle.station_reading.specs.Answers.{reportOf, cardReportOf};
 ghost use Rattle.station_tables.specs.Answers.{writeReportOf, lookupReportOf};
+ghost use Rattle.station_plans.specs.Answers as plans;
 ghost use Rattle.read_reports.specs.Numbers.{report, cardReport};
 ghost use Rattle.write_reports.specs.Numbers as writing;
 ghost use Rattle.station_reports.specs.Numbers.{lying, lyingOf, PieceKept, StationPlaced};
@@ -93,6 +94,19 @@ pub fn written(answer: WriteAnswer, length: &mut u64) -> u8
     match answer {
         WriteAnswer::Answered(own) => write_reports::written(own, length),
         WriteAnswer::NotSplit => {
+            *length = 0;
+            22
+        }
+    }
+}
+
+// Of a table written by a plan.
+pub fn planned(answer: station_plans::Answer, length: &mut u64) -> u8
+    ensures { λ n. ⌜ writing.planReport n (now (length .exit)) ≡ plans.reportOf answer ⌝ }
+{
+    match answer {
+        station_plans::Answer::Answered(own) => write_reports::plans::planned(own, length),
+        station_plans::Answer::NotSplit => {
             *length = 0;
             22
         }

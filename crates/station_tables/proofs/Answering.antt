@@ -22,14 +22,14 @@ use Rattle.station_tables.specs.Answers.{writeAnswer, writtenBytes, Wrot
 module _ (station : Station) (split : ℕ) (T : List ℕ) {share : Share} (i : share ≡ shareFor (length T) split station) where
   module _ {first end : ℕ} (e : share ≡ Words first end) (rows : ℕ) (s : List ℕ) where
     pub write-there :
-        (out : List ℕ) {out′ : List ℕ} {a : WriterAnswer} → Did (take (end - first) (drop first T)) rows s out out′ a
-        → WroteFor T station split rows s out out′ (write.Answered a)
+        (limit : ℕ) (out : List ℕ) {out′ : List ℕ} {a : WriterAnswer} → Did limit (take (end - first) (drop first T)) rows s out out′ a
+        → WroteFor limit T station split rows s out out′ (write.Answered a)
     unfolding writeAnswer writtenBytes
-    write-there out d =
+    write-there limit out d =
         record {
-          says = lent-answer split station T i e (writeAnswer rows s (length out)) _ (ap write.Answered (d .says));
+          says = lent-answer split station T i e (writeAnswer limit rows s (length out)) _ (ap write.Answered (d .says));
           leaves =
-              lent-answer split station T i e (writtenBytes rows s (length out)) _
+              lent-answer split station T i e (writtenBytes limit rows s (length out)) _
               (d .leaves ∙ ap (λ (x : WriterAnswer). outputOf x (formOf (take (end - first) (drop first T)) rows s) (length out)) (d .says));
         }
 
@@ -46,11 +46,11 @@ module _ (station : Station) (split : ℕ) (T : List ℕ) {share : Share} (i : s
     position-there r d = lent-answer split station T i e (positionAnswer rows s r) _ (ap place.Answered d)
 
   module _ (e : share ≡ NotSplit) (rows : ℕ) (s : List ℕ) where
-    pub write-nowhere : (out : List ℕ) → WroteFor T station split rows s out out write.NotSplit
-    write-nowhere out =
+    pub write-nowhere : (limit : ℕ) (out : List ℕ) → WroteFor limit T station split rows s out out write.NotSplit
+    write-nowhere limit out =
         record {
-          says = unlent-answer split station T i e (writeAnswer rows s (length out)) write.NotSplit;
-          leaves = unlent-answer split station T i e (writtenBytes rows s (length out)) _;
+          says = unlent-answer split station T i e (writeAnswer limit rows s (length out)) write.NotSplit;
+          leaves = unlent-answer split station T i e (writtenBytes limit rows s (length out)) _;
         }
 
     pub lookup-nowhere : (r : ℕ) (key : List ℕ) → lookup.NotSplit ≡ onShare station split T (lookupAnswer rows s r key) lookup.NotSplit

@@ -21,16 +21,16 @@ use Rattle.station_tables.specs.declared.LookupAnswer.the-variants as lo
 use Rattle.station_tables.specs.declared.PositionAnswer.{PositionAnswer}
 use Rattle.station_tables.specs.declared.PositionAnswer.the-variants as place
 
--- written, with so many stated rows, the text bytes s and an output of so many bytes
-unfoldable pub writeAnswer : ℕ → List ℕ → ℕ → List ℕ → WriteAnswer
-writeAnswer rows s room W = write.Answered (answerOf W rows s room)
+-- written, with a limit of nesting, so many stated rows, the text bytes s and an output of so many bytes
+unfoldable pub writeAnswer : ℕ → ℕ → List ℕ → ℕ → List ℕ → WriteAnswer
+writeAnswer limit rows s room W = write.Answered (answerOf limit W rows s room)
 
-unfoldable pub writtenBytes : ℕ → List ℕ → ℕ → List ℕ → List ℕ
-writtenBytes rows s room W = outputOf (answerOf W rows s room) (formOf W rows s) room
+unfoldable pub writtenBytes : ℕ → ℕ → List ℕ → ℕ → List ℕ → List ℕ
+writtenBytes limit rows s room W = outputOf (answerOf limit W rows s room) (formOf W rows s) room
 
-pub record WroteFor (T : List ℕ) (station : Station) (split rows : ℕ) (s out out′ : List ℕ) (a : WriteAnswer) : Type 0 where
-  pub says : a ≡ onShare station split T (writeAnswer rows s (length out)) write.NotSplit
-  pub leaves : out′ ≡ onShare station split T (writtenBytes rows s (length out)) out
+pub record WroteFor (limit : ℕ) (T : List ℕ) (station : Station) (split rows : ℕ) (s out out′ : List ℕ) (a : WriteAnswer) : Type 0 where
+  pub says : a ≡ onShare station split T (writeAnswer limit rows s (length out)) write.NotSplit
+  pub leaves : out′ ≡ onShare station split T (writtenBytes limit rows s (length out)) out
 
 -- a member, and a position, in the Struct of row r of the share
 unfoldable pub lookupAnswer : ℕ → List ℕ → ℕ → List ℕ → List ℕ → LookupAnswer

@@ -31,14 +31,15 @@ pub fn write(
     station: Station,
     rows: usize,
     text: &[u8],
+    limit: usize,
     output: &mut [u8],
 ) -> WriteAnswer
-    ensures { λ r. ⌜ WroteFor (now (table .entry)) station split rows (now (text .entry)) (now (output .entry)) (now (output .exit)) r ⌝ }
+    ensures { λ r. ⌜ WroteFor limit (now (table .entry)) station split rows (now (text .entry)) (now (output .entry)) (now (output .exit)) r ⌝ }
 {
     let share = shares::share_of(table.len(), split, station);
     match share {
         Share::Words { first, end } => {
-            WriteAnswer::Answered(writer::write(&table[first..end], rows, text, output))
+            WriteAnswer::Answered(writer::write(&table[first..end], rows, text, limit, output))
         }
         Share::NotSplit => WriteAnswer::NotSplit,
     }

@@ -21,23 +21,23 @@ use Rattle.stations.proofs.Keeping.{read-keeps, card-keeps, next-keeps,
 
 -- the share's words after a call
 abbrev pub after : Asked → List ℕ → List ℕ
-after (a-message s) W = readWords s W
+after (a-message limit s) W = readWords limit s W
 after (a-card s n) W = cardWords s n W
-after (a-piece state p R) W = nextWords state p R W
-after (an-end state bytes) W = endWords state bytes W
+after (a-piece limit state p R) W = nextWords limit state p R W
+after (an-end limit state bytes) W = endWords limit state bytes W
 
 -- what is told, by the share's words before it
 abbrev pub given : Asked → List ℕ → Told
-given (a-message s) W = of-message (readAnswer s W)
+given (a-message limit s) W = of-message (readAnswer limit s W)
 given (a-card s n) W = of-card (cardAnswer s n W)
-given (a-piece state p R) W = of-piece (nextAnswer state p R W) (nextRoom state p R W)
-given (an-end state bytes) W = of-end (endAnswer state bytes W)
+given (a-piece limit state p R) W = of-piece (nextAnswer limit state p R W) (nextRoom limit state p R W)
+given (an-end limit state bytes) W = of-end (endAnswer limit state bytes W)
 
 pub keeps : (q : Asked) (W : List ℕ) → length (after q W) ≡ length W
-keeps (a-message s) W = read-keeps s W
+keeps (a-message limit s) W = read-keeps limit s W
 keeps (a-card s n) W = card-keeps s n W
-keeps (a-piece state p R) W = next-keeps state p R W
-keeps (an-end state bytes) W = end-keeps state bytes W
+keeps (a-piece limit state p R) W = next-keeps limit state p R W
+keeps (an-end limit state bytes) W = end-keeps limit state bytes W
 
 -- a function of what is told
 told-by :
@@ -71,21 +71,21 @@ module _ {station : Station} {split : ℕ} {T T′ : List ℕ} where
   leaves (ends d) = d .table
 
   pub says : {q : Asked} {a : Told} → Called station split T T′ q a → a ≡ onShare station split T (given q) (notSplit q)
-  says (reads {s = s} d) = ap of-message (d .says) ∙ told-by of-message station split T (readAnswer s) answer.NotSplit
+  says (reads {limit = limit} {s = s} d) = ap of-message (d .says) ∙ told-by of-message station split T (readAnswer limit s) answer.NotSplit
   says (reads-card {s = s} {n = n} d) = ap of-card (d .says) ∙ told-by of-card station split T (cardAnswer s n) card.NotSplit
-  says (takes {state = state} {p = p} {R = R} d) =
+  says (takes {limit = limit} {state = state} {p = p} {R = R} d) =
       rw (d .says, d .room)
-      (told-both of-piece station split T (nextAnswer state p R) piece.NotSplit (nextRoom state p R) R)
-  says (ends {state = state} {bytes = bytes} d) =
-      ap of-end (d .says) ∙ told-by of-end station split T (endAnswer state bytes) piece.NotSplit
+      (told-both of-piece station split T (nextAnswer limit state p R) piece.NotSplit (nextRoom limit state p R) R)
+  says (ends {limit = limit} {state = state} {bytes = bytes} d) =
+      ap of-end (d .says) ∙ told-by of-end station split T (endAnswer limit state bytes) piece.NotSplit
 
 -- 22 is told of no call on a share
 not-given : (q : Asked) (W : List ℕ) → given q W ≡ notSplit q → ⊥
 unfolding readAnswer cardAnswer nextAnswer endAnswer
-not-given (a-message s) W e = let z : _≡_ {A = ℕ} 0 1 = cc in omega arith
+not-given (a-message limit s) W e = let z : _≡_ {A = ℕ} 0 1 = cc in omega arith
 not-given (a-card s n) W e = let z : _≡_ {A = ℕ} 0 1 = cc in omega arith
-not-given (a-piece state p R) W e = let z : _≡_ {A = ℕ} 0 1 = cc in omega arith
-not-given (an-end state bytes) W e = let z : _≡_ {A = ℕ} 0 1 = cc in omega arith
+not-given (a-piece limit state p R) W e = let z : _≡_ {A = ℕ} 0 1 = cc in omega arith
+not-given (an-end limit state bytes) W e = let z : _≡_ {A = ℕ} 0 1 = cc in omega arith
 
 module _ {station : Station} {split : ℕ} {T T′ : List ℕ} {q : Asked} {a : Told} (c : Called station split T T′ q a) where
   pub told-exactly : (a ≡ notSplit q) ↔ (splits split (length T) ≡ false)

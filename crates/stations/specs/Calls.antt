@@ -12,12 +12,13 @@ use Rattle.station_pieces.specs.declared.Answer.{Answer as PieceAnswer}
 use Rattle.station_pieces.specs.declared.Answer.the-variants as piece
 use Rattle.station_pieces.specs.Steps.{NextFor, EndFor}
 
--- a message; a card of a job file, by its number; a piece, with the state before it and the room; the end, with the state and the room's length
+-- a message, with a limit of nesting; a card of a job file, by its number; a piece, with a limit, the state before it and the room; the end, with
+-- a limit, the state and the room's length
 pub data Asked : Type 0 where
-  a-message : List ℕ → Asked
+  a-message : ℕ → List ℕ → Asked
   a-card : List ℕ → ℕ → Asked
-  a-piece : State → List ℕ → List ℕ → Asked
-  an-end : State → ℕ → Asked
+  a-piece : ℕ → State → List ℕ → List ℕ → Asked
+  an-end : ℕ → State → ℕ → Asked
 
 -- the answer; after a piece also the room
 pub data Told : Type 0 where
@@ -28,19 +29,19 @@ pub data Told : Type 0 where
 
 -- a call on a table T, which is T′ after it
 pub data Called (station : Station) (split : ℕ) (T T′ : List ℕ) : Asked → Told → Type 0 where
-  reads : {s : List ℕ} {a : Answer} → ReadFor s station split T T′ a → Called station split T T′ (a-message s) (of-message a)
+  reads : {limit : ℕ} {s : List ℕ} {a : Answer} → ReadFor limit s station split T T′ a → Called station split T T′ (a-message limit s) (of-message a)
   reads-card :
       {s : List ℕ} {n : ℕ} {a : CardAnswer} → CardFor s n station split T T′ a → Called station split T T′ (a-card s n) (of-card a)
   takes :
-      {state : State} {p R R′ : List ℕ} {a : PieceAnswer} → NextFor state p station split R T R′ T′ a
-      → Called station split T T′ (a-piece state p R) (of-piece a R′)
+      {limit : ℕ} {state : State} {p R R′ : List ℕ} {a : PieceAnswer} → NextFor limit state p station split R T R′ T′ a
+      → Called station split T T′ (a-piece limit state p R) (of-piece a R′)
   ends :
-      {state : State} {bytes : ℕ} {a : PieceAnswer} → EndFor state bytes station split T T′ a
-      → Called station split T T′ (an-end state bytes) (of-end a)
+      {limit : ℕ} {state : State} {bytes : ℕ} {a : PieceAnswer} → EndFor limit state bytes station split T T′ a
+      → Called station split T T′ (an-end limit state bytes) (of-end a)
 
 -- what is told with 22: that, and the room as it was
 abbrev pub notSplit : Asked → Told
-notSplit (a-message s) = of-message answer.NotSplit
+notSplit (a-message limit s) = of-message answer.NotSplit
 notSplit (a-card s n) = of-card card.NotSplit
-notSplit (a-piece state p R) = of-piece piece.NotSplit R
-notSplit (an-end state bytes) = of-end piece.NotSplit
+notSplit (a-piece limit state p R) = of-piece piece.NotSplit R
+notSplit (an-end limit state bytes) = of-end piece.NotSplit

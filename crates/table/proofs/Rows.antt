@@ -3,22 +3,35 @@ use mathlib.Core.Path.{_≡_, refl, sym, ap, _∙_}
 use mathlib.Core.List.{List, [], _∷_, _++_}
 use Prim.Native.Nat.{ℕ, zero, suc, _+_, _*_, _≤_, _<_}
 use native.Mathlib.Omega.{arith}
-use native.Mathlib.Nat.{add-zero}
-use lib.Dec.{lit<}
+use mathlib.Core.Bool.{Bool, true, false}
+use native.Mathlib.Nat.{add-zero, mul-le-mul-left, mul-suc}
+use borrow.Author.Tests.{ltb-true, ltb-false}
+use lib.Dec.{lit<, ltb}
 use lib.Seq.{set-comm}
 use lib.ListN.{length, getD, set, length-set}
 use Rattle.draft.specs.declared.Row.{Row}
 use Rattle.draft.specs.Rows.{row}
 use Rattle.draft.specs.Table.{place, setRow, putRows, rowAt}
 
+-- where a column begins
+pub column : (c j : ℕ) → j < 4 → c * j ≤ c * 3
+column c j h = mul-le-mul-left c (omega arith)
+
 -- THE TWO LAWS OF `place`: a word of a row is in the table, and no two words share a place
 pub place-in : (c r j : ℕ) → r < c → j < 4 → place c r j < c * 4
 unfolding place
-place-in c r j h k = omega arith
+place-in c r j h k = omega (arith, column c j k)
 
 pub place-one : (c i j k k′ : ℕ) → i < c → j < c → k < 4 → k′ < 4 → place c i k ≡ place c j k′ → (i ≡ j) × (k ≡ k′)
 unfolding place
-place-one c i j k k′ hi hj h h′ e = omega arith
+place-one c i j k k′ hi hj h h′ e = go (ltb k k′) refl (ltb k′ k) refl
+  where
+    go : (a : Bool) → ltb k k′ ≡ a → (b : Bool) → ltb k′ k ≡ b → (i ≡ j) × (k ≡ k′)
+    go true a b p = absurd (omega (arith, mul-le-mul-left c (ltb-true k k′ a), mul-suc c k))
+    go false a true p = absurd (omega (arith, mul-le-mul-left c (ltb-true k′ k p), mul-suc c k′))
+    go false a false p =
+        let m : k ≡ k′ = omega (arith, ltb-false k k′ a, ltb-false k′ k p) in
+        (omega (arith, ap (λ (x : ℕ). c * x) m), m)
 
 -- what follows speaks of `place` by these laws alone
 place-apart : (c i j k k′ : ℕ) → i < c → j < c → k < 4 → k′ < 4 → (i ≡ j → ⊥) → place c i k ≡ place c j k′ → ⊥

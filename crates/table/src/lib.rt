@@ -1,5 +1,5 @@
 // Rows in a lent table of words: its room, where a word of a row stands, a row stored and fetched, and clearing.
-// A table with room for `room` rows has four words for each; `room` is at most 4,096.
+// A table with room for `room` rows has four columns of so many words, kinds, a's, b's and ends; `room` is at most 4,096.
 use draft::Row;
 ghost use mathlib.Core.Path.{_≡_};
 ghost use Prim.Native.Nat.{_+_, _*_, _≤_, _<_};
@@ -22,7 +22,7 @@ fn word(room: usize, r: usize, j: usize) -> usize
     requires { ⌜ (r < room) × (j < 4) × (room ≤ 4096) ⌝ }
     ensures { λ w. ⌜ (w ≡ place room r j) × (w < room * 4) ⌝ }
 {
-    r * 4 + j
+    room * j + r
 }
 
 pub fn put_row(table: &mut [u32], room: usize, r: usize, row: Row)

@@ -5,11 +5,16 @@ use ascii::past_front;
 use ascii::past_more;
 use byte_classes::CLASSES;
 use characters::width_at;
+use eights::eight_below;
+use steps::STEPS;
+use steps::eight_steps;
+use steps::step;
 ghost use mathlib.Core.Path.{_≡_};
 ghost use mathlib.Core.Bool.{true};
 ghost use lib.ListN.{drop};
 ghost use Rattle.text.specs.Utf8.{wellFormed};
 ghost use Rattle.text.specs.Classes.{classTable};
+ghost use Rattle.steps.specs.States.{stepTable};
 
 // Whether the bytes are well-formed UTF-8. One character a turn; a byte below 128 is one, and is not looked up.
 fn walk(table: &[u8; 256], s: &[u8]) -> bool
@@ -38,33 +43,37 @@ pub fn is_utf8_bytewise(s: &[u8]) -> bool
     walk(&CLASSES, s)
 }
 
-// Whether the bytes are well-formed UTF-8, where those before `from` are characters. Runs of bytes below 128 are passed at once.
-fn walk_runs(table: &[u8; 256], s: &[u8], from: usize) -> bool
-    requires { ⌜ (now table ≡ classTable) × (wellFormed (now s) ≡ wellFormed (drop from (now s))) ⌝ }
+// Whether the bytes are well-formed UTF-8, where those before `from` are characters. Eight bytes a turn: a run of bytes below 128 is passed
+// at once, where a character may begin, and others are stepped over with no branch, since widths that vary make one hard to foresee.
+fn walk_runs(table: &[u8; 256], words: &[u64; 12], s: &[u8], from: usize) -> bool
+    requires { ⌜ (now table ≡ classTable) × (now words ≡ stepTable) × (wellFormed (now s) ≡ wellFormed (drop from (now s))) ⌝ }
     ensures { λ r. ⌜ r ≡ wellFormed (now (s .entry)) ⌝ }
 {
     let mut at = from;
+    let mut state = 0;
     while at < s.len() {
-        if is_single(s[at]) {
-            at = past_more(s, at + 1);
+        if s.len() - at < 8 {
+            state = step(table, words, state, s[at]);
+            at += 1;
         } else {
-            let width = width_at(table, s, at);
-            if width == 0 {
-                return false;
+            if (state == 0) & eight_below(s, at) {
+                at = past_more(s, at + 8);
+            } else {
+                state = eight_steps(table, words, s, at, state);
+                at += 8;
             }
-            at += width;
         }
     }
-    true
+    state == 0
 }
 
-// The same, with the table laid out here, so that it is only for texts that have a byte from 128 on. It has callers outside too, so that it
+// The same, with the tables laid out here, so that they are only for texts that have a byte from 128 on. It has callers outside too, so that it
 // is compiled by itself: inside another function its loop was half as fast.
 pub fn walk_from(s: &[u8], from: usize) -> bool
     requires { ⌜ wellFormed (now s) ≡ wellFormed (drop from (now s)) ⌝ }
     ensures { λ r. ⌜ r ≡ wellFormed (now (s .entry)) ⌝ }
 {
-    walk_runs(&CLASSES, s, from)
+    walk_runs(&CLASSES, &STEPS, s, from)
 }
 
 // Whether the bytes are well-formed UTF-8.

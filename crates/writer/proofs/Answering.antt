@@ -7,9 +7,10 @@ use native.Mathlib.Omega.{arith}
 use lib.ListN.{length, replicate}
 use lib.Dec.{leb}
 use borrow.Author.Tests.{lt-leb, le-leb, leb-true}
-use Rattle.draft.specs.declared.Refusal.the-variants.{TooLong, NotWritable, FormTooLong, OutputTooShort}
+use Rattle.draft.specs.declared.Refusal.the-variants.{TooLong, NotWritable, FormTooLong, OutputTooShort, NoLimit}
+use Rattle.draft.specs.Limits.{allowed}
 use Rattle.draft.specs.Table.{roomOf, rowAt, from}
-use Rattle.draft.specs.Writable.{wholly, callOrResponse, writableWithin, writable}
+use Rattle.draft.specs.Writable.{wholly, callOrResponse, writableWithin, writableTo, writable}
 use Rattle.draft.specs.Written.{written, rowsOf}
 use Rattle.text.proofs.Comparing.{both}
 use Rattle.extents.specs.Asked.{Ready}
@@ -55,32 +56,36 @@ unfolding formOf rowsOf
 form-is T rows s g = rw g
 
 -- the whole answer
-module _ (T : List ℕ) (rows : ℕ) (s : List ℕ) {o o′ : List ℕ} {a : Answer} where
-  pub did-long : 65536 < length s → RefusedWith TooLong o o′ a → Did T rows s o o′ a
+module _ (limit : ℕ) (T : List ℕ) (rows : ℕ) (s : List ℕ) {o o′ : List ℕ} {a : Answer} where
+  pub did-unlimited : {l : Bool} → l ≡ allowed limit → l ≡ false → RefusedWith NoLimit o o′ a → Did limit T rows s o o′ a
   unfolding answerOf
-  did-long h r = record { says = r .says ∙ sym (rw (lt-leb (length s) 65536 h)); leaves = r .leaves ∙ rw (r .says) }
+  did-unlimited k i r = let q : allowed limit ≡ false = sym k ∙ i in record { says = r .says ∙ sym (rw q); leaves = r .leaves ∙ rw (r .says) }
 
-  module _ (h : length s ≤ 65536) {b : Bool} (e : b ≡ writable T rows s) where
-    pub did-unfit : b ≡ false → RefusedWith NotWritable o o′ a → Did T rows s o o′ a
+  pub did-long : allowed limit ≡ true → 65536 < length s → RefusedWith TooLong o o′ a → Did limit T rows s o o′ a
+  unfolding answerOf
+  did-long i h r = record { says = r .says ∙ sym (rw (i, lt-leb (length s) 65536 h)); leaves = r .leaves ∙ rw (r .says) }
+
+  module _ (i : allowed limit ≡ true) (h : length s ≤ 65536) {b : Bool} (e : b ≡ writableTo limit T rows s) where
+    pub did-unfit : b ≡ false → RefusedWith NotWritable o o′ a → Did limit T rows s o o′ a
     unfolding answerOf
     did-unfit f r =
-        let w : writable T rows s ≡ false = sym e ∙ f in
-        record { says = r .says ∙ sym (rw (le-leb (length s) 65536 h, w)); leaves = r .leaves ∙ rw (r .says) }
+        let w : writableTo limit T rows s ≡ false = sym e ∙ f in
+        record { says = r .says ∙ sym (rw (i, le-leb (length s) 65536 h, w)); leaves = r .leaves ∙ rw (r .says) }
 
-    pub did-rows : {room n : ℕ} → b ≡ true → room ≡ roomOf 4096 (length T) → Filled (written s (from (rowAt room T) 0 rows)) o o′ n → a ≡ answerFor n (length o) → Did T rows s o o′ a
+    pub did-rows : {room n : ℕ} → b ≡ true → room ≡ roomOf 4096 (length T) → Filled (written s (from (rowAt room T) 0 rows)) o o′ n → a ≡ answerFor n (length o) → Did limit T rows s o o′ a
     unfolding answerOf answerTo
-    did-rows {room} {n} f g r i =
-        let w : writable T rows s ≡ true = sym e ∙ f in
+    did-rows {room} {n} f g r j =
+        let w : writableTo limit T rows s ≡ true = sym e ∙ f in
         let q : written s (from (rowAt room T) 0 rows) ≡ formOf T rows s = form-is T rows s g in
-        let p : a ≡ answerFor (length (formOf T rows s)) (length o) = i ∙ ap (λ (m : ℕ). answerFor m (length o)) (r .tells ∙ ap needed q) ∙ answer-needed (formOf T rows s) (length o) in
+        let p : a ≡ answerFor (length (formOf T rows s)) (length o) = j ∙ ap (λ (m : ℕ). answerFor m (length o)) (r .tells ∙ ap needed q) ∙ answer-needed (formOf T rows s) (length o) in
         record {
-          says = p ∙ sym (rw (le-leb (length s) 65536 h, w));
+          says = p ∙ sym (rw (i, le-leb (length s) 65536 h, w));
           leaves = r .leaves ∙ ap (λ (form : List ℕ). filled form (length o)) q ∙ sym (ap (λ (x : Answer). outputOf x (formOf T rows s) (length o)) p ∙ output-filled (formOf T rows s) (length o));
         }
 
-pub ready-is : (T : List ℕ) (rows : ℕ) {room : ℕ} (s : List ℕ) {b : Bool} → b ≡ writable T rows s → b ≡ true → room ≡ roomOf 4096 (length T) → Ready rows room (length T)
-unfolding writable writableWithin
-ready-is T rows {room} s e f g =
+pub ready-is : (limit : ℕ) (T : List ℕ) (rows : ℕ) {room : ℕ} (s : List ℕ) {b : Bool} → b ≡ writableTo limit T rows s → b ≡ true → room ≡ roomOf 4096 (length T) → Ready rows room (length T)
+unfolding writableTo writableWithin
+ready-is limit T rows {room} s e f g =
     let p = both (leb (length s) 65536) _ (sym e ∙ f) in
     let q = both (leb 1 rows) _ (p .1) in
     let u = both (leb rows 4096) _ (q .1) in
@@ -89,4 +94,9 @@ ready-is T rows {room} s e f g =
     let w : rows * 4 ≤ length T = leb-true (rows * 4) (length T) (v .0) in
     record { stated = omega (arith, g); most = omega (arith, g); table = omega (arith, g) }
 
-pub ruleset answering = (answer-long, answer-short, answer-written, did-long, did-unfit, did-rows, ready-is)
+-- of a table that was judged at 32
+pub ready-judged : (T : List ℕ) (rows : ℕ) {room : ℕ} (s : List ℕ) {b : Bool} → b ≡ writable T rows s → b ≡ true → room ≡ roomOf 4096 (length T) → Ready rows room (length T)
+unfolding writable writableTo
+ready-judged T rows s e f g = ready-is 32 T rows s e f g
+
+pub ruleset answering = (answer-long, answer-short, answer-written, did-unlimited, did-long, did-unfit, did-rows, ready-is)

@@ -1,5 +1,5 @@
--- What writing a table gives: its answer, and the output after it. Both depend on the table, its stated rows, the text bytes and the output's
--- length alone. Assumes nothing.
+-- What writing a table gives: its answer, and the output after it. Both depend on the limit of nesting, the table, its stated rows, the
+-- text bytes and the output's length alone. Assumes nothing.
 use Prim.Native.Nat.{ℕ, _-_}
 use mathlib.Core.Path.{_≡_}
 use mathlib.Core.Bool.{Bool, true, false}
@@ -7,9 +7,10 @@ use mathlib.Core.List.{List, _++_}
 use lib.ListN.{length, replicate}
 use lib.Dec.{leb}
 use Rattle.draft.specs.declared.Refusal.{Refusal}
-use Rattle.draft.specs.declared.Refusal.the-variants.{TooLong, NotWritable, FormTooLong, OutputTooShort}
+use Rattle.draft.specs.declared.Refusal.the-variants.{TooLong, NotWritable, FormTooLong, OutputTooShort, NoLimit}
 use Rattle.draft.specs.Refusals.{numberOf}
-use Rattle.draft.specs.Writable.{writable}
+use Rattle.draft.specs.Limits.{allowed}
+use Rattle.draft.specs.Writable.{writableTo}
 use Rattle.draft.specs.Written.{written, rowsOf}
 use Rattle.writer.specs.declared.Answer.{Answer}
 use Rattle.writer.specs.declared.Answer.the-variants.{Written, Refused}
@@ -31,9 +32,13 @@ answerTo form room = answerFor (length form) room
 unfoldable pub formOf : List ℕ → ℕ → List ℕ → List ℕ
 formOf T rows s = written s (rowsOf 4096 T rows)
 
--- the answer: 10, 11, then as the written form has it
-unfoldable pub answerOf : List ℕ → ℕ → List ℕ → ℕ → Answer
-answerOf T rows s room = given (leb (length s) 65536) TooLong (given (writable T rows s) NotWritable (answerTo (formOf T rows s) room))
+-- the answer to a call that states a limit of nesting: 23, 10, 11, then as the written form has it
+unfoldable pub answerOf : ℕ → List ℕ → ℕ → List ℕ → ℕ → Answer
+answerOf limit T rows s room =
+    given (allowed limit) NoLimit
+    (given (leb (length s) 65536) TooLong
+    (given (writableTo limit T rows s) NotWritable
+    (answerTo (formOf T rows s) room)))
 
 -- the output after an answer: the message and zeros behind it; on a refusal all zeros
 abbrev pub outputOf : Answer → List ℕ → ℕ → List ℕ
@@ -41,8 +46,8 @@ outputOf (Written n) form room = form ++ replicate (room - n) 0
 outputOf (Refused refusal) form room = replicate room 0
 
 -- what a call of the writer did
-pub record Did (T : List ℕ) (rows : ℕ) (s out out′ : List ℕ) (answer : Answer) : Type 0 where
-  pub says : answer ≡ answerOf T rows s (length out)
+pub record Did (limit : ℕ) (T : List ℕ) (rows : ℕ) (s out out′ : List ℕ) (answer : Answer) : Type 0 where
+  pub says : answer ≡ answerOf limit T rows s (length out)
   pub leaves : out′ ≡ outputOf answer (formOf T rows s) (length out)
 
 -- the numbers that document 01 gives for an answer

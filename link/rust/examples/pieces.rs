@@ -2,13 +2,13 @@
 //! gives them, as soon as it is decided: `pieces`. Ends with 1 if it is
 //! refused, 2 on trouble.
 
-use binmode::{MOST_BYTES, Message, Pieces, Refusal, TABLE_WORDS};
+use binmode::{MOST_BYTES, MOST_NESTING, Message, Pieces, Refusal, TABLE_WORDS};
 use std::io::{self, BufWriter, ErrorKind, Read as _, Write as _};
 use std::process::ExitCode;
 
 fn main() -> ExitCode {
     let (mut room, mut table) = (vec![0; MOST_BYTES], vec![0; TABLE_WORDS]);
-    let pieces = Pieces::start(&mut room, &mut table);
+    let pieces = Pieces::start_within(&mut room, &mut table, MOST_NESTING);
     match take_all(pieces).and_then(list) {
         Ok(status) => status,
         Err(trouble) => {

@@ -2,7 +2,7 @@
 //! program of that name does: `rewrite FILE`. Ends with 1 if it is refused,
 //! which standard error says, and 2 on trouble.
 
-use binmode::{MOST_BYTES, Refusal, TABLE_WORDS, read};
+use binmode::{MOST_BYTES, MOST_NESTING, Refusal, TABLE_WORDS, read_within};
 use std::error::Error;
 use std::fs::File;
 use std::io::{Read as _, Write as _, stdout};
@@ -30,7 +30,8 @@ fn rewrite() -> Result<(), Box<dyn Error>> {
         .read_to_end(&mut bytes)?;
     let mut table = vec![0; TABLE_WORDS];
     let mut output = vec![0; MOST_BYTES];
-    let written = read(&bytes, &mut table)?.write(&mut output)?;
+    let message = read_within(&bytes, &mut table, MOST_NESTING)?;
+    let written = message.write_within(MOST_NESTING, &mut output)?;
     stdout().write_all(written)?;
     stdout().flush()?;
     Ok(())

@@ -1,6 +1,6 @@
 //! Job files: their cards, each by its number or one after the other.
 
-use crate::{Message, Reason, Refusal, read, sys};
+use crate::{MOST_NESTING, Message, Reason, Refusal, read_within, sys};
 use core::iter::FusedIterator;
 
 /// A job file.
@@ -23,9 +23,10 @@ pub struct Card<'f> {
 }
 
 impl<'f> Card<'f> {
-    /// Reads the card, with an empty codebook, as [`read`](crate::read()) does.
+    /// Reads the card, with an empty codebook, as [`read_within`] does at the
+    /// limit of nesting [`MOST_NESTING`].
     pub fn read(self, table: &'f mut [u32]) -> Result<Message<'f>, Refusal> {
-        read(self.bytes, table)
+        read_within(self.bytes, table, MOST_NESTING)
     }
 }
 
@@ -65,7 +66,7 @@ impl<'f> Job<'f> {
 
     /// Reads the card of a number, counted from 0, and says where its first
     /// byte is in the file. The records before it are stepped over in each
-    /// call. The place of a refusal is counted from the card's first byte,
+    /// call, and the limit of nesting is [`MOST_NESTING`]. The place of a refusal is counted from the card's first byte,
     /// unless the file is at fault ([`Reason::is_of_file`]).
     pub fn read_card(
         self,

@@ -20,6 +20,10 @@
 //! [`STACK_WRITE`], [`STACK_INDEX`] and [`STACK_PLAN`] name; those of `std` have
 //! more.
 //!
+//! Arrays and Structs may be nested [`USUAL_NESTING`] deep, and in the calls
+//! named `.._within` as deep as the caller's limit says, 1 to [`MOST_NESTING`];
+//! the cards of job files, lookups and indexes are always at [`MOST_NESTING`].
+//!
 //! Nothing is allocated. `docs/FORMAT.md` says what a message, a row and a job
 //! file are. The library is looked for where `rt staticlib binmode` puts it,
 //! or in the folder that the environment variable `BINMODE_LIB_DIR` names when
@@ -48,20 +52,23 @@ mod table;
 pub use index::{Entry, Index};
 pub use job::{Card, Cards, Job};
 pub use lookup::{Member, Position, Source};
-pub use message::{Message, read};
+pub use message::{Message, read, read_within};
 pub use pieces::Pieces;
 pub use plan::Form;
 pub use refusal::{Reason, Refusal};
 pub use stations::{Share, Station, StationPieces, shares};
-pub use table::{Children, Item, Items, Kind, Members, Table, room, set_row};
+pub use table::{Children, Item, Items, Kind, Members, Table, room, set_row, word_place};
 
 /// Most bytes in a message, and in the bytes a writer's texts lie in.
 pub const MOST_BYTES: usize = 65_536;
 /// Most rows in a table.
 pub const MOST_ROWS: usize = 4_096;
-/// An Array or Struct stands in at most so many, itself counted.
+/// The highest limit of nesting: an Array or Struct stands in at most so many,
+/// itself counted.
 pub const MOST_NESTING: usize = 32;
-/// Words in a row: kind, a, b, end.
+/// The limit of nesting of a call that states none.
+pub const USUAL_NESTING: usize = 8;
+/// Words in a row: kind, a, b, end. Each stands in a column of the table.
 pub const ROW_WORDS: usize = 4;
 /// Words of a table that has room for any message.
 pub const TABLE_WORDS: usize = MOST_ROWS * ROW_WORDS;

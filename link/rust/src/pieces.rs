@@ -1,11 +1,12 @@
 //! Messages in pieces, as a serial port or a pipe brings them.
 
-use crate::{Message, Refusal, sys};
+use crate::{Message, Refusal, USUAL_NESTING, sys};
 
 /// A message of which the pieces come one after the other. They are held in a
 /// room that the caller lends, of at least [`crate::MOST_BYTES`] bytes, and
 /// the answer and the table are in the end those of [`crate::read`] on all the
-/// bytes at once, however they are cut.
+/// bytes at once, however they are cut; or of [`crate::read_within`], at the
+/// limit of nesting that it was started with.
 ///
 /// ```
 /// use binmode::Pieces;
@@ -27,15 +28,29 @@ pub struct Pieces<'r> {
     state: sys::Pieces,
     room: &'r mut [u8],
     table: &'r mut [u32],
+    limit: usize,
 }
 
 impl<'r> Pieces<'r> {
-    /// A message of which nothing has come: more is wanted.
+    /// A message of which nothing has come: more is wanted. The limit of
+    /// nesting is [`USUAL_NESTING`].
     pub fn start(room: &'r mut [u8], table: &'r mut [u32]) -> Self {
+        Pieces::start_within(room, table, USUAL_NESTING)
+    }
+
+    /// The same, at this limit of nesting, for all its calls. One that is not 1
+    /// to [`crate::MOST_NESTING`] is refused with [`crate::Reason::NoLimit`] by
+    /// the first of them.
+    pub fn start_within(room: &'r mut [u8], table: &'r mut [u32], limit: usize) -> Self {
         let mut state = sys::Pieces::default();
         // SAFETY: the state is valid for the call.
         unsafe { sys::binmode_pieces_start(&mut state) };
-        Pieces { state, room, table }
+        Pieces {
+            state,
+            room,
+            table,
+            limit,
+        }
     }
 
     /// Takes the next piece. Once the message is decided, later pieces change
@@ -44,7 +59,7 @@ impl<'r> Pieces<'r> {
         // SAFETY: the state and the slices are valid for the call, and those
         // that are written overlap nothing.
         unsafe {
-            sys::binmode_pieces_next(
+            sys::binmode_pieces_next_within(
                 &mut self.state,
                 piece.as_ptr(),
                 piece.len(),
@@ -52,6 +67,7 @@ impl<'r> Pieces<'r> {
                 self.room.len(),
                 self.table.as_mut_ptr(),
                 self.table.len(),
+                self.limit,
             )
         };
     }
@@ -74,12 +90,13 @@ impl<'r> Pieces<'r> {
     pub fn end(mut self) -> Result<Message<'r>, Refusal> {
         // SAFETY: as in `take`.
         let answer = unsafe {
-            sys::binmode_pieces_end(
+            sys::binmode_pieces_end_within(
                 &mut self.state,
                 self.room.as_ptr(),
                 self.room.len(),
                 self.table.as_mut_ptr(),
                 self.table.len(),
+                self.limit,
             )
         };
         let sys::Pieces {

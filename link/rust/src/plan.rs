@@ -1,6 +1,6 @@
 //! Writing with a plan, and prices that prove it shortest.
 
-use crate::{Message, Refusal, Table, sys};
+use crate::{Message, Refusal, Table, USUAL_NESTING, sys};
 
 /// How a plan sends a string: the first of its two bytes. The second is the
 /// position, which is 0 with `Regular`.
@@ -20,7 +20,7 @@ impl Table<'_> {
     /// order, and gives the message: the shorter of the plan's and of what
     /// [`Table::write`] writes. A plan that does not send the table's strings
     /// is refused with [`crate::Reason::NotTaken`]. Every byte of the output is
-    /// settled, as by [`Table::write`].
+    /// settled, as by [`Table::write`], and the limit of nesting is the same.
     ///
     /// ```
     /// let bytes = b"binmode-rpc:RA\x02\0\0\0U\x02\0\0\0abU\x02\0\0\0ab";
@@ -39,11 +39,23 @@ impl Table<'_> {
         plan: &[u8],
         output: &'o mut [u8],
     ) -> Result<&'o mut [u8], Refusal> {
+        self.write_planned_within(plan, USUAL_NESTING, output)
+    }
+
+    /// Writes by a plan as [`Table::write_planned`] does, at this limit of
+    /// nesting. One that is not 1 to [`crate::MOST_NESTING`] is refused with
+    /// [`crate::Reason::NoLimit`], before all else.
+    pub fn write_planned_within<'o>(
+        self,
+        plan: &[u8],
+        limit: usize,
+        output: &'o mut [u8],
+    ) -> Result<&'o mut [u8], Refusal> {
         let mut length = 0;
         // SAFETY: the slices and the number are valid for the call, and those
         // that are written overlap nothing.
         let number = unsafe {
-            sys::binmode_write_planned(
+            sys::binmode_write_planned_within(
                 self.words.as_ptr(),
                 self.words.len(),
                 self.rows,
@@ -51,6 +63,7 @@ impl Table<'_> {
                 self.text.len(),
                 plan.as_ptr(),
                 plan.len(),
+                limit,
                 output.as_mut_ptr(),
                 output.len(),
                 &mut length,
@@ -63,8 +76,8 @@ impl Table<'_> {
     }
 
     /// Whether a plan and prices, one for each string in row order, prove that
-    /// no message with the table's meaning is shorter than the plan's. `false`
-    /// is no statement.
+    /// no message with the table's meaning is shorter than the plan's. That does
+    /// not depend on a limit of nesting. `false` is no statement.
     #[must_use]
     pub fn proves_shortest(self, plan: &[u8], prices: &[u32]) -> bool {
         // SAFETY: the slices are valid for the call, and nothing is written.
@@ -93,6 +106,16 @@ impl Message<'_> {
         output: &'o mut [u8],
     ) -> Result<&'o mut [u8], Refusal> {
         self.table().write_planned(plan, output)
+    }
+
+    /// As [`Table::write_planned_within`].
+    pub fn write_planned_within<'o>(
+        self,
+        plan: &[u8],
+        limit: usize,
+        output: &'o mut [u8],
+    ) -> Result<&'o mut [u8], Refusal> {
+        self.table().write_planned_within(plan, limit, output)
     }
 
     /// As [`Table::proves_shortest`].

@@ -23,7 +23,7 @@ pub enum Reason {
     UnsetPosition = 6,
     /// An Other with a standard name.
     StandardName = 7,
-    /// Nesting over 32.
+    /// Nesting over the limit.
     TooDeep = 8,
     /// No row left.
     NoRow = 9,
@@ -55,6 +55,8 @@ pub enum Reason {
     ShortList = 21,
     /// The row number does not split the table between the stations.
     NotSplit = 22,
+    /// The limit of nesting is not 1 to 32.
+    NoLimit = 23,
     /// The plan does not send the table's strings.
     NotTaken = 24,
     /// A sound job ends before the card asked for.
@@ -64,7 +66,7 @@ pub enum Reason {
 use Reason::*;
 
 impl Reason {
-    const ALL: [Reason; 24] = [
+    const ALL: [Reason; 25] = [
         Ended,
         WrongPrefix,
         UnexpectedByte,
@@ -87,6 +89,7 @@ impl Reason {
         RepeatedKey,
         ShortList,
         NotSplit,
+        NoLimit,
         NotTaken,
         NoCard,
     ];
@@ -123,7 +126,7 @@ impl Reason {
             BadText => "a text that is not UTF-8, or a Double or DateTime that is not ASCII",
             UnsetPosition => "a position of the codebook is recalled that this message has not set",
             StandardName => "an Other has the name of a standard type",
-            TooDeep => "Arrays and Structs nested more than 32 deep",
+            TooDeep => "Arrays and Structs nested deeper than the limit",
             NoRow => "the table has no row left; the most is 4,096",
             TooLong => "over 65,536 bytes",
             NotWritable => "the table is not writable",
@@ -140,6 +143,7 @@ impl Reason {
             RepeatedKey => "a key that its Struct has already",
             ShortList => "the list is shorter than the number of members",
             NotSplit => "the row number does not split the table, or there is no such station",
+            NoLimit => "the limit of nesting is not 1 to 32",
             NotTaken => "the plan does not send the table's strings",
             NoCard => "the job has no card of this number",
         }

@@ -1,6 +1,6 @@
 //! Stations four and five on one table, which a row splits between them.
 
-use crate::{Job, Message, Refusal, sys};
+use crate::{Job, Message, Refusal, USUAL_NESTING, sys};
 
 /// A station, by which the rows of a table are its own.
 #[derive(Clone, Copy, Debug, PartialEq, Eq, Hash)]
@@ -25,8 +25,8 @@ pub enum Station {
 /// four.read(b"binmode-rpc:RI\x04\0\0\0", &mut table)?;
 /// let message = five.read(b"binmode-rpc:Rt", &mut table)?;
 /// assert_eq!(message.items().count(), 2);
-/// // What four has read stands, and the word beyond the last whole row too.
-/// assert_eq!(table[..8], [2, 0, 1, 2, 4, 4, 0, 2]);
+/// // What four has read stands, in columns of two words, and the word beyond the last whole row too.
+/// assert_eq!(table[..8], [2, 4, 0, 4, 1, 0, 2, 2]);
 /// assert_eq!(table[16], 7);
 /// # Ok::<(), binmode::Refusal>(())
 /// ```
@@ -67,17 +67,29 @@ impl Share {
     /// Reads a message into the share, as [`read`](crate::read()) does into a
     /// table.
     pub fn read<'m>(self, bytes: &'m [u8], table: &'m mut [u32]) -> Result<Message<'m>, Refusal> {
+        self.read_within(bytes, table, USUAL_NESTING)
+    }
+
+    /// Reads a message into the share, as
+    /// [`read_within`](crate::read_within()) does into a table.
+    pub fn read_within<'m>(
+        self,
+        bytes: &'m [u8],
+        table: &'m mut [u32],
+        limit: usize,
+    ) -> Result<Message<'m>, Refusal> {
         let (mut rows, mut used, mut place) = (0, 0, 0);
         // SAFETY: the slices and the three numbers are valid for the call, and
         // those that are written overlap nothing.
         let answer = unsafe {
-            sys::binmode_station_read(
+            sys::binmode_station_read_within(
                 bytes.as_ptr(),
                 bytes.len(),
                 table.as_mut_ptr(),
                 table.len(),
                 self.split,
                 self.station as u8,
+                limit,
                 &mut rows,
                 &mut used,
                 &mut place,
@@ -166,15 +178,28 @@ pub fn shares(table: &mut [u32], split: usize) -> Result<(&mut [u32], &mut [u32]
 pub struct StationPieces {
     state: sys::Pieces,
     share: Share,
+    limit: usize,
 }
 
 impl StationPieces {
-    /// A message of which nothing has come: more is wanted.
+    /// A message of which nothing has come: more is wanted. The limit of
+    /// nesting is [`USUAL_NESTING`].
     pub fn start(share: Share) -> Self {
+        StationPieces::start_within(share, USUAL_NESTING)
+    }
+
+    /// The same, at this limit of nesting, for all its calls. One that is not 1
+    /// to [`crate::MOST_NESTING`] is refused with [`crate::Reason::NoLimit`] by
+    /// the first of them.
+    pub fn start_within(share: Share, limit: usize) -> Self {
         let mut state = sys::Pieces::default();
         // SAFETY: the state is valid for the call.
         unsafe { sys::binmode_pieces_start(&mut state) };
-        StationPieces { state, share }
+        StationPieces {
+            state,
+            share,
+            limit,
+        }
     }
 
     /// Takes the next piece. Once the message is decided, later pieces change
@@ -189,7 +214,7 @@ impl StationPieces {
         // SAFETY: the state and the slices are valid for the call, and those
         // that are written overlap nothing.
         let answer = unsafe {
-            sys::binmode_station_pieces_next(
+            sys::binmode_station_pieces_next_within(
                 &mut self.state,
                 piece.as_ptr(),
                 piece.len(),
@@ -199,6 +224,7 @@ impl StationPieces {
                 table.len(),
                 self.share.split,
                 self.share.station as u8,
+                self.limit,
             )
         };
         match answer {
@@ -225,7 +251,7 @@ impl StationPieces {
     pub fn end<'m>(mut self, room: &'m [u8], table: &'m mut [u32]) -> Result<Message<'m>, Refusal> {
         // SAFETY: as in `take`.
         let answer = unsafe {
-            sys::binmode_station_pieces_end(
+            sys::binmode_station_pieces_end_within(
                 &mut self.state,
                 room.as_ptr(),
                 room.len(),
@@ -233,6 +259,7 @@ impl StationPieces {
                 table.len(),
                 self.share.split,
                 self.share.station as u8,
+                self.limit,
             )
         };
         let sys::Pieces {

@@ -51,13 +51,24 @@ pub const MORE_WANTED: u8 = 255;
 pub const NOT_SPLIT: u8 = 22;
 
 unsafe extern "C" {
-    pub fn binmode_version_1() -> u32;
+    pub fn binmode_version_2() -> u32;
 
     pub fn binmode_read(
         message: *const u8,
         message_len: usize,
         table: *mut u32,
         table_words: usize,
+        rows: *mut usize,
+        used: *mut usize,
+        place: *mut usize,
+    ) -> u8;
+
+    pub fn binmode_read_within(
+        message: *const u8,
+        message_len: usize,
+        table: *mut u32,
+        table_words: usize,
+        limit: usize,
         rows: *mut usize,
         used: *mut usize,
         place: *mut usize,
@@ -74,6 +85,18 @@ unsafe extern "C" {
         length: *mut usize,
     ) -> u8;
 
+    pub fn binmode_write_within(
+        table: *const u32,
+        table_words: usize,
+        rows: usize,
+        text: *const u8,
+        text_len: usize,
+        limit: usize,
+        output: *mut u8,
+        output_len: usize,
+        length: *mut usize,
+    ) -> u8;
+
     pub fn binmode_write_planned(
         table: *const u32,
         table_words: usize,
@@ -82,6 +105,20 @@ unsafe extern "C" {
         text_len: usize,
         plan: *const u8,
         plan_len: usize,
+        output: *mut u8,
+        output_len: usize,
+        length: *mut usize,
+    ) -> u8;
+
+    pub fn binmode_write_planned_within(
+        table: *const u32,
+        table_words: usize,
+        rows: usize,
+        text: *const u8,
+        text_len: usize,
+        plan: *const u8,
+        plan_len: usize,
+        limit: usize,
         output: *mut u8,
         output_len: usize,
         length: *mut usize,
@@ -209,12 +246,32 @@ unsafe extern "C" {
         table_words: usize,
     ) -> u8;
 
+    pub fn binmode_pieces_next_within(
+        state: *mut Pieces,
+        piece: *const u8,
+        piece_len: usize,
+        room: *mut u8,
+        room_len: usize,
+        table: *mut u32,
+        table_words: usize,
+        limit: usize,
+    ) -> u8;
+
     pub fn binmode_pieces_end(
         state: *mut Pieces,
         room: *const u8,
         room_len: usize,
         table: *mut u32,
         table_words: usize,
+    ) -> u8;
+
+    pub fn binmode_pieces_end_within(
+        state: *mut Pieces,
+        room: *const u8,
+        room_len: usize,
+        table: *mut u32,
+        table_words: usize,
+        limit: usize,
     ) -> u8;
 
     pub fn binmode_share(
@@ -232,6 +289,19 @@ unsafe extern "C" {
         table_words: usize,
         split: usize,
         station: u8,
+        rows: *mut usize,
+        used: *mut usize,
+        place: *mut usize,
+    ) -> u8;
+
+    pub fn binmode_station_read_within(
+        message: *const u8,
+        message_len: usize,
+        table: *mut u32,
+        table_words: usize,
+        split: usize,
+        station: u8,
+        limit: usize,
         rows: *mut usize,
         used: *mut usize,
         place: *mut usize,
@@ -263,6 +333,19 @@ unsafe extern "C" {
         station: u8,
     ) -> u8;
 
+    pub fn binmode_station_pieces_next_within(
+        state: *mut Pieces,
+        piece: *const u8,
+        piece_len: usize,
+        room: *mut u8,
+        room_len: usize,
+        table: *mut u32,
+        table_words: usize,
+        split: usize,
+        station: u8,
+        limit: usize,
+    ) -> u8;
+
     pub fn binmode_station_pieces_end(
         state: *mut Pieces,
         room: *const u8,
@@ -273,6 +356,17 @@ unsafe extern "C" {
         station: u8,
     ) -> u8;
 
+    pub fn binmode_station_pieces_end_within(
+        state: *mut Pieces,
+        room: *const u8,
+        room_len: usize,
+        table: *mut u32,
+        table_words: usize,
+        split: usize,
+        station: u8,
+        limit: usize,
+    ) -> u8;
+
     pub fn binmode_station_write(
         table: *const u32,
         table_words: usize,
@@ -281,6 +375,51 @@ unsafe extern "C" {
         rows: usize,
         text: *const u8,
         text_len: usize,
+        output: *mut u8,
+        output_len: usize,
+        length: *mut usize,
+    ) -> u8;
+
+    pub fn binmode_station_write_within(
+        table: *const u32,
+        table_words: usize,
+        split: usize,
+        station: u8,
+        rows: usize,
+        text: *const u8,
+        text_len: usize,
+        limit: usize,
+        output: *mut u8,
+        output_len: usize,
+        length: *mut usize,
+    ) -> u8;
+
+    pub fn binmode_station_write_planned(
+        table: *const u32,
+        table_words: usize,
+        split: usize,
+        station: u8,
+        rows: usize,
+        text: *const u8,
+        text_len: usize,
+        plan: *const u8,
+        plan_len: usize,
+        output: *mut u8,
+        output_len: usize,
+        length: *mut usize,
+    ) -> u8;
+
+    pub fn binmode_station_write_planned_within(
+        table: *const u32,
+        table_words: usize,
+        split: usize,
+        station: u8,
+        rows: usize,
+        text: *const u8,
+        text_len: usize,
+        plan: *const u8,
+        plan_len: usize,
+        limit: usize,
         output: *mut u8,
         output_len: usize,
         length: *mut usize,
@@ -321,4 +460,4 @@ unsafe extern "C" {
 
 /// Whatever links this crate refers to the library's major version.
 #[used]
-static LINKED: unsafe extern "C" fn() -> u32 = binmode_version_1;
+static LINKED: unsafe extern "C" fn() -> u32 = binmode_version_2;

@@ -1,6 +1,6 @@
 //! Tables: rows, the items that they are, and what is below an item.
 
-use crate::{MOST_ROWS, Message, ROW_WORDS, Refusal, sys};
+use crate::{MOST_ROWS, Message, ROW_WORDS, Refusal, USUAL_NESTING, sys};
 use core::fmt::{self, Display, Formatter};
 use core::iter::FusedIterator;
 
@@ -67,10 +67,13 @@ impl Display for Kind {
     }
 }
 
-/// Where the word of a row stands, 0 to 3 for kind, a, b and end. The one
-/// place that knows the layout of a table.
-const fn word_place(_words: usize, row: usize, word: usize) -> usize {
-    row * ROW_WORDS + word
+/// Where the word of a row stands in a table of so many words, 0 to 3 for
+/// kind, a, b and end: a table is a column of kinds, then one of a's, one of
+/// b's and one of ends, each as long as its [`room`]. The one place that knows
+/// the layout of a table.
+#[must_use]
+pub const fn word_place(words: usize, row: usize, word: usize) -> usize {
+    room(words) * word + row
 }
 
 /// How many rows a table of so many words has room for.
@@ -123,6 +126,23 @@ impl<'t> Table<'t> {
         })
     }
 
+    /// A column of the stated rows, 0 to 3 for kind, a, b and end, as far as the
+    /// table has room: word r of it is that of row r.
+    ///
+    /// ```
+    /// let mut words = [0; binmode::TABLE_WORDS];
+    /// let message = binmode::read(b"binmode-rpc:RA\x02\0\0\0tf", &mut words)?;
+    /// assert_eq!(message.table().column(0), [2, 9, 5, 5]);
+    /// assert_eq!(message.table().column(3), [4, 4, 3, 4]);
+    /// # Ok::<(), binmode::Refusal>(())
+    /// ```
+    #[must_use]
+    pub fn column(self, word: usize) -> &'t [u32] {
+        assert!(word < ROW_WORDS, "a row has four words");
+        let first = word_place(self.words.len(), 0, word);
+        &self.words[first..][..self.rows.min(room(self.words.len()))]
+    }
+
     /// The items of all rows, in message order.
     pub fn items(self) -> Items<'t> {
         Items {
@@ -133,18 +153,26 @@ impl<'t> Table<'t> {
 
     /// Writes the table as a message, in the one written form, and gives it.
     /// Every byte of the output is settled: the message, and zeros behind it;
-    /// on a refusal, zeros.
+    /// on a refusal, zeros. The limit of nesting is [`USUAL_NESTING`].
     pub fn write(self, output: &mut [u8]) -> Result<&mut [u8], Refusal> {
+        self.write_within(USUAL_NESTING, output)
+    }
+
+    /// Writes the table as [`Table::write`] does, at this limit of nesting. One
+    /// that is not 1 to [`crate::MOST_NESTING`] is refused with
+    /// [`crate::Reason::NoLimit`], before all else.
+    pub fn write_within(self, limit: usize, output: &mut [u8]) -> Result<&mut [u8], Refusal> {
         let mut length = 0;
         // SAFETY: the slices and the number are valid for the call, and those
         // that are written overlap nothing.
         let number = unsafe {
-            sys::binmode_write(
+            sys::binmode_write_within(
                 self.words.as_ptr(),
                 self.words.len(),
                 self.rows,
                 self.text.as_ptr(),
                 self.text.len(),
+                limit,
                 output.as_mut_ptr(),
                 output.len(),
                 &mut length,

@@ -250,6 +250,8 @@ fn limits() {
     assert_eq!(of("BYTES"), binmode::MOST_BYTES);
     assert_eq!(of("ROWS"), binmode::MOST_ROWS);
     assert_eq!(of("NESTING"), binmode::MOST_NESTING);
+    let usual = defined("BINMODE_USUAL_");
+    assert_eq!(usual["NESTING"] as usize, binmode::USUAL_NESTING);
     let stack = defined("BINMODE_STACK_");
     let stack = ["READ", "LOOKUP", "WRITE", "INDEX"].map(|name| stack[name] as usize);
     let here = [
@@ -276,6 +278,6 @@ fn versions() {
         Some(version["MINOR"])
     );
     // SAFETY: it takes nothing.
-    assert_eq!(unsafe { sys::binmode_version_1() }, version["MINOR"]);
+    assert_eq!(unsafe { sys::binmode_version_2() }, version["MINOR"]);
     assert!(header().contains(&format!("binmode_version_{}(void)", version["MAJOR"])));
 }

@@ -70,6 +70,8 @@ fn rows_as_set() {
     assert!(set_row(&mut words, 1, [9, 0, 1, 3]));
     assert!(set_row(&mut words, 2, [11, 1, 2, 3]));
     assert!(!set_row(&mut words, 3, [4, 0, 0, 4]));
+    // Four columns of three words, and two words that are no row's.
+    assert_eq!(words, [2, 9, 11, 0, 0, 1, 1, 1, 2, 3, 3, 3, 7, 7]);
     let table = Table {
         words: &words,
         rows: 3,
@@ -78,8 +80,10 @@ fn rows_as_set() {
     let mut output = [0; 40];
     let message = table.write(&mut output).expect("a writable table");
     assert_eq!(message, b"binmode-rpc:RA\x01\0\0\0U\x02\0\0\0bc");
-    let mut again = [0; 12];
+    let mut again = [7; 14];
     let message = read(message, &mut again).expect("a message");
+    let columns = [0, 1, 2, 3].map(|word| message.table().column(word));
+    assert_eq!(columns, [[2, 9, 11], [0, 0, 23], [1, 1, 2], [3, 3, 3]]);
     let kinds: Vec<Kind> = message.items().map(Item::kind).collect();
     assert_eq!(kinds, [Kind::Response, Kind::Array, Kind::String]);
     assert_eq!(message.item(2).and_then(Item::text), Some("bc"));

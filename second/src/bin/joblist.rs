@@ -2,8 +2,9 @@
 //! its cards, `joblist FILE NUMBER` one of them.
 
 use second::job::{Card, Job, read_card};
-use second::rules::{ROW_LIMIT, ROW_WORDS};
-use second::{Read, read};
+use second::layout::{Layout, Rows};
+use second::rules::{NESTING_LIMIT, ROW_LIMIT, ROW_WORDS};
+use second::{ByColumns, Read, read_within};
 use std::io::{BufWriter, Result, Write, stdout};
 use std::process::ExitCode;
 
@@ -51,7 +52,7 @@ fn list_all(file: &[u8], output: &mut impl Write) -> Result<()> {
     let job = Job::new(file);
     for (number, (place, body)) in job.cards.iter().enumerate() {
         write!(output, "card {number} at {place} bytes {} ", body.len())?;
-        match read(body, &mut table) {
+        match read_within::<ByColumns>(body, &mut table, NESTING_LIMIT) {
             Read::Accepted { rows, used } => writeln!(output, "rows {rows} used {used}")?,
             Read::Refused { number, place } => writeln!(output, "refused {number} at {place}")?,
         }
@@ -66,11 +67,11 @@ fn list_all(file: &[u8], output: &mut impl Write) -> Result<()> {
 
 fn list_one(file: &[u8], number: usize, output: &mut impl Write) -> Result<()> {
     let mut table = vec![0; ROW_LIMIT * ROW_WORDS];
-    match read_card(file, number, &mut table) {
+    match read_card::<ByColumns>(file, number, &mut table) {
         Card::Accepted { rows, used, body } => {
             writeln!(output, "rows {rows} used {used} body {body}")?;
-            let (all, _) = table.as_chunks::<ROW_WORDS>();
-            for (index, [kind, a, b, end]) in all[..rows].iter().enumerate() {
+            let all = ByColumns::rows(&table).all().take(rows);
+            for (index, [kind, a, b, end]) in all.enumerate() {
                 writeln!(output, "{index} {kind} {a} {b} {end}")?;
             }
         }

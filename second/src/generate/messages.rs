@@ -602,7 +602,7 @@ const NEAR_KEYS: [&[u8]; 10] = [
 ];
 
 /// Nested between these depths.
-fn deep(random: &mut Random, least: usize, most: usize) -> Vec<u8> {
+pub fn deep(random: &mut Random, least: usize, most: usize) -> Vec<u8> {
     let levels = random.between(least, most);
     let mut builder = Builder::new(random);
     match builder.random.below(3) {

@@ -3,8 +3,9 @@
 use super::Random;
 use super::ascii::{doubtful, good};
 use super::messages::{near_or_huge, valid};
+use crate::layout::ByRows;
 use crate::meaning::content;
-use crate::reader::{Read, read};
+use crate::reader::{Read, read_within};
 use crate::rules::*;
 use std::ops::Range;
 
@@ -72,7 +73,7 @@ pub fn output_length(random: &mut Random, need: usize) -> usize {
 fn from_message(random: &mut Random) -> Table {
     let text = valid(random);
     let mut words = vec![0; ROW_LIMIT * ROW_WORDS];
-    let rows = match read(&text, &mut words) {
+    let rows = match read_within::<ByRows>(&text, &mut words, NESTING_LIMIT) {
         Read::Accepted { rows, .. } => rows,
         Read::Refused { .. } => 0,
     };
@@ -275,7 +276,7 @@ fn many_repeated(random: &mut Random) -> Table {
 }
 
 /// Nested between these depths, in Arrays and Structs of one item each.
-fn deep(random: &mut Random, least: usize, most: usize) -> Table {
+pub fn deep(random: &mut Random, least: usize, most: usize) -> Table {
     let levels = random.between(least, most);
     let mut rows = Rows(Vec::new());
     let root = *random.pick(&[kind::CALL, kind::RESPONSE]);

@@ -6,10 +6,10 @@ use Rattle.answers.proofs.answer_all.Statement.{statement}
 use Rattle.answers.proofs.answer_all.Tie as tie
 
 abbrev Inv-loop : tie.InvT-loop
-Inv-loop input message₀ table₀ output₀ at₀ t7 message table output at = (length message ≡ length message₀) × (length table ≡ length table₀) × (length output ≡ length output₀)
+Inv-loop input message₀ list₀ table₀ output₀ at₀ t7 message list table output at = (length message ≡ length message₀) × (length list ≡ length list₀) × (length table ≡ length table₀) × (length output ≡ length output₀)
 
 abbrev μ-loop : tie.MeasureT-loop
-μ-loop input message₀ table₀ output₀ at₀ t7 message table output at = length input - at
+μ-loop input message₀ list₀ table₀ output₀ at₀ t7 message list table output at = length input - at
 
 pub answer-all-spec : {M : Type 1} → statement M
 answer-all-spec = tie.close (tie.spec
@@ -29,4 +29,5 @@ answer-all-spec = tie.close (tie.spec
     (λ c. search needs)  -- same-length
     (λ c. search needs)  -- same-length-2
     (λ c. search needs)  -- same-length-3
+    (λ c. search needs)  -- same-length-4
     (λ c. search needs))  -- returns

@@ -15,9 +15,8 @@ words-shown-spec = tie.close (tie.spec
     Inv-loop
     μ-loop
     (λ c. search needs)  -- loop-holds
-    (λ c. search needs)  -- sub-if1
-    (λ c. search needs)  -- mul-if1
-    (λ c. search needs)  -- shared-slice-read-if1
+    (λ c. search needs)  -- sub-word-listed
+    (λ c κs. search needs)  -- word-listed-requires
     (λ c. search needs)  -- returns
     (λ c. search needs)  -- sub-n
     (λ c. search needs)  -- loop-less

@@ -20,8 +20,7 @@ write-words-spec = tie.close (tie.spec
     (λ c. search needs)  -- loop-holds
     (λ c. search needs)  -- slice-aggregate-write-2
     (λ c κs. search needs)  -- write-requires-2
-    (λ c. search needs)  -- mul-write-word
-    (λ c. search needs)  -- shared-slice-read-write-word
+    (λ c κs. search needs)  -- word-listed-requires
     (λ c κs. search needs)  -- write-word-requires
     (λ c. search needs)  -- add-i
     (λ c. search needs)  -- loop-less

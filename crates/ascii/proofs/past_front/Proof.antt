@@ -6,6 +6,8 @@ use Rattle.ascii.proofs.past_front.Tie as tie
 
 pub past-front-spec : {M : Type 1} → statement M
 past-front-spec = tie.close (tie.spec
+    (λ c κs. search needs)  -- past-short-requires
+    (λ c. search needs)  -- returns
     (λ c κs. search needs)  -- past-run-requires
     (λ c κs. search needs)  -- past-last-requires
-    (λ c. search passing))  -- returns
+    (λ c. search passing))  -- returns-2

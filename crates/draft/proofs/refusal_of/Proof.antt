@@ -18,4 +18,5 @@ refusal-of-spec = tie.close (tie.spec
     (λ c. search refusals)  -- returns-12
     (λ c. search refusals)  -- returns-13
     (λ c. search refusals)  -- returns-14
-    (λ c. search refusals))  -- returns-15
+    (λ c. search refusals)  -- returns-15
+    (λ c. search refusals))  -- returns-16

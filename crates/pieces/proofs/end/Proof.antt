@@ -5,14 +5,10 @@ use Rattle.pieces.proofs.end.Tie as tie
 
 pub end-spec : {M : Type 1} → statement M
 end-spec = tie.close (tie.spec
+    (λ c κs. search needs)  -- allowed-requires
+    (λ c κs. search piecing)  -- close-requires
+    (λ c. search needs)  -- same-length
+    (λ c. search needs)  -- returns
     (λ c κs. search needs)  -- clear-requires
     (λ c. search needs)  -- same-length
-    (λ c. search piecing)  -- returns
-    (λ c. search needs)  -- enum-known-state
-    (λ c κs. search needs)  -- clear-requires-2
-    (λ c. search needs)  -- enum-known-state-2
-    (λ c. search needs)  -- enum-known-state-3
-    (λ c. search needs)  -- same-length-2
-    (λ c. search piecing)  -- returns-2
-    (λ c. search piecing)  -- returns-3
-    (λ c. search piecing))  -- returns-4
+    (λ c. search piecing))  -- returns-2

@@ -6,6 +6,5 @@ use Rattle.spread.proofs.bucket.Tie as tie
 pub bucket-spec : {M : Type 1} → statement M
 bucket-spec = tie.close (tie.spec
     (λ c κs. search needs)  -- mix-text-requires
-    (λ c κs. search needs)  -- mix-requires
-    (λ c. search mixing)  -- mul-result
-    (λ c. (search mixing, search mixing)))  -- returns
+    (λ c κs. search needs)  -- scale-requires
+    (λ c. (search mixing, search needs)))  -- returns

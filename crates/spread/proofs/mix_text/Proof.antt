@@ -5,9 +5,8 @@ use Rattle.spread.proofs.mix_text.Tie as tie
 
 pub mix-text-spec : {M : Type 1} → statement M
 mix-text-spec = tie.close (tie.spec
-    (λ c κs. search needs)  -- mix-five-requires
+    (λ c κs. search needs)  -- is-short-requires
+    (λ c κs. search mixing)  -- mix-three-requires
     (λ c. (search mixing, search needs))  -- returns
-    (λ c κs. search needs)  -- mix-long-requires
-    (λ c. (search mixing, search needs))  -- returns-2
-    (λ c κs. search needs)  -- mix-long-requires-2
-    (λ c. (search mixing, search needs)))  -- returns-3
+    (λ c κs. search needs)  -- mix-other-requires
+    (λ c. (search mixing, search needs)))  -- returns-2

@@ -1,9 +1,16 @@
 use mathlib.Core.Path.{refl}
-use Rattle.table.proofs.Rows.{place-in}
+use native.Mathlib.Omega.{arith}
+use Rattle.table.proofs.Rows.{column, place-in}
 use Rattle.draft.specs.Table.{place}
 use borrow.Author.Needs.{needs}
 use Rattle.table.proofs.word.Statement.{statement}
 use Rattle.table.proofs.word.Tie as tie
+
+mul-result : tie.Need-mul-result
+mul-result c = omega (arith, column (c .args .room) (c .args .j) (search needs))
+
+add-result : tie.Need-add-result
+add-result c = omega (arith, column (c .args .room) (c .args .j) (search needs))
 
 returns : tie.Need-returns
 unfolding place
@@ -13,6 +20,6 @@ pub word-spec : {M : Type 1} → statement M
 word-spec =
     tie.close
     (tie.spec
-    (λ c. search needs)  -- mul-result
-    (λ c. search needs)  -- add-result
+    mul-result
+    add-result
     returns)

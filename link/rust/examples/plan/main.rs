@@ -7,7 +7,7 @@
 
 mod solver;
 
-use binmode::{Kind, MOST_BYTES, Reason, Refusal, TABLE_WORDS, read};
+use binmode::{Kind, MOST_BYTES, MOST_NESTING, Reason, Refusal, TABLE_WORDS, read_within};
 use std::error::Error;
 use std::fs::{self, File};
 use std::io::Read as _;
@@ -34,7 +34,7 @@ fn plan() -> Result<(), Box<dyn Error>> {
         .take(MOST_BYTES as u64 + 1)
         .read_to_end(&mut bytes)?;
     let mut table = vec![0; TABLE_WORDS];
-    let message = read(&bytes, &mut table)?;
+    let message = read_within(&bytes, &mut table, MOST_NESTING)?;
     let strings = message.items().filter(|item| item.kind() == Kind::String);
     let texts: Vec<&[u8]> = strings
         .map(|string| string.text().unwrap_or_default().as_bytes())
@@ -43,14 +43,14 @@ fn plan() -> Result<(), Box<dyn Error>> {
 
     println!("bytes {}", message.bytes().len());
     let mut output = vec![0; MOST_BYTES];
-    match message.write(&mut output) {
+    match message.write_within(MOST_NESTING, &mut output) {
         Ok(form) => println!("written form {}", form.len()),
         Err(refusal) if refusal.reason == Reason::FormTooLong => {
             println!("written form over {MOST_BYTES}")
         }
         Err(refusal) => return Err(refusal.into()),
     }
-    let written = message.write_planned(&solution.plan, &mut output)?;
+    let written = message.write_planned_within(&solution.plan, MOST_NESTING, &mut output)?;
     println!("planned {}", written.len());
     match message.proves_shortest(&solution.plan, &solution.prices) {
         true => println!("no message with this meaning is shorter: proved"),

@@ -1,0 +1,1 @@
+// The demands on reading, as statements over the definitions: see specs/.

@@ -1,0 +1,14 @@
+use Rattle.spread.proofs.Mixing.{mixing}
+use borrow.Author.Needs.{needs}
+use Rattle.spread.proofs.mix_whole.Statement.{statement}
+use Rattle.spread.proofs.mix_whole.Tie as tie
+
+pub mix-whole-spec : {M : Type 1} → statement M
+mix-whole-spec = tie.close (tie.spec
+    (λ c κs. search needs)  -- is-short-requires
+    (λ c κs. search mixing)  -- mix-three-requires
+    (λ c. (search mixing, search needs))  -- returns
+    (λ c κs. search needs)  -- mix-other-requires
+    (λ c. (search mixing, search needs))  -- returns-2
+    (λ c κs. search needs)  -- fold-whole-requires
+    (λ c. (search mixing, search mixing)))  -- returns-3

@@ -1,0 +1,10 @@
+use Rattle.spread.proofs.Mixing.{mixing}
+use borrow.Author.Needs.{needs}
+use Rattle.spread.proofs.scale.Statement.{statement}
+use Rattle.spread.proofs.scale.Tie as tie
+
+pub scale-spec : {M : Type 1} → statement M
+scale-spec = tie.close (tie.spec
+    (λ c κs. search needs)  -- mix-requires
+    (λ c. search mixing)  -- mul-result
+    (λ c. (search mixing, search mixing)))  -- returns
