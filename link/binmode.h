@@ -131,6 +131,7 @@ static uint32_t (*const binmode_linked_version)(void) BINMODE_KEPT = binmode_ver
 #define BINMODE_REFUSED_NOT_SPLIT 22        /* station: the row gives no shares, being 0 or not below the table's whole rows */
 #define BINMODE_REFUSED_NO_LIMIT 23         /* read, pieces, write: the limit of nesting is not 1 to 32 */
 #define BINMODE_REFUSED_NOT_TAKEN 24        /* write with a plan: the plan is not taken */
+#define BINMODE_REFUSED_OUT_OF_RANGE 25     /* glyph: an integer that is not of 32 bits, with its sign */
 #define BINMODE_REFUSED_NO_CARD 26          /* job file: a sound job ends before the card asked for */
 #define BINMODE_MORE_WANTED 255             /* pieces: no answer yet */
 
@@ -162,6 +163,15 @@ static uint32_t (*const binmode_linked_version)(void) BINMODE_KEPT = binmode_ver
 #define BINMODE_KIND_OTHER 12     /*          0                       2        type name (a String), Binary */
 
 /*
+ * The kinds that rows of glyph messages have besides: an integer is an Integer there, a unicode a String, a bytearray a Binary, T and F are
+ * Booleans, a list is an Array and a dict a Struct.
+ */
+#define BINMODE_KIND_NIL 13          /*       0                       0        none */
+#define BINMODE_KIND_ORDERED_DICT 14 /*       0                       pairs    key (a String), object, key, object ..; the keys differ */
+#define BINMODE_KIND_EXTENSION 15    /*       0                       3        name (a String), attributes (either dict), content */
+#define BINMODE_KIND_NODE 16         /*       0                       3        three objects, as for an extension; in glyph 0.5 any */
+
+/*
  * Reads a message into a table, at the limit of nesting 8.
  *
  *   message, message_len  the bytes of the message; bytes after its end are ignored, but count for BINMODE_REFUSED_TOO_LONG
@@ -191,6 +201,25 @@ uint8_t binmode_read(const uint8_t *message, size_t message_len, uint32_t *table
  */
 uint8_t binmode_read_within(const uint8_t *message, size_t message_len, uint32_t *table, size_t table_words, size_t limit,
                             size_t *rows, size_t *used, size_t *place) BINMODE_NO_NULL;
+
+/*
+ * Reads a message of another data house into a table: hyperglyph 1.0, or glyph 0.5 of its old depot. There is no prefix; blanks may stand
+ * where the format allows them, and around the root.
+ *
+ *   message .. table_words  as for binmode_read
+ *   limit                   as for binmode_read_within: lists, dicts, extensions and nodes count
+ *   rows, used, place       as for binmode_read; blanks behind the root are not counted as used
+ *
+ * Gives BINMODE_ACCEPTED, and the table has the rows, and zeros in all other words; or a refusal's number (1, 3, 5, 8, 9, 10, 20, 23 or 25),
+ * and the whole table is zeros. A place is that of the item's first byte, or, where an object or the `;` of one with children is due, of the
+ * byte there or the bytes' end. Such a table is not for the other functions of this header that take a table: they give
+ * BINMODE_REFUSED_NOT_WRITABLE.
+ */
+uint8_t binmode_read_hyperglyph(const uint8_t *message, size_t message_len, uint32_t *table, size_t table_words, size_t limit,
+                                size_t *rows, size_t *used, size_t *place) BINMODE_NO_NULL;
+
+uint8_t binmode_read_glyph(const uint8_t *message, size_t message_len, uint32_t *table, size_t table_words, size_t limit,
+                           size_t *rows, size_t *used, size_t *place) BINMODE_NO_NULL;
 
 /*
  * Writes the rows of a table as a message, at the limit of nesting 8, in the one written form: texts that occur at least twice as
@@ -530,6 +559,15 @@ uint8_t binmode_station_read_within(const uint8_t *message, size_t message_len, 
                                     size_t split, uint8_t station, size_t limit, size_t *rows, size_t *used,
                                     size_t *place) BINMODE_NO_NULL;
 
+/* binmode_read_hyperglyph and binmode_read_glyph into a station's share. */
+uint8_t binmode_station_read_hyperglyph(const uint8_t *message, size_t message_len, uint32_t *table, size_t table_words,
+                                        size_t split, uint8_t station, size_t limit, size_t *rows, size_t *used,
+                                        size_t *place) BINMODE_NO_NULL;
+
+uint8_t binmode_station_read_glyph(const uint8_t *message, size_t message_len, uint32_t *table, size_t table_words,
+                                   size_t split, uint8_t station, size_t limit, size_t *rows, size_t *used,
+                                   size_t *place) BINMODE_NO_NULL;
+
 /* binmode_read_card into a station's share. */
 uint8_t binmode_station_read_card(const uint8_t *file, size_t file_len, size_t number, uint32_t *table, size_t table_words,
                                   size_t split, uint8_t station, size_t *rows, size_t *used, size_t *place,
@@ -741,6 +779,10 @@ static inline const char *binmode_kind_name(uint32_t kind)
     case BINMODE_KIND_STRUCT: return "Struct";
     case BINMODE_KIND_STRING: return "String";
     case BINMODE_KIND_OTHER: return "Other";
+    case BINMODE_KIND_NIL: return "Nil";
+    case BINMODE_KIND_ORDERED_DICT: return "OrderedDict";
+    case BINMODE_KIND_EXTENSION: return "Extension";
+    case BINMODE_KIND_NODE: return "Node";
     default: return "?";
     }
 }
@@ -774,6 +816,7 @@ static inline const char *binmode_answer_words(size_t answer)
     case BINMODE_REFUSED_NOT_SPLIT: return "the row number does not split the table, or there is no such station";
     case BINMODE_REFUSED_NO_LIMIT: return "the limit of nesting is not 1 to 32";
     case BINMODE_REFUSED_NOT_TAKEN: return "the plan does not send the table's strings";
+    case BINMODE_REFUSED_OUT_OF_RANGE: return "an integer that is not of 32 bits, with its sign";
     case BINMODE_REFUSED_NO_CARD: return "the job has no card of this number";
     case BINMODE_MORE_WANTED: return "more bytes are wanted";
     default: return "an unknown answer";

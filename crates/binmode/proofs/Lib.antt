@@ -4,3 +4,4 @@ pub mod Looking
 pub mod Planning
 pub mod Reporting
 pub mod Behind
+pub mod Glyphing

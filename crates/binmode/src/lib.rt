@@ -1,5 +1,6 @@
 // Reading, writing and job files for programs in C and Rust. A slice passes as a pointer and then a length, a `&mut u64` as a pointer. Each function
 // reports the answer of the call below it, in the numbers that are lent, by the crates of reports.
+mod glyphs; // glyphs.rt: hyperglyph 1.0 and glyph 0.5
 mod in_pieces; // in_pieces.rt: messages in pieces
 mod job_defaults; // job_defaults.rt: job defaults behind a card
 mod lookups; // lookups.rt: looking up members, and positions

@@ -2,8 +2,9 @@
 use mathlib.Core.Path.{_≡_, refl, sym, _∙_}
 use mathlib.Core.Bool.{Bool, true, false, _&&_}
 use mathlib.Core.List.{List}
-use Prim.Native.Nat.{ℕ, zero, suc, _+_, _≤_, _<_}
+use Prim.Native.Nat.{ℕ, zero, suc, _+_, _-_, _≤_, _<_}
 use native.Mathlib.Omega.{arith}
+use lib.ListN.{length}
 use lib.Dec.{ltb, leb, eqb}
 use borrow.Author.Tests.{lt-ltb, le-ltb, le-leb, lt-leb, eq-eqb, ne-eqb, ltb-true, leb-true}
 use Rattle.draft.specs.declared.Refusal.{Refusal}
@@ -16,9 +17,9 @@ use Rattle.draft.specs.declared.Extent.the-variants.{Until, Unfit}
 use Rattle.draft.specs.declared.Row.{Row}
 use Rattle.text.proofs.Comparing.{both, clash}
 use Rattle.draft.specs.Rows.{kindOf}
-use Rattle.draft.specs.Content.{verdict}
+use Rattle.draft.specs.Content.{contentRule, verdict}
 use Rattle.draft.specs.Writable.{fit, Walk, closed, leaf, holding, sized, contentItem, only, string, item}
-use Rattle.extents.specs.Asked.{Ready, Checked, Walkable, isText, checkedBefore, Known}
+use Rattle.extents.specs.Asked.{Ready, Checked, Walkable, isText, isBinary, checkedBefore, Known}
 use Rattle.extents.specs.Ends.{extentOf}
 
 -- a test that was made
@@ -90,6 +91,30 @@ module _ (s : List ℕ) (c : ContentOf) (x : Row) (r : ℕ) {b : Bool} (h : b �
     pub content-fine : {e : Extent} → v ≡ Fine → e ≡ leaf x r → e ≡ contentItem s c x r
     unfolding contentItem
     content-fine k l = l ∙ rw (← h, i, ← j, k)
+
+-- a Binary, which has no rule
+is-binary : (c : ContentOf) → isBinary c ≡ true → c ≡ Binary
+is-binary Double e = clash e refl
+is-binary DateTime e = clash e refl
+is-binary Binary e = refl
+is-binary Text e = clash e refl
+
+module _ (s : List ℕ) (x : Row) (r : ℕ) where
+  pub binary-past : length s < x .a → Unfit ≡ contentItem s Binary x r
+  unfolding contentItem verdict contentRule
+  binary-past h = rw (lt-leb (x .a + x .b) (length s) (omega arith))
+
+  module _ (h : x .a ≤ length s) where
+    pub binary-short : length s - x .a < x .b → Unfit ≡ contentItem s Binary x r
+    unfolding contentItem verdict contentRule
+    binary-short l = rw (lt-leb (x .a + x .b) (length s) (omega arith))
+
+    pub binary-there : {e : Extent} → x .b ≤ length s - x .a → e ≡ leaf x r → e ≡ contentItem s Binary x r
+    unfolding contentItem verdict contentRule
+    binary-there l f = f ∙ rw (le-leb (x .a + x .b) (length s) (omega arith))
+
+  pub content-binary : (c : ContentOf) {b : Bool} {e : Extent} → b ≡ isBinary c → b ≡ true → e ≡ contentItem s Binary x r → e ≡ contentItem s c x r
+  content-binary c h i f = f ∙ rw (is-binary c (sym h ∙ i))
 
 -- content that was checked before
 module _ (c : ContentOf) (n r good : ℕ) where
@@ -181,4 +206,4 @@ row-few h l = omega (arith, h .stated, h .most)
 pub row-room : {r rows room words : ℕ} → Ready rows room words → r < rows → r < room
 row-room h l = omega (arith, h .stated)
 
-pub ruleset walking = (fit-eq, fit-ne, fit-le, fit-gt, none-found, some-found, closed-there, closed-else, leaf-is, holding-on, sized-double, sized-date, sized-binary, sized-text, content-large, content-bad, content-fine, checked-past, checked-short, checked-is, content-known, known-only, only-past, only-not, only-else, only-here, only-there, string-is, row-few, row-room)
+pub ruleset walking = (fit-eq, fit-ne, fit-le, fit-gt, none-found, some-found, closed-there, closed-else, leaf-is, holding-on, sized-double, sized-date, sized-binary, sized-text, content-large, content-bad, content-fine, binary-past, binary-short, binary-there, content-binary, checked-past, checked-short, checked-is, content-known, known-only, only-past, only-not, only-else, only-here, only-there, string-is, row-few, row-room)

@@ -34,6 +34,12 @@ isText DateTime = false
 isText Binary = false
 isText Text = true
 
+abbrev pub isBinary : ContentOf → Bool
+isBinary Double = false
+isBinary DateTime = false
+isBinary Binary = true
+isBinary Text = false
+
 -- whether content of n bytes in row r was checked before
 unfoldable pub checkedBefore : ContentOf → ℕ → ℕ → ℕ → Bool
 checkedBefore c n r good = ltb r good && (leb 512 n && isText c)

@@ -9,7 +9,7 @@ ghost use Prim.Native.Nat.{_+_, _<_};
 ghost use Rattle.draft.specs.Rows.{kindOf};
 ghost use Rattle.draft.specs.Table.{rowAt};
 ghost use Rattle.draft.specs.Writable.{closed, leaf, over, holding, integerItem, booleanItem, sized as sizedBy, contentItem, only, string};
-ghost use Rattle.extents.specs.Asked.{Walkable, Known, checkedBefore};
+ghost use Rattle.extents.specs.Asked.{Walkable, Known, isBinary, checkedBefore};
 ghost use Rattle.extents.specs.Ends.{extentOf};
 
 // A String of at least so many bytes is long: it may have been checked before.
@@ -87,11 +87,42 @@ fn is_checked(content: Content, n: u32, r: usize, good: usize) -> bool
     }
 }
 
+// Whether content is a Binary's, which has no rule.
+fn is_binary(content: Content) -> bool
+    ensures { λ b. ⌜ b ≡ isBinary content ⌝ }
+{
+    match content {
+        Content::Double => false,
+        Content::DateTime => false,
+        Content::Binary => true,
+        Content::Text => false,
+    }
+}
+
+// A Binary, whose bytes only have to be there.
+fn walk_binary(text: &[u8], row: Row, r: usize) -> usize
+    requires { ⌜ r < 4096 ⌝ }
+    ensures { λ e. ⌜ extentOf e ≡ contentItem (now (text .entry)) Content.Binary row r ⌝ }
+{
+    let from = row.a as usize;
+    let n = row.b as usize;
+    if text.len() < from {
+        return 0;
+    }
+    if text.len() - from < n {
+        return 0;
+    }
+    walk_leaf(row, r)
+}
+
 // Content that lies inside the text bytes and keeps its rule.
 pub fn walk_content(text: &[u8], content: Content, row: Row, r: usize, good: usize) -> usize
     requires { ⌜ (r < 4096) × Known (now text) content row r good ⌝ }
     ensures { λ e. ⌜ extentOf e ≡ contentItem (now (text .entry)) content row r ⌝ }
 {
+    if is_binary(content) {
+        return walk_binary(text, row, r);
+    }
     if is_checked(content, row.b, r, good) {
         return walk_leaf(row, r);
     }

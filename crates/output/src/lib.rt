@@ -5,7 +5,7 @@ ghost use mathlib.Core.List.{[], _∷_};
 ghost use Prim.Native.Nat.{_+_, _≤_};
 ghost use lib.ListN.{length, replicate};
 ghost use Rattle.draft.specs.Written.{lsb, counted, size};
-ghost use Rattle.output.specs.Contract.{Front, Put, Tried};
+ghost use Rattle.output.specs.Contract.{Front, Put, Tried, eightAt};
 
 // All bytes zero.
 pub fn clear(out: &mut [u8])
@@ -18,7 +18,8 @@ pub fn clear(out: &mut [u8])
     }
 }
 
-fn copy(out: &mut [u8], t: &[u8])
+// Bytes to the front, one after the other.
+fn copy_singly(out: &mut [u8], t: &[u8])
     requires { ⌜ length (now t) ≤ length (now out) ⌝ }
     ensures { λ _. ⌜ Front (now (t .entry)) (now (out .entry)) (now (out .exit)) ⌝ }
 {
@@ -27,6 +28,46 @@ fn copy(out: &mut [u8], t: &[u8])
         out[i] = t[i];
         i += 1;
     }
+}
+
+// The eight bytes at `at`, to the same place. Compiled, it is one load and one store.
+fn copy_eight(out: &mut [u8], t: &[u8], at: usize)
+    requires { ⌜ (at + 8 ≤ length (now t)) × (length (now t) ≤ length (now out)) ⌝ }
+    ensures { λ _. ⌜ now (out .exit) ≡ eightAt (now (t .entry)) at (now (out .entry)) ⌝ }
+{
+    let a = t[at];
+    let b = t[at + 1];
+    let c = t[at + 2];
+    let d = t[at + 3];
+    let e = t[at + 4];
+    let f = t[at + 5];
+    let g = t[at + 6];
+    let h = t[at + 7];
+    out[at] = a;
+    out[at + 1] = b;
+    out[at + 2] = c;
+    out[at + 3] = d;
+    out[at + 4] = e;
+    out[at + 5] = f;
+    out[at + 6] = g;
+    out[at + 7] = h;
+}
+
+// Bytes to the front. Most texts have 8 to 16: the first eight and the last are all of them, with no loop.
+fn copy(out: &mut [u8], t: &[u8])
+    requires { ⌜ length (now t) ≤ length (now out) ⌝ }
+    ensures { λ _. ⌜ Front (now (t .entry)) (now (out .entry)) (now (out .exit)) ⌝ }
+{
+    if t.len() < 8 {
+        copy_singly(out, t);
+        return;
+    }
+    if 16 < t.len() {
+        copy_singly(out, t);
+        return;
+    }
+    copy_eight(out, t, 0);
+    copy_eight(out, t, t.len() - 8);
 }
 
 // A number as four bytes.

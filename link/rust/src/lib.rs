@@ -38,6 +38,7 @@ extern crate std;
 #[cfg(not(all(target_arch = "x86_64", target_os = "linux")))]
 compile_error!("the proved library is built for x86-64 Linux");
 
+mod glyph;
 mod index;
 mod job;
 mod lookup;
@@ -49,6 +50,7 @@ mod stations;
 pub mod sys;
 mod table;
 
+pub use glyph::{read_glyph, read_hyperglyph};
 pub use index::{Entry, Index};
 pub use job::{Card, Cards, Job};
 pub use lookup::{Member, Position, Source};

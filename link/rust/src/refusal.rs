@@ -59,6 +59,8 @@ pub enum Reason {
     NoLimit = 23,
     /// The plan does not send the table's strings.
     NotTaken = 24,
+    /// An integer of a glyph message that is not of 32 bits, with its sign.
+    OutOfRange = 25,
     /// A sound job ends before the card asked for.
     NoCard = 26,
 }
@@ -66,7 +68,7 @@ pub enum Reason {
 use Reason::*;
 
 impl Reason {
-    const ALL: [Reason; 25] = [
+    const ALL: [Reason; 26] = [
         Ended,
         WrongPrefix,
         UnexpectedByte,
@@ -91,6 +93,7 @@ impl Reason {
         NotSplit,
         NoLimit,
         NotTaken,
+        OutOfRange,
         NoCard,
     ];
 
@@ -145,6 +148,7 @@ impl Reason {
             NotSplit => "the row number does not split the table, or there is no such station",
             NoLimit => "the limit of nesting is not 1 to 32",
             NotTaken => "the plan does not send the table's strings",
+            OutOfRange => "an integer that is not of 32 bits, with its sign",
             NoCard => "the job has no card of this number",
         }
     }

@@ -74,6 +74,28 @@ unsafe extern "C" {
         place: *mut usize,
     ) -> u8;
 
+    pub fn binmode_read_hyperglyph(
+        message: *const u8,
+        message_len: usize,
+        table: *mut u32,
+        table_words: usize,
+        limit: usize,
+        rows: *mut usize,
+        used: *mut usize,
+        place: *mut usize,
+    ) -> u8;
+
+    pub fn binmode_read_glyph(
+        message: *const u8,
+        message_len: usize,
+        table: *mut u32,
+        table_words: usize,
+        limit: usize,
+        rows: *mut usize,
+        used: *mut usize,
+        place: *mut usize,
+    ) -> u8;
+
     pub fn binmode_write(
         table: *const u32,
         table_words: usize,
@@ -295,6 +317,32 @@ unsafe extern "C" {
     ) -> u8;
 
     pub fn binmode_station_read_within(
+        message: *const u8,
+        message_len: usize,
+        table: *mut u32,
+        table_words: usize,
+        split: usize,
+        station: u8,
+        limit: usize,
+        rows: *mut usize,
+        used: *mut usize,
+        place: *mut usize,
+    ) -> u8;
+
+    pub fn binmode_station_read_hyperglyph(
+        message: *const u8,
+        message_len: usize,
+        table: *mut u32,
+        table_words: usize,
+        split: usize,
+        station: u8,
+        limit: usize,
+        rows: *mut usize,
+        used: *mut usize,
+        place: *mut usize,
+    ) -> u8;
+
+    pub fn binmode_station_read_glyph(
         message: *const u8,
         message_len: usize,
         table: *mut u32,

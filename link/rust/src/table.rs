@@ -27,10 +27,18 @@ pub enum Kind {
     String = 11,
     /// A type name, a String, and a Binary.
     Other = 12,
+    /// Nil of a glyph message.
+    Nil = 13,
+    /// As a Struct, of a glyph message; the order of its members matters.
+    OrderedDict = 14,
+    /// A name, attributes and content, of a glyph message.
+    Extension = 15,
+    /// Three objects, of a glyph message.
+    Node = 16,
 }
 
 impl Kind {
-    const ALL: [Kind; 12] = [
+    const ALL: [Kind; 16] = [
         Kind::Call,
         Kind::Response,
         Kind::Fault,
@@ -43,6 +51,10 @@ impl Kind {
         Kind::Struct,
         Kind::String,
         Kind::Other,
+        Kind::Nil,
+        Kind::OrderedDict,
+        Kind::Extension,
+        Kind::Node,
     ];
 
     /// The kind's number.

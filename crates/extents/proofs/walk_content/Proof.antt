@@ -5,9 +5,12 @@ use Rattle.extents.proofs.walk_content.Tie as tie
 
 pub walk-content-spec : {M : Type 1} → statement M
 walk-content-spec = tie.close (tie.spec
+    (λ c κs. search needs)  -- is-binary-requires
+    (λ c κs. search needs)  -- walk-binary-requires
+    (λ c. search walking)  -- returns
     (λ c κs. search needs)  -- is-checked-requires
     (λ c κs. search needs)  -- walk-leaf-requires
-    (λ c. search walking)  -- returns
+    (λ c. search walking)  -- returns-2
     (λ c κs. search needs)  -- sized-requires
     (λ c. search needs)  -- cast-inspect
     (λ c. search needs)  -- cast-inspect-2
@@ -15,6 +18,6 @@ walk-content-spec = tie.close (tie.spec
     (λ c. search needs)  -- enum-told
     (λ c κs. search needs)  -- walk-leaf-requires-2
     (λ c. search needs)  -- enum-told-2
-    (λ c. search walking)  -- returns-2
     (λ c. search walking)  -- returns-3
-    (λ c. search walking))  -- returns-4
+    (λ c. search walking)  -- returns-4
+    (λ c. search walking))  -- returns-5

@@ -1,25 +1,18 @@
+use Rattle.output.proofs.Putting.{putting}
 use borrow.Author.Needs.{needs}
-use Rattle.output.proofs.Putting.{putting, Copying}
-use Prim.Native.Nat.{_-_}
-use lib.ListN.{length}
 use Rattle.output.proofs.copy.Statement.{statement}
 use Rattle.output.proofs.copy.Tie as tie
 
-abbrev Inv-loop : tie.InvT-loop
-Inv-loop out₀ t i₀ out i = Copying t out₀ i out
-
-abbrev μ-loop : tie.MeasureT-loop
-μ-loop out₀ t i₀ out i = length t - i
-
 pub copy-spec : {M : Type 1} → statement M
 copy-spec = tie.close (tie.spec
-    Inv-loop
-    μ-loop
-    (λ c. search needs)  -- loop-holds
-    (λ c. search needs)  -- shared-slice-read-out
-    (λ c. search needs)  -- slice-write-out
-    (λ c. search needs)  -- add-i
-    (λ c. search needs)  -- loop-less
-    (λ c. search putting)  -- loop-again
+    (λ c κs. search needs)  -- copy-singly-requires
     (λ c. search needs)  -- same-length
-    (λ c. search putting))  -- returns
+    (λ c. search needs)  -- returns
+    (λ c κs. search needs)  -- copy-singly-requires-2
+    (λ c. search needs)  -- same-length-2
+    (λ c. search needs)  -- returns-2
+    (λ c κs. search needs)  -- copy-eight-requires
+    (λ c. search needs)  -- sub-copy-eight
+    (λ c κs. search needs)  -- copy-eight-requires-2
+    (λ c. search needs)  -- same-length-3
+    (λ c. search putting))  -- returns-3

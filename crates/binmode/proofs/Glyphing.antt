@@ -1,0 +1,29 @@
+-- What answers each return of the exported functions on glyph messages. Assumes nothing.
+use mathlib.Core.Path.{_≡_, _∙_, ap}
+use mathlib.Core.List.{List}
+use Prim.Native.Nat.{ℕ}
+use Rattle.shares.specs.declared.Station.{Station}
+use Rattle.shares.specs.Share.{stationOf, splitFor}
+use Rattle.glyph.specs.declared.Edition.{Edition}
+use Rattle.glyph.specs.declared.Answer.{Answer}
+use Rattle.glyph.specs.Read.{Reading}
+use Rattle.glyph.specs.Answers.{Answers}
+use Rattle.glyph_stations.specs.declared.StationAnswer.{StationAnswer}
+use Rattle.glyph_stations.specs.Answers.{ReadFor}
+use Rattle.glyph_reports.specs.Numbers.{Report, reportOf, stationReportOf}
+use Rattle.glyph_reports.proofs.Telling.{report-is}
+use Rattle.binmode.specs.Glyphs.{GlyphReported, StationGlyph}
+
+pub reports-glyph :
+    (o : Reading) {words : ℕ} {T : List ℕ} {a : Answer} {r : Report} → Answers o words T a → r ≡ reportOf a → GlyphReported o words T r
+reports-glyph o d e = record { numbers = e ∙ ap reportOf (d .says) ∙ report-is o; table = d .leaves }
+
+pub reports-station :
+    (number split : ℕ) {row : ℕ} {station : Station} → row ≡ splitFor number split → station ≡ stationOf number → (e : Edition) (limit : ℕ) (s : List ℕ)
+    → {T T′ : List ℕ} {a : StationAnswer} {r : Report} → ReadFor e limit s station row T T′ a → r ≡ stationReportOf a
+    → StationGlyph e limit s number split T T′ r
+reports-station number split i k e limit s d f =
+    let g = rw (i, k) at d in
+    record { numbers = f ∙ ap stationReportOf (g .says); table = g .leaves }
+
+pub ruleset glyphing = (reports-glyph, reports-station)

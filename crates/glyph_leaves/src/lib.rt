@@ -1,0 +1,243 @@
+// Reading the glyph objects without children: integers, unicode and bytearrays, T, F and N.
+// Assumes that the place is in the message and the rows fit the table.
+use glyph::Leaf;
+use glyph::Refusal;
+use item::Step;
+ghost use mathlib.Core.Path.{_≡_};
+ghost use Prim.Native.Nat.{_+_, _*_, _≤_, _<_, min};
+ghost use lib.ListN.{length, getD, drop};
+ghost use Rattle.glyph.specs.Numbers.{digits, decimal, inRange, word};
+ghost use Rattle.glyph.specs.Read.{opened, single, numberFrom, integer, content, lengthened, text, textKind, goodText, leafOf};
+ghost use Rattle.item.specs.Contract.{Fitting};
+ghost use Rattle.glyph_item.specs.Contract.{Did};
+ghost use Rattle.glyph_leaves.specs.Signs.{Signed, Slots};
+
+// A letter and `;`.
+fn read_single(
+    s: &[u8],
+    at: usize,
+    row: usize,
+    kind: u32,
+    a: u32,
+    room: usize,
+    table: &mut [u32],
+) -> Step
+    requires { ⌜ (at < length (now s)) × Slots row room (length (now s)) (length (now table)) ⌝ }
+    ensures { λ r. ⌜ Did (single (now (s .entry)) kind a at row) (length (now (s .entry))) room (at + 1) row (now (table .entry)) (now (table .exit)) r ⌝ }
+{
+    if s.len() <= at + 1 {
+        return glyph_item::refuse(Refusal::Ended, at);
+    }
+    if s[at + 1] != b';' {
+        return glyph_item::refuse(Refusal::UnexpectedByte, at);
+    }
+    item::put_leaf(row, at + 2, kind, a, 0, room, table)
+}
+
+// Whether a number with this sign has 32 bits.
+fn in_range(minus: bool, value: usize) -> bool
+    ensures { λ r. ⌜ r ≡ inRange minus value ⌝ }
+{
+    if minus {
+        return value <= 2147483648;
+    }
+    value <= 2147483647
+}
+
+// Its 32 bits.
+fn word_of(minus: bool, value: usize) -> u32
+    requires { ⌜ value ≤ 2147483648 ⌝ }
+    ensures { λ r. ⌜ r ≡ word minus value ⌝ }
+{
+    if minus {
+        if value == 0 {
+            return 0;
+        }
+        return (4294967296 - value) as u32;
+    }
+    value as u32
+}
+
+// The sign at a place, if one stands there.
+pub struct Sign {
+    pub minus: bool,
+    pub size: usize,
+}
+
+fn sign_of(b: u8) -> Sign
+    ensures { λ r. ⌜ Signed b (r .minus) (r .size) ⌝ }
+{
+    match b {
+        b'-' => Sign {
+            minus: true,
+            size: 1,
+        },
+        b'+' => Sign {
+            minus: false,
+            size: 1,
+        },
+        _ => Sign {
+            minus: false,
+            size: 0,
+        },
+    }
+}
+
+// The integer at `at` whose digits begin at `from`.
+fn read_number(
+    s: &[u8],
+    at: usize,
+    row: usize,
+    minus: bool,
+    from: usize,
+    room: usize,
+    table: &mut [u32],
+) -> Step
+    requires { ⌜ (at < from) × (from ≤ length (now s)) × Slots row room (length (now s)) (length (now table)) ⌝ }
+    ensures { λ r. ⌜ Did (numberFrom (now (s .entry)) minus from at row) (length (now (s .entry))) room (at + 1) row (now (table .entry)) (now (table .exit)) r ⌝ }
+{
+    let number = glyph_bytes::count(s, from);
+    let end = number.end;
+    let value = number.value;
+    if s.len() <= end {
+        return glyph_item::refuse(Refusal::Ended, at);
+    }
+    if end <= from {
+        return glyph_item::refuse(Refusal::UnexpectedByte, at);
+    }
+    if s[end] != b';' {
+        return glyph_item::refuse(Refusal::UnexpectedByte, at);
+    }
+    if in_range(minus, value) {
+        item::put_leaf(row, end + 1, 4, word_of(minus, value), 0, room, table)
+    } else {
+        glyph_item::refuse(Refusal::OutOfRange, at)
+    }
+}
+
+// A letter, an optional sign, digits and `;`.
+fn read_integer(s: &[u8], at: usize, row: usize, room: usize, table: &mut [u32]) -> Step
+    requires { ⌜ (at < length (now s)) × Slots row room (length (now s)) (length (now table)) ⌝ }
+    ensures { λ r. ⌜ Did (integer (now (s .entry)) at row) (length (now (s .entry))) room (at + 1) row (now (table .entry)) (now (table .exit)) r ⌝ }
+{
+    if s.len() <= at + 1 {
+        return glyph_item::refuse(Refusal::Ended, at);
+    }
+    let sign = sign_of(s[at + 1]);
+    read_number(s, at, row, sign.minus, at + 1 + sign.size, room, table)
+}
+
+// Whether content is well-formed: a bytearray's always is.
+fn is_good(unicode: bool, t: &[u8]) -> bool
+    ensures { λ r. ⌜ r ≡ goodText unicode (now (t .entry)) ⌝ }
+{
+    if unicode {
+        return text_check::is_utf8(t);
+    }
+    true
+}
+
+fn text_kind(unicode: bool) -> u32
+    ensures { λ r. ⌜ r ≡ textKind unicode ⌝ }
+{
+    if unicode { 11 } else { 8 }
+}
+
+// The content of the item at `at`, n bytes at o and `;`.
+fn read_content(
+    s: &[u8],
+    at: usize,
+    row: usize,
+    unicode: bool,
+    o: usize,
+    n: usize,
+    room: usize,
+    table: &mut [u32],
+) -> Step
+    requires { ⌜ (at < o) × (o ≤ length (now s)) × (n ≤ 2147483649) × Slots row room (length (now s)) (length (now table)) ⌝ }
+    ensures { λ r. ⌜ Did (content (now (s .entry)) unicode o n at row) (length (now (s .entry))) room (at + 1) row (now (table .entry)) (now (table .exit)) r ⌝ }
+{
+    let end = o + n;
+    if s.len() <= end {
+        return glyph_item::refuse(Refusal::Ended, at);
+    }
+    if s[end] != b';' {
+        return glyph_item::refuse(Refusal::UnexpectedByte, at);
+    }
+    if is_good(unicode, content::part(s, o, n)) {
+        item::put_leaf(
+            row,
+            end + 1,
+            text_kind(unicode),
+            o as u32,
+            n as u32,
+            room,
+            table,
+        )
+    } else {
+        glyph_item::refuse(Refusal::BadText, at)
+    }
+}
+
+// A length, `:` and the content.
+fn read_lengthened(
+    s: &[u8],
+    at: usize,
+    row: usize,
+    unicode: bool,
+    room: usize,
+    table: &mut [u32],
+) -> Step
+    requires { ⌜ (at < length (now s)) × Slots row room (length (now s)) (length (now table)) ⌝ }
+    ensures { λ r. ⌜ Did (lengthened (now (s .entry)) unicode at row) (length (now (s .entry))) room (at + 1) row (now (table .entry)) (now (table .exit)) r ⌝ }
+{
+    let number = glyph_bytes::count(s, at + 1);
+    let end = number.end;
+    if s.len() <= end {
+        return glyph_item::refuse(Refusal::Ended, at);
+    }
+    if end <= at + 1 {
+        return glyph_item::refuse(Refusal::UnexpectedByte, at);
+    }
+    if s[end] != b':' {
+        return glyph_item::refuse(Refusal::UnexpectedByte, at);
+    }
+    read_content(s, at, row, unicode, end + 1, number.value, room, table)
+}
+
+// A letter and `;`, or a letter, a length, `:`, the content and `;`.
+fn read_text(s: &[u8], at: usize, row: usize, unicode: bool, room: usize, table: &mut [u32]) -> Step
+    requires { ⌜ (at < length (now s)) × Slots row room (length (now s)) (length (now table)) ⌝ }
+    ensures { λ r. ⌜ Did (text (now (s .entry)) unicode at row) (length (now (s .entry))) room (at + 1) row (now (table .entry)) (now (table .exit)) r ⌝ }
+{
+    if glyph_bytes::goes_on(s, at + 1) {
+        return read_lengthened(s, at, row, unicode, room, table);
+    }
+    let o = at + 1;
+    item::put_leaf(row, at + 2, text_kind(unicode), o as u32, 0, room, table)
+}
+
+// The object at `at`, whose letter is this leaf's.
+pub fn read_leaf(
+    s: &[u8],
+    at: usize,
+    row: usize,
+    leaf: Leaf,
+    room: usize,
+    table: &mut [u32],
+) -> Step
+    requires { ⌜ (at < length (now s)) × Fitting at row room (length (now s)) (length (now table)) ⌝ }
+    ensures { λ r. ⌜ Did (opened room at row (leafOf (now (s .entry)) leaf at row)) (length (now (s .entry))) room (at + 1) row (now (table .entry)) (now (table .exit)) r ⌝ }
+{
+    if room <= row {
+        return glyph_item::refuse(Refusal::NoRow, at);
+    }
+    match leaf {
+        Leaf::Integer => read_integer(s, at, row, room, table),
+        Leaf::Unicode => read_text(s, at, row, true, room, table),
+        Leaf::Bytes => read_text(s, at, row, false, room, table),
+        Leaf::True => read_single(s, at, row, 5, 1, room, table),
+        Leaf::False => read_single(s, at, row, 5, 0, room, table),
+        Leaf::Nil => read_single(s, at, row, 13, 0, room, table),
+    }
+}

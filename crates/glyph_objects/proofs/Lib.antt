@@ -1,0 +1,4 @@
+pub mod Objects
+pub mod Running
+pub mod Entering
+pub mod Ending
