@@ -4,6 +4,7 @@
 use crate::library::Limit;
 use crate::limits::{read_at, write_at, write_planned_at};
 use second::defaults::{Asked, Text};
+use second::glyph::Edition;
 use second::index::{Allowed, Entry};
 use second::job::Card;
 use second::layout::{columns_of, rows_of};
@@ -15,6 +16,14 @@ pub fn read(message: &[u8], table: &mut [u32], limit: Limit) -> Read {
     filled(table, |table, by_rows| match by_rows {
         true => read_at::<ByRows>(message, table, limit),
         false => read_at::<ByColumns>(message, table, limit),
+    })
+}
+
+pub fn read_glyph(message: &[u8], table: &mut [u32], edition: Edition, limit: usize) -> Read {
+    use second::glyph::read_within;
+    filled(table, |table, by_rows| match by_rows {
+        true => read_within::<ByRows>(message, table, edition, limit),
+        false => read_within::<ByColumns>(message, table, edition, limit),
     })
 }
 

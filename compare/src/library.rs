@@ -3,6 +3,7 @@
 //! they report on is none of these before the call.
 
 use binmode::sys;
+use second::glyph::Edition;
 
 /// The limit of nesting that a call states, if it states one.
 pub type Limit = Option<usize>;
@@ -77,6 +78,34 @@ pub fn read(message: &[u8], table: &mut [u32], limit: Limit) -> Answer {
                 sys::binmode_read_within(bytes, length, words, count, limit, rows, used, place)
             }
         }
+    };
+    Answer {
+        number,
+        rows,
+        used,
+        place,
+    }
+}
+
+/// Reads a message of an edition, at a limit of nesting that is stated.
+pub fn read_glyph(message: &[u8], table: &mut [u32], edition: Edition, limit: usize) -> Answer {
+    let call = match edition {
+        Edition::Hyperglyph => sys::binmode_read_hyperglyph,
+        Edition::Glyph => sys::binmode_read_glyph,
+    };
+    let (mut rows, mut used, mut place) = (NOT_REPORTED, NOT_REPORTED, NOT_REPORTED);
+    // SAFETY: as above.
+    let number = unsafe {
+        call(
+            message.as_ptr(),
+            message.len(),
+            table.as_mut_ptr(),
+            table.len(),
+            limit,
+            &mut rows,
+            &mut used,
+            &mut place,
+        )
     };
     Answer {
         number,

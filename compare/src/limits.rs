@@ -21,7 +21,7 @@ pub const HIGHEST: Limit = Some(NESTING_LIMIT);
 
 /// Limits that tempt to be cut to fewer bits, or counted from: one that may be
 /// stated with higher bits, and the greatest.
-const HUGE: [usize; 8] = [
+pub const HUGE: [usize; 8] = [
     256 + 8,
     (1 << 16) + 8,
     (1 << 31) + 1,

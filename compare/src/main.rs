@@ -1,6 +1,6 @@
 //! Compares the proved library with the second implementation on generated
-//! messages, whole and in pieces, tables, plans, job files, members, indexes
-//! and shares of a table: `compare SEED CALLS`. Ends with 1 where they differ.
+//! messages, whole and in pieces, tables, plans, job files, members, indexes,
+//! shares of a table, and messages of hyperglyph and glyph: `compare SEED CALLS`. Ends with 1 where they differ.
 
 mod both;
 mod change;
@@ -8,6 +8,7 @@ mod defaults;
 mod doubles_and_dates;
 mod edges;
 mod gather;
+mod glyph;
 mod index;
 mod job;
 mod lent;
@@ -25,6 +26,7 @@ mod tally;
 mod writing;
 
 use defaults::Texts;
+use glyph::Glyphs;
 use index::Indexes;
 use job::Jobs;
 use limits::Limits;
@@ -77,6 +79,7 @@ fn compare(run: &mut Run) -> Compared {
     let mut indexes = Indexes::new();
     let mut stations = Stations::new();
     let mut plans = Plans::new();
+    let mut glyphs = Glyphs::new();
     shortest::tried(&mut run.random)?;
     plans.all_of_small(&mut run.random)?;
     plans.many_texts(&mut run.random)?;
@@ -91,6 +94,11 @@ fn compare(run: &mut Run) -> Compared {
     pieces.limit(run)?;
     stations.every_split(run)?;
     stations.many_rows(run)?;
+    glyphs.papers(run)?;
+    glyphs.short(run)?;
+    glyphs.every_byte_behind(run)?;
+    glyphs.numbers(run)?;
+    glyphs.every_limit(run)?;
     let mut limits = Limits {
         reading: &mut reading,
         writing: &mut writing,
@@ -108,6 +116,7 @@ fn compare(run: &mut Run) -> Compared {
         stations.round(run)?;
         writing.round(run)?;
         plans.round(run)?;
+        glyphs.round(run)?;
         if run.random.one_in(4) {
             jobs.round(run)?;
         }

@@ -274,7 +274,7 @@ impl Reading {
 }
 
 /// The rows that stand in a table, each by its four words.
-fn rows_of(words: &[u32], rows: usize) -> Vec<[u32; ROW_WORDS]> {
+pub fn rows_of(words: &[u32], rows: usize) -> Vec<[u32; ROW_WORDS]> {
     let text = b"";
     let table = binmode::Table { words, rows, text };
     table.items().map(binmode::Item::words).collect()

@@ -3,6 +3,7 @@
 use crate::library::{Answer, CardAnswer, Limit, Looked, Placed, Written};
 use crate::state::State;
 use binmode::sys;
+use second::glyph::Edition;
 
 /// What a reported count is before the call: none that is ever reported.
 const NOT_REPORTED: usize = usize::MAX;
@@ -52,6 +53,42 @@ impl Whose {
                     bytes, length, words, count, split, station, limit, rows, used, place,
                 ),
             }
+        };
+        Answer {
+            number,
+            rows,
+            used,
+            place,
+        }
+    }
+
+    /// Reads a message of an edition, at a limit of nesting that is stated.
+    pub fn read_glyph(
+        self,
+        message: &[u8],
+        table: &mut [u32],
+        edition: Edition,
+        limit: usize,
+    ) -> Answer {
+        let call = match edition {
+            Edition::Hyperglyph => sys::binmode_station_read_hyperglyph,
+            Edition::Glyph => sys::binmode_station_read_glyph,
+        };
+        let (mut rows, mut used, mut place) = (NOT_REPORTED, NOT_REPORTED, NOT_REPORTED);
+        // SAFETY: as above.
+        let number = unsafe {
+            call(
+                message.as_ptr(),
+                message.len(),
+                table.as_mut_ptr(),
+                table.len(),
+                self.split,
+                self.station,
+                limit,
+                &mut rows,
+                &mut used,
+                &mut place,
+            )
         };
         Answer {
             number,

@@ -19,7 +19,7 @@ use second::stations::{NOT_SPLIT, Station, share, share_mut};
 use second::{hex, papers};
 
 /// The station of a number, if it is one's.
-fn station_of(number: u8) -> Option<Station> {
+pub fn station_of(number: u8) -> Option<Station> {
     match number {
         4 => Some(Station::Four),
         5 => Some(Station::Five),

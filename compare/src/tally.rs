@@ -31,7 +31,7 @@ const MEANINGS: [&str; NUMBERS] = [
     "row splits no table",
     "no limit of nesting",
     "plan not taken",
-    "",
+    "integer out of range",
     "no such card",
 ];
 
@@ -54,6 +54,7 @@ pub struct Tally {
     pub through: [usize; NUMBERS],
     pub stations: [usize; NUMBERS],
     pub plans: [usize; NUMBERS],
+    pub glyphs: [usize; NUMBERS],
 }
 
 impl Tally {
@@ -71,6 +72,7 @@ impl Tally {
             through: [0; NUMBERS],
             stations: [0; NUMBERS],
             plans: [0; NUMBERS],
+            glyphs: [0; NUMBERS],
         }
     }
 
@@ -146,6 +148,12 @@ impl Tally {
         self.plans[usize::from(number)] += 1;
     }
 
+    /// Notes a hyperglyph or glyph message read.
+    pub fn read_glyph(&mut self, number: u8) {
+        self.left -= 1;
+        self.glyphs[usize::from(number)] += 1;
+    }
+
     pub fn print(&self) {
         let columns = [
             ("reading", &self.reading),
@@ -159,6 +167,7 @@ impl Tally {
             ("through", &self.through),
             ("stations", &self.stations),
             ("plans", &self.plans),
+            ("glyphs", &self.glyphs),
         ];
         let line = |number: &str, meaning: &str, cells: Vec<String>| {
             let cells: String = cells.iter().map(|cell| format!(" {cell:>10}")).collect();
@@ -173,13 +182,11 @@ impl Tally {
             columns.map(|(name, _)| name.into()).to_vec(),
         );
         for (number, meaning) in MEANINGS.iter().enumerate() {
-            if !meaning.is_empty() {
-                line(
-                    &number.to_string(),
-                    meaning,
-                    cells(&|counts| counts[number]),
-                );
-            }
+            line(
+                &number.to_string(),
+                meaning,
+                cells(&|counts| counts[number]),
+            );
         }
         line("", "calls", cells(&|counts| counts.iter().sum()));
     }

@@ -1,11 +1,13 @@
 //! Seeded makers of messages and tables, good and damaged, for comparisons.
 
 mod ascii;
+mod glyph;
 mod messages;
 mod structs;
 mod tables;
 
 pub use ascii::{decimal, doubtful, good};
+pub use glyph::{glyph_deep, glyph_message, glyph_table, glyph_valid};
 pub use messages::{BAD_TEXTS, beyond, card, damaged, deep as deep_message, message, valid};
 pub use structs::{key, row, structs};
 pub use tables::{

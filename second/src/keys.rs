@@ -9,7 +9,7 @@ const FEW: usize = 8;
 
 /// The keys of a Struct that have been read so far.
 pub struct Keys<'t> {
-    /// No more can come.
+    /// No more can come, or are expected where no count is known.
     most: usize,
     count: usize,
     few: [&'t [u8]; FEW],
@@ -26,6 +26,11 @@ impl<'t> Keys<'t> {
             few: [&[]; FEW],
             many: HashSet::default(),
         }
+    }
+
+    /// None yet, of a dict that does not say how many pairs it has.
+    pub fn uncounted() -> Self {
+        Keys::new(2 * FEW as u32, 4 * FEW)
     }
 
     /// Notes a key, if it is not among those before it; gives whether it is not.

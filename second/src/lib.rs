@@ -1,9 +1,11 @@
 //! An independent second reader and writer of Binmode RPC messages, written
-//! from documents 01, 02 (as far as it has landed) and 002 only.
+//! from documents 01, 02 (as far as it has landed) and 002 only; and of
+//! hyperglyph 1.0 and glyph 0.5, from documents 003 and 000.
 
 pub mod corpus;
 pub mod defaults;
 pub mod generate;
+pub mod glyph;
 pub mod hex;
 pub mod index;
 pub mod job;

@@ -143,6 +143,11 @@ pub mod kind {
     pub const STRUCT: u32 = 10;
     pub const STRING: u32 = 11;
     pub const OTHER: u32 = 12;
+    // Of hyperglyph and glyph (request E14), beside 4, 5, 8, 9, 10 and 11.
+    pub const NIL: u32 = 13;
+    pub const ORDERED_DICT: u32 = 14;
+    pub const EXTENSION: u32 = 15;
+    pub const NODE: u32 = 16;
 }
 
 /// Why a message or a table is refused.
@@ -183,4 +188,6 @@ pub mod refusal {
     pub const LIMIT: u8 = 23;
     /// A plan that is not taken.
     pub const PLAN: u8 = 24;
+    /// An integer of hyperglyph or glyph that 32 bits don't hold.
+    pub const RANGE: u8 = 25;
 }

@@ -73,12 +73,13 @@ mutual
     -- integer :== 'i' sign ascii_number ';'
     -- 02: 'signed 32-bit'; its 32 bits, two's complement
     integer :
-        {e : Edition} {d n : ℕ} {m : Bool} {xs ys zs : List ℕ}
+        {e : Edition} {d n bits : ℕ} {m : Bool} {xs ys zs : List ℕ}
         → Sign m xs
         → Number n ys
         → inRange m n ≡ true
+        → bits ≡ word m n
         → zs ≡ xs ++ (ys ++ (code ";" ∷ []))
-        → Object e d (code "i" ∷ zs) (leaf 4 (number (word m n)))
+        → Object e d (code "i" ∷ zs) (leaf 4 (number bits))
     -- unicode :== 'u' ascii_number ':' utf8_bytes ';' | empty_unicode
     unicode : {e : Edition} {d : ℕ} {zs t : List ℕ} → Content zs t → wellFormed t ≡ true → Object e d (code "u" ∷ zs) (leaf 11 (contents t))
     -- bytearray :== 'b' ascii_number ':' bytes ';' | empty_bytearray

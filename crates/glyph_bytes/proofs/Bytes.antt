@@ -1,6 +1,6 @@
 -- Blanks and digits: what a turn of their loops does. Assumes nothing.
-use mathlib.Core.Path.{_≡_, refl, sym, ap, _∙_}
-use mathlib.Core.Bool.{Bool, true, false, _&&_, not, true≢false}
+use mathlib.Core.Path.{_≡_, refl, sym, _∙_}
+use mathlib.Core.Bool.{Bool, true, false, not, true≢false}
 use mathlib.Core.List.{List, [], _∷_}
 use Prim.Native.Nat.{ℕ, zero, suc, _+_, _-_, _*_, _≤_, _<_, min}
 use native.Mathlib.Omega.{arith}
@@ -10,7 +10,7 @@ use lib.ListN.{length, getD, drop}
 use lib.Seq.{drop-cons}
 use borrow.Author.Tests.{ne-eqb}
 use Rattle.lexical.specs.Digits.{digit, digitValue}
-use Rattle.glyph.specs.Numbers.{isBlank, blanks, past, digits, decimal, choose}
+use Rattle.glyph.specs.Numbers.{isBlank, blanks, past, digits, decimal}
 use Rattle.glyph_bytes.specs.Places.{Skipped, Counted, Stands, Open}
 
 -- where skipping blanks stands

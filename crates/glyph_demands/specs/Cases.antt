@@ -1,10 +1,10 @@
 -- Messages of both editions, read: the examples of documents 003 and 000 in the letters that document 02 names, and what the decisions on it
 -- say. One table of cases, under a single statement. Assumes nothing.
 use mathlib.Core.Path.{_≡_, refl}
-use mathlib.Core.List.{List, [], _∷_, _++_}
+use mathlib.Core.List.{List, [], _∷_}
 use Prim.Native.Nat.{ℕ}
 use Prim.Native.String.{String}
-use lib.ListN.{length, replicate}
+use lib.ListN.{length}
 use Rattle.text.specs.Utf8.{within, dueBy, dueAfter, step, octets, wellFormed}
 use Rattle.text.specs.Texts.{same, among}
 use Rattle.lexical.specs.Digits.{digit}
@@ -162,6 +162,8 @@ cases =
     ∷ refusedWith 1 4 "Lx" 3 1
     ∷ refusedWith 1 3 "T;" 9 0
     ∷ refusedWith 1 3 "" 1 0
+    ∷ refusedWith 32 160 "LLLLLLLLLLLLLLLLLLLLLLLLLLLLLLLLL" 8 32
+    ∷ refusedWith 32 160 "LLLLLLLLLLLLLLLLLLLLLLLLLLLLLLLL" 1 32
     -- 23 before all
     ∷ refusedWith 0 64 "T;" 23 0
     ∷ refusedWith 33 64 "" 23 0

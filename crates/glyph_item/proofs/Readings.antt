@@ -1,23 +1,20 @@
 -- What a call did, from what the calls in it did: laws over any readings. Assumes nothing.
 use mathlib.Core.Path.{_≡_, refl, sym, ap, _∙_}
-use mathlib.Core.List.{List, [], _∷_, _++_}
-use Prim.Native.Nat.{ℕ, _+_, _*_, _≤_, _<_}
+use mathlib.Core.List.{List}
+use Prim.Native.Nat.{ℕ, _+_, _≤_, _<_}
 use native.Mathlib.Omega.{arith}
-use native.Mathlib.Numerals.{add-one}
-use native.Mathlib.Nat.{add-zero}
-use lib.ListN.{length, length-append, getD}
+use lib.ListN.{length}
 use borrow.Author.Tests.{lt-ltb, le-ltb}
 use Rattle.draft.specs.declared.Row.{Row}
 use Rattle.draft.specs.Rows.{row}
 use Rattle.draft.specs.Table.{setRow, putRows}
-use Rattle.table.proofs.Rows.{put-append}
 use Rattle.item.specs.declared.Step.{Step}
 use Rattle.item.specs.Contract.{readTo}
 use Rattle.glyph.specs.declared.Refusal.{Refusal}
 use Rattle.glyph.specs.declared.Refusal.the-variants.{Ended, UnexpectedByte, BadText, TooDeep, NoRow, TooLong, RepeatedKey, BadLimit, OutOfRange}
 use Rattle.glyph.specs.Refusals.{numberOf}
-use Rattle.glyph.specs.Read.{Reading, got, refused, Reader, then, behind, leaf, opened}
-use Rattle.glyph_item.specs.Contract.{refusedAt, answer, Left, Leaves, Did}
+use Rattle.glyph.specs.Read.{Reading, got, refused, leaf, opened}
+use Rattle.glyph_item.specs.Contract.{refusedAt, answer, Leaves, Did}
 
 -- a refusal, by its number
 pub refused-is : (m : Refusal) (p : ℕ) {n : ℕ} → n ≡ numberOf m → _≡_ {A = Step} (record { number = n; at = p; row = 0 }) (refusedAt m p)
@@ -83,10 +80,6 @@ module _ {o : Reading} {bytes room from r : ℕ} {T T′ : List ℕ} {step : Ste
 
   pub did-no : (m : Refusal) {q : ℕ} → step ≡ refusedAt m q → o ≡ refused m q → Did o bytes room from r T T′ step
   did-no m s e = rw e (record { says = s; leaves = tt })
-
-  -- a reading that was refused, from one that was
-  pub did-stop : {p : Reading} → Not p step → ((m : Refusal) (q : ℕ) → p ≡ refused m q → o ≡ refused m q) → Did o bytes room from r T T′ step
-  did-stop z f = did-no (z .why) (z .says) (f (z .why) (z .place) (z .reading))
 
 -- 9
 module _ (at : ℕ) (o : Reading) {bytes room from r : ℕ} {T T′ : List ℕ} where

@@ -2,29 +2,25 @@
 use mathlib.Core.Path.{_≡_, refl, sym, ap, _∙_}
 use mathlib.Core.Bool.{Bool, true, false}
 use mathlib.Core.List.{List, [], _∷_}
-use Prim.Native.Nat.{ℕ, _+_, _*_, _/_, _≤_, _<_, min}
+use Prim.Native.Nat.{ℕ, _+_, _*_, _≤_, _<_}
 use native.Mathlib.Omega.{arith}
 use lib.ListN.{length, getD}
-use lib.Dec.{ltb, eqb}
 use borrow.Author.Tests.{lt-ltb, le-ltb, eq-eqb, ne-eqb}
 use Rattle.text.specs.Texts.{among}
 use Rattle.draft.specs.declared.Row.{Row}
 use Rattle.draft.specs.Strings.{Text}
-use Rattle.draft.specs.Table.{putRows, rowAt}
-use Rattle.draft.specs.Read.{textOf}
+use Rattle.draft.specs.Table.{putRows}
 use Rattle.table.proofs.Stored.{rows-kept, first-row}
 use Rattle.item.specs.declared.Step.{Step}
-use Rattle.item.specs.Contract.{Fitting}
 use Rattle.keys.specs.Notes.{ownerOf, named, keysOf, Noted, Rows, Entry, Added, Noting, Joins}
 use Rattle.keys.proofs.Chaining.{keys-move}
 use Rattle.keys.proofs.Keeping.{noted-move, key-below}
-use Rattle.member_keys.specs.Contract.{Entries, Joined}
-use Rattle.glyph.specs.declared.Refusal.{Refusal}
+use Rattle.member_keys.specs.Contract.{Joined}
 use Rattle.glyph.specs.declared.Refusal.the-variants.{Ended, UnexpectedByte, RepeatedKey}
 use Rattle.glyph.specs.declared.Leaf.the-variants.{Unicode}
-use Rattle.glyph.specs.Read.{Reading, got, refused, Texts, pick, then, opened, text, leafOf, firstText, distinct}
+use Rattle.glyph.specs.Read.{Reading, got, refused, Texts, opened, text, leafOf, firstText, distinct}
 use Rattle.glyph_item.specs.Contract.{refusedAt, answer, Leaves, Did}
-use Rattle.glyph_item.proofs.Readings.{Got, Not, did-next, did-not, done, did-no, number-some}
+use Rattle.glyph_item.proofs.Readings.{Got, did-next, did-not, done, did-no, number-some}
 use Rattle.glyph_keys.specs.Contract.{name, Prepared, KeyDone}
 use Rattle.glyph_keys.proofs.Ones.{name-one}
 

@@ -1,8 +1,8 @@
 -- An object without children has one row. Assumes nothing.
-use mathlib.Core.Path.{_≡_, refl, sym, ap, _∙_}
+use mathlib.Core.Path.{_≡_, sym, ap}
 use mathlib.Core.Bool.{Bool, true, false}
 use mathlib.Core.List.{List, [], _∷_}
-use Prim.Native.Nat.{ℕ, _+_}
+use Prim.Native.Nat.{ℕ}
 use native.Mathlib.Omega.{arith}
 use lib.Dec.{ltb}
 use lib.ListN.{length}
@@ -11,7 +11,7 @@ use Rattle.glyph.specs.declared.Refusal.{Refusal}
 use Rattle.glyph.specs.declared.Refusal.the-variants.{NoRow}
 use Rattle.glyph.specs.declared.Leaf.{Leaf}
 use Rattle.glyph.specs.declared.Leaf.the-variants.{Integer, Unicode, Bytes, True, False, Nil}
-use Rattle.glyph.specs.Read.{Reading, got, refused, pick, single, numberFrom, integer, content, lengthened, text, opened, leafOf}
+use Rattle.glyph.specs.Read.{Reading, got, refused, pick, single, numberFrom, content, lengthened, text, opened, leafOf}
 use Rattle.glyph_keys.specs.Contract.{name}
 
 -- a reading that gives one row, if any

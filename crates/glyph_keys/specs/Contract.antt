@@ -1,17 +1,16 @@
 -- What reading asks of the notes on keys, and what it does to them. Assumes nothing.
-use mathlib.Core.Path.{_≡_}
 use mathlib.Core.Bool.{true}
 use mathlib.Core.List.{List}
-use Prim.Native.Nat.{ℕ, _+_, _≤_}
+use Prim.Native.Nat.{ℕ, _+_}
 use Prim.Native.Char.{code}
-use lib.Dec.{ltb, eqb}
+use lib.Dec.{eqb}
 use lib.ListN.{length}
 use Rattle.draft.specs.Bytes.{byteAt}
 use Rattle.item.specs.declared.Step.{Step}
 use Rattle.item.specs.Contract.{Fitting}
 use Rattle.keys.specs.Notes.{named, keysOf, Noted}
 use Rattle.member_keys.specs.Contract.{Entries, After, Joined}
-use Rattle.glyph.specs.declared.Refusal.the-variants.{Ended, UnexpectedByte}
+use Rattle.glyph.specs.declared.Refusal.the-variants.{UnexpectedByte}
 use Rattle.glyph.specs.Read.{Reading, Reader, pick, refused, present, opened, text, distinct}
 use Rattle.glyph_item.specs.Contract.{Did}
 

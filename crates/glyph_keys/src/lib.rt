@@ -3,7 +3,6 @@
 use glyph::Leaf;
 use glyph::Refusal;
 use item::Step;
-ghost use mathlib.Core.Path.{_≡_};
 ghost use Prim.Native.Nat.{_+_, _≤_, _<_};
 ghost use lib.ListN.{length};
 ghost use Rattle.item.specs.Contract.{Fitting};

@@ -1,10 +1,10 @@
 -- What answers each return of the functions that read objects without children. Assumes nothing.
-use mathlib.Core.Path.{_≡_, refl, sym, ap, _∙_}
+use mathlib.Core.Path.{_≡_, refl, sym, _∙_}
 use mathlib.Core.Bool.{Bool, true, false, _&&_}
-use mathlib.Core.List.{List, [], _∷_}
-use Prim.Native.Nat.{ℕ, zero, suc, _+_, _-_, _*_, _≤_, _<_, min}
+use mathlib.Core.List.{List}
+use Prim.Native.Nat.{ℕ, _+_, _-_, _≤_, _<_, min}
 use native.Mathlib.Omega.{arith}
-use mir.Syntax.{w32, w64}
+use mir.Syntax.{w64}
 use mir.Val.{Fits}
 use lib.Dec.{eqb, ltb, leb}
 use lib.ListN.{length, getD, drop}
@@ -15,15 +15,15 @@ use Rattle.draft.specs.Rows.{row}
 use Rattle.draft.specs.Table.{setRow}
 use Rattle.item.specs.declared.Step.{Step}
 use Rattle.item.specs.Contract.{readTo, Fitting}
-use Rattle.glyph.specs.declared.Refusal.the-variants.{Ended, UnexpectedByte, BadText, NoRow, OutOfRange}
+use Rattle.glyph.specs.declared.Refusal.the-variants.{Ended, UnexpectedByte, BadText, OutOfRange}
 use Rattle.glyph.specs.declared.Leaf.{Leaf}
 use Rattle.glyph.specs.declared.Leaf.the-variants.{Integer, Unicode, Bytes, True, False, Nil}
-use Rattle.glyph.specs.Numbers.{digits, decimal, choose, isMinus, signs, inRange, most, word}
-use Rattle.glyph.specs.Read.{Reading, got, refused, Reader, pick, leaf, opened, expected, numbered, single, numberFrom, integer, content, lengthened, text, textKind, goodText, leafOf}
+use Rattle.glyph.specs.Numbers.{digits, decimal, isMinus, signs, inRange, most, word}
+use Rattle.glyph.specs.Read.{Reading, refused, pick, opened, numbered, single, numberFrom, integer, content, lengthened, text, textKind, goodText, leafOf}
 use Rattle.glyph_bytes.specs.Places.{Open, Counted}
 use Rattle.glyph_bytes.proofs.Bytes.{getD-past}
 use Rattle.glyph_item.specs.Contract.{refusedAt, Did}
-use Rattle.glyph_item.proofs.Readings.{done, did-no, did-next, leaf-got, opened-full, opened-on}
+use Rattle.glyph_item.proofs.Readings.{done, did-no, leaf-got, opened-full, opened-on}
 use Rattle.glyph_leaves.specs.Signs.{Signed, Slots}
 
 -- what a row needs

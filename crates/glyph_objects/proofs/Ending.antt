@@ -1,7 +1,7 @@
 -- The three objects of an extension or a node, and its end. Assumes nothing.
 use mathlib.Core.Path.{_≡_, refl, sym, ap, _∙_}
 use mathlib.Core.List.{List, [], _∷_}
-use Prim.Native.Nat.{ℕ, zero, suc, _+_, _-_, _*_, _≤_, _<_}
+use Prim.Native.Nat.{ℕ, suc, _+_, _-_, _≤_, _<_}
 use native.Mathlib.Omega.{arith}
 use native.Mathlib.Numerals.{add-one}
 use native.Mathlib.Nat.{add-zero}
@@ -10,10 +10,9 @@ use borrow.Author.Tests.{lt-ltb, le-ltb, eq-eqb, ne-eqb}
 use Rattle.draft.specs.Rows.{row}
 use Rattle.draft.specs.Table.{setRow, putRows}
 use Rattle.item.specs.declared.Step.{Step}
-use Rattle.item.specs.Contract.{readTo, Fitting}
-use Rattle.keys.specs.Notes.{named, Noted, Keeps}
+use Rattle.item.specs.Contract.{readTo}
+use Rattle.keys.specs.Notes.{named, Keeps}
 use Rattle.keys.proofs.Keeping.{keeps-none}
-use Rattle.member_keys.specs.Contract.{Entries, After}
 use Rattle.glyph.specs.declared.Refusal.the-variants.{Ended, UnexpectedByte}
 use Rattle.glyph.specs.declared.Edition.{Edition}
 use Rattle.glyph.specs.declared.Three.{Three as ThreeLetter}
@@ -21,10 +20,10 @@ use Rattle.glyph.specs.declared.Want.{Want}
 use Rattle.glyph.specs.declared.Want.the-variants.{Any}
 use Rattle.glyph.specs.Letters.{threeKind, nameWant, attributesWant}
 use Rattle.glyph.specs.Numbers.{past}
-use Rattle.glyph.specs.Read.{Reading, got, refused, Reader, next, closing, three, object}
+use Rattle.glyph.specs.Read.{Reading, got, next, closing, three, object}
 use Rattle.glyph_bytes.specs.Places.{Skipped}
-use Rattle.glyph_item.specs.Contract.{refusedAt, Did}
-use Rattle.glyph_item.proofs.Readings.{Got, did-next, did-not, done, did-no}
+use Rattle.glyph_item.specs.Contract.{refusedAt}
+use Rattle.glyph_item.proofs.Readings.{did-next, did-not, done, did-no}
 use Rattle.glyph_keys.specs.Contract.{Prepared, Done}
 use Rattle.glyph_objects.specs.Contract.{Begun, Went, Nexted, Closable, Closed, stopped, short, wrong, right}
 use Rattle.glyph_objects.proofs.Objects.{after-not, done-no, done-by}

@@ -1,41 +1,36 @@
 -- One object behind another, and one thing of a container. Assumes nothing.
 use mathlib.Core.Path.{_≡_, refl, sym, ap, _∙_}
 use mathlib.Core.Bool.{Bool, true, false, true≢false}
-use mathlib.Core.List.{List, [], _∷_, _++_}
-use Prim.Native.Nat.{ℕ, zero, suc, _+_, _-_, _*_, _≤_, _<_}
-use Prim.Native.Char.{code}
+use mathlib.Core.List.{List, _++_}
+use Prim.Native.Nat.{ℕ, zero, suc, _+_, _-_, _≤_, _<_}
 use native.Mathlib.Omega.{arith}
 use lib.Dec.{eqb, ltb}
 use lib.ListN.{length, length-append, getD}
-use borrow.Author.Tests.{eqb-true, eqb-false, eq-eqb, ne-eqb}
-use Rattle.draft.specs.Table.{putRows}
-use Rattle.draft.specs.Strings.{Text}
-use Rattle.table.proofs.Rows.{put-append, length-putRows}
+use borrow.Author.Tests.{eqb-true}
+use Rattle.table.proofs.Rows.{put-append}
 use Rattle.item.specs.declared.Step.{Step}
-use Rattle.item.specs.Contract.{readTo, Fitting}
-use Rattle.keys.specs.Notes.{named, keysOf, Noted, Joins}
+use Rattle.keys.specs.Notes.{named}
 use Rattle.keys.proofs.Keeping.{keeps-then}
-use Rattle.member_keys.specs.Contract.{Entries, After, Joined}
-use Rattle.glyph.specs.declared.Refusal.{Refusal}
+use Rattle.member_keys.specs.Contract.{Joined}
 use Rattle.glyph.specs.declared.Refusal.the-variants.{Ended, UnexpectedByte}
 use Rattle.glyph.specs.declared.Edition.{Edition}
 use Rattle.glyph.specs.declared.Edition.the-variants.{New, Old}
 use Rattle.glyph.specs.declared.Want.{Want}
 use Rattle.glyph.specs.declared.Want.the-variants.{Any, Text as Name}
-use Rattle.glyph.specs.declared.Leaf.the-variants.{Integer, Unicode, Bytes, True, False, Nil}
+use Rattle.glyph.specs.declared.Leaf.the-variants.{Integer, Bytes, True, False, Nil}
 use Rattle.glyph.specs.declared.Many.the-variants.{List as ListLetter, Dict, Ordered}
 use Rattle.glyph.specs.declared.Letter.{Letter}
-use Rattle.glyph.specs.declared.Letter.the-variants.{Leaf, Many, Three, Unknown}
-use Rattle.glyph.specs.Letters.{letterOf, letterX, letterH, pickLetter, onlyText, wanted}
+use Rattle.glyph.specs.declared.Letter.the-variants.{Leaf, Many, Unknown}
+use Rattle.glyph.specs.Letters.{letterOf, letterX, letterH, pickLetter, wanted}
 use Rattle.glyph.specs.Numbers.{past}
-use Rattle.glyph.specs.Read.{Reading, got, refused, Reader, Nest, pick, then, behind, opened, text, next, distinct, entry, object, item}
+use Rattle.glyph.specs.Read.{Reading, got, refused, Nest, pick, behind, opened, text, next, entry, object, item}
 use Rattle.glyph_bytes.specs.Places.{Skipped}
-use Rattle.glyph_item.specs.Contract.{refusedAt, answer, Leaves, Did}
-use Rattle.glyph_item.proofs.Readings.{Got, Not, did-next, did-not, done, did-no}
+use Rattle.glyph_item.specs.Contract.{answer, Leaves, Did}
+use Rattle.glyph_item.proofs.Readings.{Got, Not, did-next, did-not, did-no}
 use Rattle.glyph_keys.specs.Contract.{name, Prepared, Done, KeyDone}
 use Rattle.glyph_keys.proofs.Keying.{named-kept}
 use Rattle.glyph_objects.specs.Contract.{Went, Nexted, EntryDone}
-use Rattle.glyph_objects.proofs.Objects.{after-not, object-is, nestOf}
+use Rattle.glyph_objects.proofs.Objects.{after-not}
 
 -- what an accepted call leaves for the next
 pub done-ready : {s : List ℕ} {at₀ r₀ : ℕ} {o : Reading} {room from r : ℕ} {T T′ N N′ : List ℕ} {step : Step} → Prepared s at₀ r₀ room T N → Done o s room from r T T′ N N′ step → length T′ ≡ length T → length N′ ≡ length N → Went s step room T′ N′

@@ -1,15 +1,14 @@
 -- What answers each return of the function that reads an object, by its letter. Assumes nothing.
 use mathlib.Core.Path.{_≡_, refl, sym, ap, _∙_}
-use mathlib.Core.Bool.{Bool, true, false}
-use mathlib.Core.List.{List, [], _∷_}
-use Prim.Native.Nat.{ℕ, zero, suc, _+_, _-_, _*_, _≤_, _<_}
+use mathlib.Core.List.{List}
+use Prim.Native.Nat.{ℕ, zero, suc, _+_, _-_, _≤_, _<_}
 use native.Mathlib.Omega.{arith}
 use native.Mathlib.Numerals.{sub-one}
 use lib.ListN.{length, getD}
 use borrow.Author.Tests.{lt-ltb, le-ltb}
 use Rattle.draft.specs.Strings.{Text}
 use Rattle.item.specs.declared.Step.{Step}
-use Rattle.keys.specs.Notes.{named, Noted}
+use Rattle.keys.specs.Notes.{named}
 use Rattle.keys.proofs.Keeping.{key-below, keeps-none}
 use Rattle.member_keys.specs.Contract.{After}
 use Rattle.glyph.specs.declared.Refusal.{Refusal}
@@ -22,9 +21,9 @@ use Rattle.glyph.specs.declared.Three.{Three as ThreeLetter}
 use Rattle.glyph.specs.declared.Letter.{Letter}
 use Rattle.glyph.specs.declared.Letter.the-variants.{Leaf, Many, Three, Unknown}
 use Rattle.glyph.specs.Letters.{letterOf, wanted}
-use Rattle.glyph.specs.Read.{Reading, got, refused, Reader, Nest, floor, under, opened, leafOf, many, three, item, object}
+use Rattle.glyph.specs.Read.{Reading, refused, Nest, floor, under, opened, leafOf, many, three, item, object}
 use Rattle.glyph_item.specs.Contract.{refusedAt, Did}
-use Rattle.glyph_item.proofs.Readings.{did-next, done, did-no, number-some, opened-full, opened-on}
+use Rattle.glyph_item.proofs.Readings.{did-next, done, did-no, number-some}
 use Rattle.glyph_keys.specs.Contract.{Prepared, Done}
 use Rattle.glyph_keys.proofs.Ones.{opened-one}
 use Rattle.glyph_keys.proofs.Keying.{named-kept}

@@ -17,22 +17,22 @@ use Rattle.draft.specs.Table.{setRow, putRows}
 use Rattle.table.proofs.Rows.{put-append, length-putRows}
 use Rattle.table.proofs.Stored.{row-other}
 use Rattle.item.specs.declared.Step.{Step}
-use Rattle.item.specs.Contract.{readTo, Fitting}
-use Rattle.keys.specs.Notes.{ownerOf, named, keysOf, Noted, Keeps, Joins}
+use Rattle.item.specs.Contract.{readTo}
+use Rattle.keys.specs.Notes.{ownerOf, named, keysOf, Noted, Keeps}
 use Rattle.keys.proofs.Keeping.{keys-first, key-below, noted-move, keeps-none, keeps-then, keeps-moved}
-use Rattle.member_keys.specs.Contract.{Entries, After, Joined}
+use Rattle.member_keys.specs.Contract.{After, Joined}
 use Rattle.glyph.specs.declared.Refusal.{Refusal}
 use Rattle.glyph.specs.declared.Edition.{Edition}
 use Rattle.glyph.specs.declared.Want.{Want}
 use Rattle.glyph.specs.declared.Many.{Many as ManyLetter}
 use Rattle.glyph.specs.Letters.{manyKind, keyedBy}
 use Rattle.glyph.specs.Numbers.{past}
-use Rattle.glyph.specs.Read.{Reading, got, refused, Reader, Texts, run, firstText, entry, kept, many, object}
+use Rattle.glyph.specs.Read.{got, refused, Reader, Texts, run, entry, kept, many, object}
 use Rattle.glyph_bytes.specs.Places.{Skipped, Open}
-use Rattle.glyph_item.specs.Contract.{refusedAt, Did}
+use Rattle.glyph_item.specs.Contract.{Did}
 use Rattle.glyph_item.proofs.Readings.{Got, did-next, did-not, done, did-no}
 use Rattle.glyph_keys.specs.Contract.{Prepared, Done}
-use Rattle.glyph_keys.proofs.Keying.{named-kept, first-is}
+use Rattle.glyph_keys.proofs.Keying.{first-is}
 use Rattle.glyph_objects.specs.Contract.{Begun, EntryDone}
 use Rattle.glyph_objects.proofs.Objects.{after-not}
 

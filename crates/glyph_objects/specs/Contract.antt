@@ -16,7 +16,7 @@ use Rattle.glyph.specs.declared.Many.{Many}
 use Rattle.glyph.specs.declared.Three.{Three}
 use Rattle.glyph.specs.declared.Refusal.the-variants.{Ended, UnexpectedByte}
 use Rattle.glyph.specs.Numbers.{past}
-use Rattle.glyph.specs.Read.{Reading, Reader, object, entry, many, three}
+use Rattle.glyph.specs.Read.{Reader, object, entry, many, three}
 use Rattle.glyph_item.specs.Contract.{Did, refusedAt}
 use Rattle.glyph_keys.specs.Contract.{Prepared, Done}
 use lib.ListN.{getD}

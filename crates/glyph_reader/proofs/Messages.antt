@@ -1,7 +1,7 @@
 -- What answers each return of the functions that read a whole message. Assumes nothing.
-use mathlib.Core.Path.{_≡_, refl, sym, ap, _∙_}
+use mathlib.Core.Path.{_≡_, ap, _∙_}
 use mathlib.Core.List.{List}
-use Prim.Native.Nat.{ℕ, _+_, _/_, _≤_, _<_, min}
+use Prim.Native.Nat.{ℕ, _/_, _≤_, _<_, min}
 use native.Mathlib.Omega.{arith}
 use native.Mathlib.Nat.{zero-add}
 use lib.ListN.{length, replicate}
@@ -19,9 +19,8 @@ use Rattle.glyph.specs.declared.Want.the-variants.{Any}
 use Rattle.glyph.specs.Refusals.{numberOf}
 use Rattle.glyph.specs.Numbers.{past}
 use Rattle.glyph.specs.Read.{Reading, got, refused, object, rooted, root, message}
-use Rattle.glyph.specs.Answers.{reading, answerOf, tableOf, Answers}
+use Rattle.glyph.specs.Answers.{reading, Answers}
 use Rattle.glyph_bytes.specs.Places.{Skipped}
-use Rattle.glyph_item.specs.Contract.{Did}
 use Rattle.glyph_item.proofs.Readings.{Got, Not, did-next, did-not}
 use Rattle.glyph_keys.specs.Contract.{Prepared, Done}
 use Rattle.glyph_reader.specs.Rooted.{RootDid}

@@ -5,7 +5,7 @@ use glyph::Refusal;
 use glyph::Want;
 use item::Step;
 ghost use mathlib.Core.Path.{_≡_};
-ghost use Prim.Native.Nat.{_+_, _≤_, min};
+ghost use Prim.Native.Nat.{_≤_, min};
 ghost use lib.ListN.{length, replicate};
 ghost use Rattle.draft.specs.Table.{roomOf};
 ghost use Rattle.glyph.specs.Read.{root};

@@ -1,0 +1,1 @@
+// That reading glyph messages is their grammar, and grows with its limits, proved in proofs/: no function.
