@@ -18,7 +18,10 @@ pub extern "C" fn binmode_write_planned_within(
 ) -> u8
     ensures { λ n. ⌜ WritePlannedReported limit (now (table .entry)) rows (now (text .entry)) (now (plan .entry)) (now (output .entry)) (now (output .exit)) n (now (length .exit)) ⌝ }
 {
-    write_reports::plans::planned(plan_writer::write(table, rows, text, plan, limit, output), length)
+    write_reports::plans::planned(
+        plan_writer::write(table, rows, text, plan, limit, output),
+        length,
+    )
 }
 
 // Whether a plan and prices prove that no message with the table's meaning is shorter than the plan's: 1 for yes; 0 is no statement.

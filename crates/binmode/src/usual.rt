@@ -58,7 +58,15 @@ pub extern "C" fn binmode_write_planned(
 ) -> u8
     ensures { λ n. ⌜ WritePlannedReported 8 (now (table .entry)) rows (now (text .entry)) (now (plan .entry)) (now (output .entry)) (now (output .exit)) n (now (length .exit)) ⌝ }
 {
-    binmode_write_planned_within(table, rows, text, plan, draft::USUAL_NESTING, output, length)
+    binmode_write_planned_within(
+        table,
+        rows,
+        text,
+        plan,
+        draft::USUAL_NESTING,
+        output,
+        length,
+    )
 }
 
 // Takes the next piece of a message.

@@ -6,6 +6,7 @@ ghost use Rattle.draft.specs.Rows.{kindOf, itemOf};
 
 // How many Arrays and Structs may stand in one another, at most; and where a call states no limit.
 pub const MOST_NESTING: usize = 32;
+
 pub const USUAL_NESTING: usize = 8;
 
 // Why a message or a table is refused, in the order of the papers' numbers.

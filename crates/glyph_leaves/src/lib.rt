@@ -127,12 +127,13 @@ fn read_integer(s: &[u8], at: usize, row: usize, room: usize, table: &mut [u32])
     read_number(s, at, row, sign.minus, at + 1 + sign.size, room, table)
 }
 
-// Whether content is well-formed: a bytearray's always is.
+// Whether content is well-formed: a bytearray's always is. The loop by itself is called, since `is_utf8` is to have one caller, in which it is
+// compiled.
 fn is_good(unicode: bool, t: &[u8]) -> bool
     ensures { λ r. ⌜ r ≡ goodText unicode (now (t .entry)) ⌝ }
 {
     if unicode {
-        return text_check::is_utf8(t);
+        return text_check::walk_from(t, 0);
     }
     true
 }

@@ -77,16 +77,49 @@ fn walk_three(
         return 0;
     }
     let name = glyph_bytes::name_want(three);
-    let second = walk_object(edition, name, table, room, rows, text, good, deep - 1, r + 1, notes);
+    let second = walk_object(
+        edition,
+        name,
+        table,
+        room,
+        rows,
+        text,
+        good,
+        deep - 1,
+        r + 1,
+        notes,
+    );
     if second == 0 {
         return 0;
     }
     let either = glyph_bytes::attributes_want(three);
-    let third = walk_object(edition, either, table, room, rows, text, good, deep - 1, second, notes);
+    let third = walk_object(
+        edition,
+        either,
+        table,
+        room,
+        rows,
+        text,
+        good,
+        deep - 1,
+        second,
+        notes,
+    );
     if third == 0 {
         return 0;
     }
-    let next = walk_object(edition, Want::Any, table, room, rows, text, good, deep - 1, third, notes);
+    let next = walk_object(
+        edition,
+        Want::Any,
+        table,
+        room,
+        rows,
+        text,
+        good,
+        deep - 1,
+        third,
+        notes,
+    );
     extents::close_holding(3, row, next)
 }
 
@@ -174,7 +207,18 @@ fn walk_entries(
         if at == 0 {
             return 0;
         }
-        let next = walk_object(edition, Want::Any, table, room, rows, text, good, deep, at, notes);
+        let next = walk_object(
+            edition,
+            Want::Any,
+            table,
+            room,
+            rows,
+            text,
+            good,
+            deep,
+            at,
+            notes,
+        );
         if next == 0 {
             return 0;
         }

@@ -136,13 +136,7 @@ fn go_on(
 }
 
 // A piece, by a limit that may be stated.
-fn take(
-    state: State,
-    piece: &[u8],
-    room: &mut [u8],
-    table: &mut [u32],
-    limit: usize,
-) -> State
+fn take(state: State, piece: &[u8], room: &mut [u8], table: &mut [u32], limit: usize) -> State
     requires { ⌜ allowed limit ≡ true ⌝ }
     ensures { λ r. ⌜ Went limit state (now (piece .entry)) (now (room .entry)) (now (table .entry)) (now (room .exit)) (now (table .exit)) r ⌝ }
 {
@@ -194,13 +188,7 @@ fn close(state: State, room: &[u8], table: &mut [u32], limit: usize) -> State
 }
 
 // Takes the next piece. The room, the table and the limit of nesting are those of the calls before it.
-pub fn next(
-    state: State,
-    piece: &[u8],
-    room: &mut [u8],
-    table: &mut [u32],
-    limit: usize,
-) -> State
+pub fn next(state: State, piece: &[u8], room: &mut [u8], table: &mut [u32], limit: usize) -> State
     ensures { λ r. ⌜ Went limit state (now (piece .entry)) (now (room .entry)) (now (table .entry)) (now (room .exit)) (now (table .exit)) r ⌝ }
 {
     if draft::allowed(limit) {

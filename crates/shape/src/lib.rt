@@ -108,14 +108,7 @@ fn walk_call_or_response(
 
 // Notes on keys for up to 64 rows. Laying out the largest takes longer than walking a small table, so a small one gets small ones; the
 // length of an array has to be a constant, so there is a function for each.
-fn walk_few(
-    table: &[u32],
-    room: usize,
-    rows: usize,
-    text: &[u8],
-    good: usize,
-    deep: usize,
-) -> usize
+fn walk_few(table: &[u32], room: usize, rows: usize, text: &[u8], good: usize, deep: usize) -> usize
     requires { ⌜ Walkable (now text) room rows (now table) good × (rows ≤ 64) ⌝ }
     ensures { λ e. ⌜ extentOf e ≡ callOrResponse (rowAt room (now (table .entry))) rows (now (text .entry)) deep 0 ⌝ }
 {

@@ -1,0 +1,4 @@
+pub mod Numerals
+pub mod Back
+pub mod Derived
+pub mod Sizes
