@@ -205,6 +205,47 @@ static void station_write_planned(void)
                                                                sizeof output, &size)
                         : binmode_station_write_planned(table, SHARE, rows, message, length, plan, pairs, output, sizeof output, &size);
 }
+
+/* A glyph message: lists, dicts, extensions, or lists and dicts by turns in one another, and so many leaves in the innermost, a list. */
+static uint8_t glyph[BINMODE_MOST_BYTES];
+static size_t glyph_length;
+
+static void add(const char *text)
+{
+    memcpy(glyph + glyph_length, text, strlen(text));
+    glyph_length += strlen(text);
+}
+
+static void make_glyph(size_t shape, size_t items)
+{
+    static const char *const opened[] = {"L", "Du1:k;", "Xu1:n;D;"};
+    static const char *const leaves[] = {"i-7;", "u6:na\xc3\xafve;", "b3:abc;", "T;", "N;"};
+    glyph_length = 0;
+    for (size_t i = 1; i < BINMODE_MOST_NESTING; i++)
+        add(opened[shape == 3 ? i % 2 : shape]);
+    add("L");
+    for (size_t i = 0; i < items; i++)
+        add(leaves[i % 5]);
+    for (size_t i = 0; i < BINMODE_MOST_NESTING; i++)
+        add(";");
+}
+
+static void read_hyperglyph(void)
+{
+    answer = binmode_read_hyperglyph(glyph, glyph_length, table, BINMODE_TABLE_WORDS, BINMODE_MOST_NESTING, &rows, &used, &place);
+}
+static void read_glyph(void)
+{
+    for (size_t i = 0; i < glyph_length; i++)
+        glyph[i] = glyph[i] == 'X' ? 'H' : glyph[i];
+    answer = binmode_read_glyph(glyph, glyph_length, table, BINMODE_TABLE_WORDS, BINMODE_MOST_NESTING, &rows, &used, &place);
+    for (size_t i = 0; i < glyph_length; i++)
+        glyph[i] = glyph[i] == 'H' ? 'X' : glyph[i];
+}
+static void station_read_hyperglyph(void)
+{
+    answer = binmode_station_read_hyperglyph(glyph, glyph_length, table, SHARE, BINMODE_MOST_NESTING, &rows, &used, &place);
+}
 static void prove_shortest(void)
 {
     size_t count = strings();
@@ -239,6 +280,9 @@ static struct {
     {"binmode_station_read_card", station_read_card, BINMODE_STACK_READ, 0},
     {"binmode_station_pieces_next", station_take_piece, BINMODE_STACK_READ, 0},
     {"binmode_station_pieces_end", station_end_pieces, 1024, 0},
+    {"binmode_read_hyperglyph", read_hyperglyph, BINMODE_STACK_READ, 0},
+    {"binmode_read_glyph", read_glyph, BINMODE_STACK_READ, 0},
+    {"binmode_station_read_hyperglyph", station_read_hyperglyph, BINMODE_STACK_READ, 0},
 };
 #define CALLS (sizeof calls / sizeof calls[0])
 
@@ -275,6 +319,7 @@ int main(void)
     for (size_t i = 0; i < 2 * 3 * 4 * 2; i++) {
         limit = i / 24 == 0 ? BINMODE_MOST_NESTING : 0;
         make(i % 2, (int)(i / 2 % 3), items[i / 6 % 4]);
+        make_glyph(i % 4, items[i / 6 % 4]);
         binmode_pieces_start(&state);
         for (size_t c = 0; c < CALLS; c++) {
             size_t taken = used_by(calls[c].call) - thread;

@@ -99,7 +99,7 @@ static uint32_t (*const binmode_linked_version)(void) BINMODE_KEPT = binmode_ver
  * grows with the nesting, and hardly with anything else. The other functions take under 1,024. What is said of a function is said of
  * the one of its name with _within too.
  */
-#define BINMODE_STACK_READ 65536   /* binmode_read, binmode_read_card, binmode_pieces_next; binmode_station_* that read */
+#define BINMODE_STACK_READ 65536   /* binmode_read*, binmode_pieces_next; binmode_station_* that read */
 #define BINMODE_STACK_LOOKUP 49152 /* binmode_lookup, binmode_position, binmode_default_text; binmode_station_* that look up */
 #define BINMODE_STACK_WRITE 65536  /* binmode_write, binmode_station_write */
 #define BINMODE_STACK_INDEX 65536  /* binmode_index_fill, binmode_index_find */
