@@ -1,45 +1,8 @@
 //! Messages of another data house: hyperglyph 1.0, and glyph 0.5 of its old
 //! depot.
 
+use crate::message::read_by;
 use crate::{Message, Refusal, sys};
-
-type Call = unsafe extern "C" fn(
-    *const u8,
-    usize,
-    *mut u32,
-    usize,
-    usize,
-    *mut usize,
-    *mut usize,
-    *mut usize,
-) -> u8;
-
-fn read<'m>(
-    call: Call,
-    bytes: &'m [u8],
-    table: &'m mut [u32],
-    limit: usize,
-) -> Result<Message<'m>, Refusal> {
-    let (mut rows, mut used, mut place) = (0, 0, 0);
-    // SAFETY: the slices and the three numbers are valid for the call, and
-    // those that are written overlap nothing.
-    let number = unsafe {
-        call(
-            bytes.as_ptr(),
-            bytes.len(),
-            table.as_mut_ptr(),
-            table.len(),
-            limit,
-            &mut rows,
-            &mut used,
-            &mut place,
-        )
-    };
-    match number {
-        sys::ACCEPTED => Ok(Message::read(table, rows, bytes, used)),
-        _ => Err(Refusal::given(number, place)),
-    }
-}
 
 /// Reads a hyperglyph 1.0 message into a table, at this limit of nesting, which
 /// is 1 to [`crate::MOST_NESTING`]. Every word of the table is settled, as by
@@ -62,7 +25,7 @@ pub fn read_hyperglyph<'m>(
     table: &'m mut [u32],
     limit: usize,
 ) -> Result<Message<'m>, Refusal> {
-    read(sys::binmode_read_hyperglyph, bytes, table, limit)
+    read_by(sys::binmode_read_hyperglyph, bytes, table, limit)
 }
 
 /// Reads a glyph 0.5 message, likewise.
@@ -71,5 +34,5 @@ pub fn read_glyph<'m>(
     table: &'m mut [u32],
     limit: usize,
 ) -> Result<Message<'m>, Refusal> {
-    read(sys::binmode_read_glyph, bytes, table, limit)
+    read_by(sys::binmode_read_glyph, bytes, table, limit)
 }

@@ -58,11 +58,33 @@ pub fn read_within<'m>(
     table: &'m mut [u32],
     limit: usize,
 ) -> Result<Message<'m>, Refusal> {
+    read_by(sys::binmode_read_within, bytes, table, limit)
+}
+
+/// A function of the library that reads at a limit of nesting.
+type Call = unsafe extern "C" fn(
+    *const u8,
+    usize,
+    *mut u32,
+    usize,
+    usize,
+    *mut usize,
+    *mut usize,
+    *mut usize,
+) -> u8;
+
+/// What such a function makes of these bytes.
+pub(crate) fn read_by<'m>(
+    call: Call,
+    bytes: &'m [u8],
+    table: &'m mut [u32],
+    limit: usize,
+) -> Result<Message<'m>, Refusal> {
     let (mut rows, mut used, mut place) = (0, 0, 0);
     // SAFETY: the slices and the three numbers are valid for the call, and
     // those that are written overlap nothing.
     let number = unsafe {
-        sys::binmode_read_within(
+        call(
             bytes.as_ptr(),
             bytes.len(),
             table.as_mut_ptr(),
