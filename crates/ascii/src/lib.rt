@@ -38,15 +38,23 @@ fn four_below(s: &[u8], at: usize) -> bool
     eight_below(s, at) & eight_below(s, at + 8) & eight_below(s, at + 16) & eight_below(s, at + 24)
 }
 
-// Past eights below 128, four a turn.
-fn past_fours(s: &[u8], from: usize) -> usize
+// And twice as many.
+fn many_below(s: &[u8], at: usize) -> bool
+    requires { ⌜ at + 64 ≤ length (now s) ⌝ }
+    ensures { λ r. ⌜ r ≡ ascii (take 64 (drop at (now (s .entry)))) ⌝ }
+{
+    four_below(s, at) & four_below(s, at + 32)
+}
+
+// Past eights below 128, eight a turn.
+fn past_many(s: &[u8], from: usize) -> usize
     requires { ⌜ from ≤ length (now s) ⌝ }
     ensures { λ r. ⌜ Run (now (s .entry)) from r ⌝ }
 {
     let mut at = from;
-    while 32 <= s.len() - at {
-        if four_below(s, at) {
-            at += 32;
+    while 64 <= s.len() - at {
+        if many_below(s, at) {
+            at += 64;
         } else {
             return at;
         }
@@ -77,7 +85,7 @@ fn past_run(s: &[u8], from: usize) -> usize
 {
     if 8 <= s.len() - from {
         if eight_below(s, from) {
-            return past_eights(s, past_fours(s, from + 8));
+            return past_eights(s, past_many(s, from + 8));
         }
     }
     from

@@ -1,12 +1,12 @@
 -- What answers the returns of the functions that read a key. Assumes nothing.
 use mathlib.Core.Path.{_≡_, refl, sym, ap, _∙_}
-use mathlib.Core.Bool.{Bool, true, false, _&&_}
+use mathlib.Core.Bool.{Bool, true, false, _&&_, true≢false}
 use mathlib.Core.List.{List, [], _∷_}
 use Prim.Native.Nat.{ℕ, _+_, _*_, _/_, _≤_, _<_, min}
 use native.Mathlib.Omega.{arith}
-use lib.ListN.{length, getD, replicate}
+use lib.ListN.{length, getD, replicate, List·getD-eq-default}
 use lib.Dec.{ltb, eqb}
-use borrow.Author.Tests.{lt-ltb, le-ltb, ltb-true, eqb-true}
+use borrow.Author.Tests.{lt-ltb, le-ltb, ltb-true, ltb-false, eqb-true}
 use Rattle.text.specs.Texts.{among}
 use Rattle.draft.specs.declared.Refusal.{Refusal}
 use Rattle.draft.specs.declared.Refusal.the-variants.{RepeatedKey}
@@ -56,6 +56,13 @@ module _ (s : List ℕ) (at : ℕ) {b : Bool} (e : b ≡ (ltb at (length s) && e
 
   pub recalled-string : (book : Book) {bytes room from r : ℕ} {T T′ W′ : List ℕ} {step : Step} → Did (recalledItem s room at r book) bytes room from r T T′ W′ step → Did (string s room at r book) bytes room from r T T′ W′ step
   recalled-string book d = string-recalled s at recalled-there book (eqb-true (getD s at 0) 60 (and-right (ltb at (length s)) _ (sym e ∙ t))) d
+
+pub not-recalled : (s : List ℕ) (at : ℕ) {b : Bool} → b ≡ (ltb at (length s) && eqb (getD s at 0) 60) → b ≡ false → getD s at 0 ≡ 60 → ⊥
+not-recalled s at e f i = go (ltb at (length s)) refl
+  where
+    go : (x : Bool) → ltb at (length s) ≡ x → ⊥
+    go true l = true≢false (sym (e ∙ rw (l, i)) ∙ f)
+    go false l = let z = sym (List·getD-eq-default s 0 (ltb-false at (length s) l)) ∙ i in omega arith
 
 -- nothing is kept of what was refused
 joined-not : {t t′ : ℕ → Text} {N N′ : List ℕ} {owner first : ℕ} {step : Step} → (step .number ≡ 0 → ⊥) → Joined t t′ N N′ owner first step
@@ -144,4 +151,4 @@ string-entries s at book d e n =
     let l : length (g .rows) ≡ 1 = rw (the-row s at book d e .1) in
     record { behind = omega (arith, g .next, g .ahead, n .behind); enough = n .enough; most = n .most }
 
-pub ruleset keying = (recalled-not, recalled-is, recalled-there, recalled-string, string-row, key-refused, key-noted, key-entry, key-again, key-owner, key-some, key-none)
+pub ruleset keying = (recalled-not, recalled-is, recalled-there, recalled-string, not-recalled, string-row, key-refused, key-noted, key-entry, key-again, key-owner, key-some, key-none)

@@ -37,7 +37,7 @@ fn read_name(
     if is_recalled(s, at) {
         return strings::read_recalled(s, at, row, room, table, book);
     }
-    strings::read_string(s, at, row, room, table, book)
+    strings::read_sent(s, at, row, room, table, book)
 }
 
 // The key at `at`, for the Struct whose first key has the row `owner`. One that came before in its Struct is refused at its place.

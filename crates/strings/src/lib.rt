@@ -4,8 +4,9 @@ use draft::Content;
 use draft::Entry;
 use draft::Refusal;
 use item::Step;
+ghost use mathlib.Core.Path.{_≡_};
 ghost use Prim.Native.Nat.{_+_, _<_};
-ghost use lib.ListN.{length};
+ghost use lib.ListN.{length, getD};
 ghost use Rattle.draft.specs.Read.{recordedItem, recalledItem, string};
 ghost use Rattle.codebook.specs.Words.{bookOf};
 ghost use Rattle.item.specs.Contract.{Ready, Did};
@@ -67,6 +68,28 @@ pub fn read_recalled(
     }
 }
 
+// A String that is sent in full, where nothing else is allowed, and none is recalled.
+pub fn read_sent(
+    s: &[u8],
+    at: usize,
+    row: usize,
+    room: usize,
+    table: &mut [u32],
+    book: &mut [u32],
+) -> Step
+    requires { ⌜ (getD (now s) at 0 ≡ 60 → ⊥) × Ready at row room (length (now s)) (length (now table)) (length (now book)) ⌝ }
+    ensures { λ r. ⌜ Did (string (now (s .entry)) room at row (bookOf (now (book .entry)))) (length (now (s .entry))) room (at + 1) row (now (table .entry)) (now (table .exit)) (now (book .exit)) r ⌝ }
+{
+    if s.len() <= at {
+        return item::refuse(Refusal::Ended, at);
+    }
+    match s[at] {
+        b'U' => leaves::read_long(s, at, row, Content::Text, room, table),
+        b'>' => read_recorded(s, at, row, room, table, book),
+        _ => item::refuse(Refusal::UnexpectedByte, at),
+    }
+}
+
 // A String, where nothing else is allowed.
 pub fn read_string(
     s: &[u8],
@@ -83,9 +106,7 @@ pub fn read_string(
         return item::refuse(Refusal::Ended, at);
     }
     match s[at] {
-        b'U' => leaves::read_long(s, at, row, Content::Text, room, table),
-        b'>' => read_recorded(s, at, row, room, table, book),
         b'<' => read_recalled(s, at, row, room, table, book),
-        _ => item::refuse(Refusal::UnexpectedByte, at),
+        _ => read_sent(s, at, row, room, table, book),
     }
 }

@@ -78,13 +78,17 @@ ascii-on zero n t = rw zero-add
 ascii-on (suc m) n [] = rw (suc-add, take-nil)
 ascii-on (suc m) n (x ∷ t) = rw suc-add (rw (ascii-on m n t) (sym (and-assoc (ltb x 128) (ascii (take m t)) (ascii (take n (drop m t))))))
 
--- n bytes and eight more
-eight-on : (n : ℕ) (s : List ℕ) (at : ℕ) → ascii (take (n + 8) (drop at s)) ≡ (ascii (take n (drop at s)) && ascii (take 8 (drop (at + n) s)))
-eight-on n s at = ascii-on n 8 (drop at s) ∙ rw drop-drop
+-- m bytes and n more
+more-on : (m n : ℕ) (s : List ℕ) (at : ℕ) → ascii (take (m + n) (drop at s)) ≡ (ascii (take m (drop at s)) && ascii (take n (drop (at + m) s)))
+more-on m n s at = ascii-on m n (drop at s) ∙ rw drop-drop
 
 -- four eights are 32 bytes
 pub four : (s : List ℕ) (at : ℕ) {a b c d : Bool} → a ≡ ascii (take 8 (drop at s)) → b ≡ ascii (take 8 (drop (at + 8) s)) → c ≡ ascii (take 8 (drop (at + 16) s)) → d ≡ ascii (take 8 (drop (at + 24) s)) → (a && b && c && d) ≡ ascii (take 32 (drop at s))
-four s at ea eb ec ed = sym (eight-on 24 s at ∙ rw (eight-on 16 s at, eight-on 8 s at, ← ea, ← eb, ← ec, ← ed))
+four s at ea eb ec ed = sym (more-on 24 8 s at ∙ rw (more-on 16 8 s at, more-on 8 8 s at, ← ea, ← eb, ← ec, ← ed))
+
+-- and twice four are 64
+pub twice-four : (s : List ℕ) (at : ℕ) {a b : Bool} → a ≡ ascii (take 32 (drop at s)) → b ≡ ascii (take 32 (drop (at + 32) s)) → (a && b) ≡ ascii (take 64 (drop at s))
+twice-four s at ea eb = sym (more-on 32 32 s at ∙ rw (← ea, ← eb))
 
 ascii-at : (t : List ℕ) → ascii t ≡ true → (k : ℕ) → k < length t → getD t k 0 < 128
 unfolding ascii
@@ -162,6 +166,6 @@ alike true false e f = clash (sym e) (sym f)
 alike false true e f = clash (sym f) (sym e)
 alike false false e f = refl
 
-pub ruleset passing = (word, eight-bits, four, run-none, run-on, run-after, run-more, run-single, run-last)
+pub ruleset passing = (word, eight-bits, four, twice-four, run-none, run-on, run-after, run-more, run-single, run-last)
 
 pub ruleset running = (run-first, run-whole, walk-run, alike)

@@ -8,8 +8,8 @@ pub past-run-spec : {M : Type 1} → statement M
 past-run-spec = tie.close (tie.spec
     (λ c. search needs)  -- sub-if1
     (λ c κs. search needs)  -- eight-below-requires
-    (λ c. search needs)  -- add-past-fours
-    (λ c κs. search needs)  -- past-fours-requires
+    (λ c. search needs)  -- add-past-many
+    (λ c κs. search needs)  -- past-many-requires
     (λ c κs. search needs)  -- past-eights-requires
     (λ c. search passing)  -- returns
     (λ c. search needs)  -- returns-2

@@ -10,7 +10,7 @@ read-name-spec = tie.close (tie.spec
     (λ c. search needs)  -- same-length
     (λ c. search needs)  -- same-length-2
     (λ c. search keying)  -- returns
-    (λ c κs. search needs)  -- read-string-requires
+    (λ c κs. (search keying, search needs))  -- read-sent-requires
     (λ c. search needs)  -- same-length-3
     (λ c. search needs)  -- same-length-4
     (λ c. search needs))  -- returns-2

@@ -8,16 +8,11 @@ read-string-spec = tie.close (tie.spec
     (λ c κs. search needs)  -- refuse-requires
     (λ c. search strings)  -- returns
     (λ c. search needs)  -- shared-slice-read-match
-    (λ c κs. search needs)  -- read-long-requires
-    (λ c κs. search needs)  -- read-recorded-requires
     (λ c κs. search needs)  -- read-recalled-requires
-    (λ c κs. search needs)  -- refuse-requires-2
+    (λ c κs. search needs)  -- read-sent-requires
     (λ c. search needs)  -- same-length
-    (λ c. search strings)  -- returns-2
     (λ c. search needs)  -- same-length-2
+    (λ c. search strings)  -- returns-2
     (λ c. search needs)  -- same-length-3
-    (λ c. search strings)  -- returns-3
     (λ c. search needs)  -- same-length-4
-    (λ c. search needs)  -- same-length-5
-    (λ c. search strings)  -- returns-4
-    (λ c. search strings))  -- returns-5
+    (λ c. search strings))  -- returns-3
