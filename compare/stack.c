@@ -206,7 +206,10 @@ static void station_write_planned(void)
                         : binmode_station_write_planned(table, SHARE, rows, message, length, plan, pairs, output, sizeof output, &size);
 }
 
-/* A glyph message: lists, dicts, extensions, or lists and dicts by turns in one another, and so many leaves in the innermost, a list. */
+/*
+ * A glyph message: lists, dicts, extensions, or lists and dicts by turns in one another, and so many leaves in the innermost, a list, or
+ * members in it, a dict. The keys are not in order.
+ */
 static uint8_t glyph[BINMODE_MOST_BYTES];
 static size_t glyph_length;
 
@@ -220,12 +223,18 @@ static void make_glyph(size_t shape, size_t items)
 {
     static const char *const opened[] = {"L", "Du1:k;", "Xu1:n;D;"};
     static const char *const leaves[] = {"i-7;", "u6:na\xc3\xafve;", "b3:abc;", "T;", "N;"};
+    int is_dict = shape % 2 == 1;
     glyph_length = 0;
     for (size_t i = 1; i < BINMODE_MOST_NESTING; i++)
         add(opened[shape == 3 ? i % 2 : shape]);
-    add("L");
-    for (size_t i = 0; i < items; i++)
+    add(is_dict ? "D" : "L");
+    for (size_t i = 0; i < items; i++) {
+        char key[32];
+        snprintf(key, sizeof key, "u8:%08zu;", 7919 * i % 100000);
+        if (is_dict)
+            add(key);
         add(leaves[i % 5]);
+    }
     for (size_t i = 0; i < BINMODE_MOST_NESTING; i++)
         add(";");
 }
@@ -245,6 +254,23 @@ static void read_glyph(void)
 static void station_read_hyperglyph(void)
 {
     answer = binmode_station_read_hyperglyph(glyph, glyph_length, table, SHARE, BINMODE_MOST_NESTING, &rows, &used, &place);
+}
+
+/* What was read last, which is that message, written. */
+static void write_hyperglyph(void)
+{
+    answer = binmode_write_hyperglyph(table, BINMODE_TABLE_WORDS, rows, glyph, glyph_length, BINMODE_MOST_NESTING, output,
+                                      sizeof output, &size);
+}
+static void write_glyph(void)
+{
+    answer = binmode_write_glyph(table, BINMODE_TABLE_WORDS, rows, glyph, glyph_length, BINMODE_MOST_NESTING, output, sizeof output,
+                                 &size);
+}
+static void station_write_hyperglyph(void)
+{
+    answer = binmode_station_write_hyperglyph(table, SHARE, rows, glyph, glyph_length, BINMODE_MOST_NESTING, output, sizeof output,
+                                              &size);
 }
 static void prove_shortest(void)
 {
@@ -281,8 +307,11 @@ static struct {
     {"binmode_station_pieces_next", station_take_piece, BINMODE_STACK_READ, 0},
     {"binmode_station_pieces_end", station_end_pieces, 1024, 0},
     {"binmode_read_hyperglyph", read_hyperglyph, BINMODE_STACK_READ, 0},
+    {"binmode_write_hyperglyph", write_hyperglyph, BINMODE_STACK_WRITE, 0},
     {"binmode_read_glyph", read_glyph, BINMODE_STACK_READ, 0},
+    {"binmode_write_glyph", write_glyph, BINMODE_STACK_WRITE, 0},
     {"binmode_station_read_hyperglyph", station_read_hyperglyph, BINMODE_STACK_READ, 0},
+    {"binmode_station_write_hyperglyph", station_write_hyperglyph, BINMODE_STACK_WRITE, 0},
 };
 #define CALLS (sizeof calls / sizeof calls[0])
 

@@ -101,7 +101,7 @@ static uint32_t (*const binmode_linked_version)(void) BINMODE_KEPT = binmode_ver
  */
 #define BINMODE_STACK_READ 65536   /* binmode_read*, binmode_pieces_next; binmode_station_* that read */
 #define BINMODE_STACK_LOOKUP 49152 /* binmode_lookup, binmode_position, binmode_default_text; binmode_station_* that look up */
-#define BINMODE_STACK_WRITE 65536  /* binmode_write, binmode_station_write */
+#define BINMODE_STACK_WRITE 65536  /* binmode_write, binmode_write_hyperglyph, binmode_write_glyph; binmode_station_* of these */
 #define BINMODE_STACK_INDEX 65536  /* binmode_index_fill, binmode_index_find */
 #define BINMODE_STACK_PLAN 131072  /* binmode_write_planned, binmode_station_write_planned, binmode_proves_shortest */
 
@@ -212,8 +212,8 @@ uint8_t binmode_read_within(const uint8_t *message, size_t message_len, uint32_t
  *
  * Gives BINMODE_ACCEPTED, and the table has the rows, and zeros in all other words; or a refusal's number (1, 3, 5, 8, 9, 10, 20, 23 or 25),
  * and the whole table is zeros. A place is that of the item's first byte, or, where an object or the `;` of one with children is due, of the
- * byte there or the bytes' end. Such a table is not for the other functions of this header that take a table: they give
- * BINMODE_REFUSED_NOT_WRITABLE.
+ * byte there or the bytes' end. Such a table is for binmode_write_hyperglyph and binmode_write_glyph; the other functions of this header that
+ * take a table give BINMODE_REFUSED_NOT_WRITABLE for it.
  */
 uint8_t binmode_read_hyperglyph(const uint8_t *message, size_t message_len, uint32_t *table, size_t table_words, size_t limit,
                                 size_t *rows, size_t *used, size_t *place) BINMODE_NO_NULL;
@@ -244,6 +244,26 @@ uint8_t binmode_write(const uint32_t *table, size_t table_words, size_t rows, co
  */
 uint8_t binmode_write_within(const uint32_t *table, size_t table_words, size_t rows, const uint8_t *text, size_t text_len,
                              size_t limit, uint8_t *output, size_t output_len, size_t *length) BINMODE_NO_NULL;
+
+/*
+ * Writes the rows of a table as a message of another data house, in the one written form: no blanks, integers and lengths without plus or
+ * leading zeros, empty texts as `u;` and `b;`, the members of a plain dict in byte order of their keys, and all else in the order of the
+ * rows. Nothing follows the message.
+ *
+ *   table .. text_len       as for binmode_write; for a table made by binmode_read_hyperglyph or binmode_read_glyph, the message
+ *   limit                   as for binmode_write_within: lists, dicts, extensions and nodes count
+ *   output, output_len      where the message is written
+ *   length                  is set to the number of bytes of the message; 0 on a refusal
+ *
+ * Gives BINMODE_ACCEPTED, and the output has the message and then zeros; or a refusal's number (23, then 10 to 13, tested in this order),
+ * and the whole output is zeros. A kind that only Binmode has, or a node for hyperglyph, is BINMODE_REFUSED_NOT_WRITABLE. Behind the message
+ * the reader takes blanks alone and no zeros: hand it `length` bytes.
+ */
+uint8_t binmode_write_hyperglyph(const uint32_t *table, size_t table_words, size_t rows, const uint8_t *text, size_t text_len,
+                                 size_t limit, uint8_t *output, size_t output_len, size_t *length) BINMODE_NO_NULL;
+
+uint8_t binmode_write_glyph(const uint32_t *table, size_t table_words, size_t rows, const uint8_t *text, size_t text_len,
+                            size_t limit, uint8_t *output, size_t output_len, size_t *length) BINMODE_NO_NULL;
 
 /*
  * Writes the rows of a table as a message, at the limit of nesting 8, by a plan: for jobs in which more than 256 texts repeat. A plan says
@@ -602,6 +622,15 @@ uint8_t binmode_station_write(const uint32_t *table, size_t table_words, size_t 
 uint8_t binmode_station_write_within(const uint32_t *table, size_t table_words, size_t split, uint8_t station, size_t rows,
                                      const uint8_t *text, size_t text_len, size_t limit, uint8_t *output, size_t output_len,
                                      size_t *length) BINMODE_NO_NULL;
+
+/* binmode_write_hyperglyph and binmode_write_glyph of a station's share. */
+uint8_t binmode_station_write_hyperglyph(const uint32_t *table, size_t table_words, size_t split, uint8_t station, size_t rows,
+                                         const uint8_t *text, size_t text_len, size_t limit, uint8_t *output,
+                                         size_t output_len, size_t *length) BINMODE_NO_NULL;
+
+uint8_t binmode_station_write_glyph(const uint32_t *table, size_t table_words, size_t split, uint8_t station, size_t rows,
+                                    const uint8_t *text, size_t text_len, size_t limit, uint8_t *output, size_t output_len,
+                                    size_t *length) BINMODE_NO_NULL;
 
 /* binmode_write_planned of a station's share. */
 uint8_t binmode_station_write_planned(const uint32_t *table, size_t table_words, size_t split, uint8_t station, size_t rows,

@@ -4,6 +4,7 @@
 use crate::library::Limit;
 use crate::limits::{read_at, write_at, write_planned_at};
 use second::defaults::{Asked, Text};
+use second::generate::Table;
 use second::glyph::Edition;
 use second::index::{Allowed, Entry};
 use second::job::Card;
@@ -64,6 +65,19 @@ pub fn write(words: &[u32], rows: usize, text: &[u8], limit: Limit, output: &mut
         true => write_at::<ByRows>(words, rows, text, limit, output),
         false => write_at::<ByColumns>(words, rows, text, limit, output),
     })
+}
+
+pub fn write_glyph(table: &Table, edition: Edition, limit: usize, output: &mut [u8]) -> Write {
+    use second::glyph::write_within;
+    let (rows, text) = (table.rows, &table.text);
+    written(
+        &table.words,
+        output,
+        |words, output, by_rows| match by_rows {
+            true => write_within::<ByRows>(words, rows, text, edition, limit, output),
+            false => write_within::<ByColumns>(words, rows, text, edition, limit, output),
+        },
+    )
 }
 
 pub fn write_planned(

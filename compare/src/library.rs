@@ -133,6 +133,37 @@ pub fn write(table: &[u32], rows: usize, text: &[u8], limit: Limit, output: &mut
     Written { number, length }
 }
 
+/// Writes a table in an edition, at a limit of nesting that is stated.
+pub fn write_glyph(
+    table: &[u32],
+    rows: usize,
+    text: &[u8],
+    edition: Edition,
+    limit: usize,
+    output: &mut [u8],
+) -> Written {
+    let call = match edition {
+        Edition::Hyperglyph => sys::binmode_write_hyperglyph,
+        Edition::Glyph => sys::binmode_write_glyph,
+    };
+    let mut length = NOT_REPORTED;
+    // SAFETY: as above.
+    let number = unsafe {
+        call(
+            table.as_ptr(),
+            table.len(),
+            rows,
+            text.as_ptr(),
+            text.len(),
+            limit,
+            output.as_mut_ptr(),
+            output.len(),
+            &mut length,
+        )
+    };
+    Written { number, length }
+}
+
 pub fn write_planned(
     table: &[u32],
     rows: usize,

@@ -1,6 +1,7 @@
 //! Compares the proved library with the second implementation on generated
 //! messages, whole and in pieces, tables, plans, job files, members, indexes,
-//! shares of a table, and messages of hyperglyph and glyph: `compare SEED CALLS`. Ends with 1 where they differ.
+//! shares of a table, and messages of hyperglyph and glyph, read and written:
+//! `compare SEED CALLS`. Ends with 1 where they differ.
 
 mod both;
 mod change;
@@ -9,6 +10,7 @@ mod doubles_and_dates;
 mod edges;
 mod gather;
 mod glyph;
+mod glyph_writing;
 mod index;
 mod job;
 mod lent;
@@ -27,6 +29,7 @@ mod writing;
 
 use defaults::Texts;
 use glyph::Glyphs;
+use glyph_writing::GlyphWriting;
 use index::Indexes;
 use job::Jobs;
 use limits::Limits;
@@ -80,6 +83,7 @@ fn compare(run: &mut Run) -> Compared {
     let mut stations = Stations::new();
     let mut plans = Plans::new();
     let mut glyphs = Glyphs::new();
+    let mut glyph_writing = GlyphWriting::new();
     shortest::tried(&mut run.random)?;
     plans.all_of_small(&mut run.random)?;
     plans.many_texts(&mut run.random)?;
@@ -99,6 +103,8 @@ fn compare(run: &mut Run) -> Compared {
     glyphs.every_byte_behind(run)?;
     glyphs.numbers(run)?;
     glyphs.every_limit(run)?;
+    glyph_writing.papers(run)?;
+    glyph_writing.every_limit(run)?;
     let mut limits = Limits {
         reading: &mut reading,
         writing: &mut writing,
@@ -117,6 +123,7 @@ fn compare(run: &mut Run) -> Compared {
         writing.round(run)?;
         plans.round(run)?;
         glyphs.round(run)?;
+        glyph_writing.round(run)?;
         if run.random.one_in(4) {
             jobs.round(run)?;
         }

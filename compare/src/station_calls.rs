@@ -196,6 +196,40 @@ impl Whose {
         Written { number, length }
     }
 
+    /// Writes a table in an edition, at a limit of nesting that is stated.
+    pub fn write_glyph(
+        self,
+        table: &[u32],
+        rows: usize,
+        text: &[u8],
+        edition: Edition,
+        limit: usize,
+        output: &mut [u8],
+    ) -> Written {
+        let call = match edition {
+            Edition::Hyperglyph => sys::binmode_station_write_hyperglyph,
+            Edition::Glyph => sys::binmode_station_write_glyph,
+        };
+        let mut length = NOT_REPORTED;
+        // SAFETY: as above.
+        let number = unsafe {
+            call(
+                table.as_ptr(),
+                table.len(),
+                self.split,
+                self.station,
+                rows,
+                text.as_ptr(),
+                text.len(),
+                limit,
+                output.as_mut_ptr(),
+                output.len(),
+                &mut length,
+            )
+        };
+        Written { number, length }
+    }
+
     pub fn write_planned(
         self,
         table: &[u32],

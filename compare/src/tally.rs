@@ -55,6 +55,7 @@ pub struct Tally {
     pub stations: [usize; NUMBERS],
     pub plans: [usize; NUMBERS],
     pub glyphs: [usize; NUMBERS],
+    pub glyph_forms: [usize; NUMBERS],
 }
 
 impl Tally {
@@ -73,6 +74,7 @@ impl Tally {
             stations: [0; NUMBERS],
             plans: [0; NUMBERS],
             glyphs: [0; NUMBERS],
+            glyph_forms: [0; NUMBERS],
         }
     }
 
@@ -154,6 +156,12 @@ impl Tally {
         self.glyphs[usize::from(number)] += 1;
     }
 
+    /// Notes a table written as a hyperglyph or glyph message.
+    pub fn wrote_glyph(&mut self, number: u8) {
+        self.left -= 1;
+        self.glyph_forms[usize::from(number)] += 1;
+    }
+
     pub fn print(&self) {
         let columns = [
             ("reading", &self.reading),
@@ -168,6 +176,7 @@ impl Tally {
             ("stations", &self.stations),
             ("plans", &self.plans),
             ("glyphs", &self.glyphs),
+            ("forms", &self.glyph_forms),
         ];
         let line = |number: &str, meaning: &str, cells: Vec<String>| {
             let cells: String = cells.iter().map(|cell| format!(" {cell:>10}")).collect();

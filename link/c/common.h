@@ -78,6 +78,13 @@ static inline int print_refusal(size_t number, size_t place)
     return REFUSED;
 }
 
+/* The same where standard output is for a message alone. */
+static inline int complain_refusal(size_t number, size_t place)
+{
+    fprintf(stderr, "refused %zu at %zu\n", number, place);
+    return REFUSED;
+}
+
 /* A line for each row: its number, kind, a, b and end. */
 static inline void print_rows(const struct binmode_view *view)
 {

@@ -8,22 +8,16 @@
 static uint32_t table[BINMODE_TABLE_WORDS];
 static uint8_t output[BINMODE_MOST_BYTES];
 
-static int refused(uint8_t number, size_t place)
-{
-    fprintf(stderr, "refused %u at %zu\n", (unsigned)number, place);
-    return REFUSED;
-}
-
 static int rewrite(const uint8_t *message, size_t length)
 {
     size_t rows, used, place, size;
     uint8_t number =
         binmode_read_within(message, length, table, BINMODE_TABLE_WORDS, BINMODE_MOST_NESTING, &rows, &used, &place);
     if (number != BINMODE_ACCEPTED)
-        return refused(number, place);
+        return complain_refusal(number, place);
     number = binmode_write_within(table, BINMODE_TABLE_WORDS, rows, message, used, BINMODE_MOST_NESTING, output, sizeof output, &size);
     if (number != BINMODE_ACCEPTED)
-        return refused(number, 0);
+        return complain_refusal(number, 0);
     fwrite(output, 1, size, stdout);
     return FINE;
 }

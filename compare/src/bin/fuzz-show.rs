@@ -1,10 +1,15 @@
-//! Feeds `show` with messages and job files, good, damaged and hostile:
-//! `fuzz-show PROGRAM SEED COUNT`. Ends with 1 if it prints a byte that a
-//! terminal might obey, ends with another status than it should, or shows
-//! anything else than what is made of the message here, by the Rust wrapper.
+//! Feeds `show` with messages and job files, and `show-glyphs` with messages of
+//! hyperglyph and glyph, good, damaged and hostile: `fuzz-show SHOW SHOW_GLYPHS
+//! SEED COUNT`. Ends with 1 if one prints a byte that a terminal might obey, ends
+//! with another status than it should, or shows anything else than what is made
+//! of the message here, by the Rust wrapper.
 
-use binmode::{Item, Job, Kind, MOST_NESTING, Refusal, TABLE_WORDS, read_within};
-use second::generate::{Random, damaged, message};
+use binmode::{
+    Item, Job, Kind, MOST_NESTING, Message, Refusal, TABLE_WORDS, read_glyph, read_hyperglyph,
+    read_within,
+};
+use second::generate::{Random, damaged, glyph_message, message};
+use second::glyph::Edition;
 use second::job::{job, record};
 use second::rules::PREFIX;
 use std::fmt::Write as _;
@@ -15,24 +20,29 @@ use std::process::{Command, ExitCode, Output, Stdio};
 fn main() -> ExitCode {
     let words: Vec<String> = std::env::args().skip(1).collect();
     let numbers = match &words[..] {
-        [_, seed, count] => seed.parse().ok().zip(count.parse().ok()),
+        [_, _, seed, count] => seed.parse().ok().zip(count.parse().ok()),
         _ => None,
     };
     let Some((seed, count)) = numbers else {
-        eprintln!("usage: fuzz-show PROGRAM SEED COUNT");
+        eprintln!("usage: fuzz-show SHOW SHOW_GLYPHS SEED COUNT");
         return ExitCode::from(2);
     };
-    let fuzz = Fuzz {
-        program: words[0].clone().into(),
-        file: std::env::temp_dir().join(format!("fuzz-show.{}", std::process::id())),
-    };
-    let tried = fuzz.run(&mut Random::new(seed), count);
-    let _ = std::fs::remove_file(&fuzz.file);
+    let file = std::env::temp_dir().join(format!("fuzz-show.{}", std::process::id()));
+    let [show, show_glyphs] = [&words[0], &words[1]].map(|program| Fuzz {
+        program: program.into(),
+        file: file.clone(),
+    });
+    let random = &mut Random::new(seed);
+    let tried = show.run(random, count);
+    let tried = tried.and_then(|refused| Ok([refused, show_glyphs.run_glyphs(random, count)?]));
+    let _ = std::fs::remove_file(&file);
     match tried {
         Ok(refused) => {
-            println!(
-                "show: {count} messages, {refused} of them refused, no byte but printable ASCII and line ends"
-            );
+            for (program, refused) in ["show", "show-glyphs"].iter().zip(refused) {
+                println!(
+                    "{program}: {count} messages, {refused} of them refused, no byte but printable ASCII and line ends"
+                );
+            }
             ExitCode::SUCCESS
         }
         Err(fault) => {
@@ -63,6 +73,31 @@ impl Fuzz {
                 1 => self.named(&bytes)?,
                 _ => self.piped(&bytes)?,
             };
+            refused += usize::from(expected.refused);
+        }
+        Ok(refused)
+    }
+
+    /// The same of messages of hyperglyph and glyph.
+    fn run_glyphs(&self, random: &mut Random, count: usize) -> Result<usize, String> {
+        let mut refused = 0;
+        for turn in 0..count {
+            let edition = *random.pick(&Edition::BOTH);
+            let bytes = match random.below(3) {
+                0 => hostile_glyphs(random),
+                _ => glyph_message(random, edition),
+            };
+            let name = match edition {
+                Edition::Hyperglyph => "1.0",
+                Edition::Glyph => "0.5",
+            };
+            let expected = of_glyphs(&bytes, edition);
+            if turn % 2 == 0 {
+                self.see(&[name.as_ref()], &bytes, &expected)?;
+            } else {
+                self.store(&bytes)?;
+                self.see(&[name.as_ref(), self.file.as_ref()], b"", &expected)?;
+            }
             refused += usize::from(expected.refused);
         }
         Ok(refused)
@@ -151,8 +186,8 @@ fn is_tame(bytes: &[u8]) -> bool {
     bytes.iter().all(|byte| matches!(byte, b'\n' | 32..127))
 }
 
-/// A message whose keys, texts and names are what a terminal obeys.
-fn hostile(random: &mut Random) -> Vec<u8> {
+/// A text that a terminal obeys.
+fn hostile_text(random: &mut Random) -> String {
     const TEXTS: [&str; 12] = [
         "\u{1b}[2J\u{1b}[H",
         "\u{1b}]0;title\u{7}",
@@ -167,11 +202,35 @@ fn hostile(random: &mut Random) -> Vec<u8> {
         "\u{1f4b3}\u{10ffff}",
         "plain",
     ];
+    let count = random.below(60);
+    (0..1 + count / 20 * count)
+        .map(|_| *random.pick(&TEXTS))
+        .collect()
+}
+
+/// A hyperglyph or glyph message whose keys, texts and names are such.
+fn hostile_glyphs(random: &mut Random) -> Vec<u8> {
+    let mut text = |letter: char| {
+        let text = hostile_text(random);
+        format!("{letter}{}:{text};", text.len())
+    };
+    let (name, key, value, bytes) = (text('u'), text('u'), text('u'), text('b'));
+    let message = match random.below(3) {
+        0 => format!("X{name}D{key}{value};{bytes};"),
+        1 => format!("H{name}O{key}{value};{bytes};"),
+        _ => format!("L{name}{bytes}O{key}{value};N;;\n"),
+    };
+    let mut message = message.into_bytes();
+    if random.one_in(4) {
+        message.truncate(random.below(message.len()));
+    }
+    message
+}
+
+/// A message whose keys, texts and names are what a terminal obeys.
+fn hostile(random: &mut Random) -> Vec<u8> {
     let mut text = |bytes: &mut Vec<u8>, tag: u8| {
-        let count = random.below(60);
-        let text: String = (0..1 + count / 20 * count)
-            .map(|_| *random.pick(&TEXTS))
-            .collect();
+        let text = hostile_text(random);
         bytes.push(tag);
         bytes.extend((text.len() as u32).to_le_bytes());
         bytes.extend(text.as_bytes());
@@ -231,7 +290,21 @@ fn around(bytes: &[u8], place: usize) -> String {
 
 fn of_message(bytes: &[u8]) -> Expected {
     let mut table = vec![0; TABLE_WORDS];
-    let message = match read_within(bytes, &mut table, MOST_NESTING) {
+    let read = read_within(bytes, &mut table, MOST_NESTING);
+    of_read(bytes, read, " that are ignored")
+}
+
+fn of_glyphs(bytes: &[u8], edition: Edition) -> Expected {
+    let mut table = vec![0; TABLE_WORDS];
+    let read = match edition {
+        Edition::Hyperglyph => read_hyperglyph(bytes, &mut table, MOST_NESTING),
+        Edition::Glyph => read_glyph(bytes, &mut table, MOST_NESTING),
+    };
+    of_read(bytes, read, ", all blanks")
+}
+
+fn of_read(bytes: &[u8], read: Result<Message, Refusal>, words: &str) -> Expected {
+    let message = match read {
         Ok(message) => message,
         Err(refusal) => return of_refusal(bytes, refusal),
     };
@@ -239,7 +312,7 @@ fn of_message(bytes: &[u8]) -> Expected {
     let mut text = format!("accepted: {} rows, {used} bytes", message.rows());
     if used < bytes.len() {
         let behind = bytes.len() - used;
-        let _ = write!(text, ", and {behind} behind them that are ignored");
+        let _ = write!(text, ", and {behind} behind them{words}");
     }
     text.push('\n');
     tree(&mut text, None, message.root(), 0);
@@ -279,13 +352,13 @@ fn tree(text: &mut String, key: Option<&str>, item: Item, depth: usize) {
     let _ = write!(text, "{}", item.kind());
     let _ = writeln!(text, "{}", value(item));
     match item.kind() {
-        Kind::Struct => {
+        Kind::Struct | Kind::OrderedDict => {
             for (key, value) in item.members() {
                 tree(text, Some(key), value, depth + 1);
             }
         }
         Kind::Other => {}
-        Kind::Call => {
+        Kind::Call | Kind::Extension => {
             for child in item.children().skip(1) {
                 tree(text, None, child, depth + 1);
             }
@@ -306,10 +379,10 @@ fn value(item: Item) -> String {
         Kind::Double | Kind::DateTime => format!(" {}", item.text().expect("a text")),
         Kind::String => format!(" {}", quoted(item.text().expect("a text"))),
         Kind::Binary => format!(" {}", hexadecimal(item.bytes().expect("bytes"))),
-        Kind::Array | Kind::Struct => format!(" of {count}"),
-        Kind::Call => {
-            let method = item.children().next().and_then(Item::text);
-            format!(" of {}", quoted(method.expect("a method")))
+        Kind::Array | Kind::Struct | Kind::OrderedDict => format!(" of {count}"),
+        Kind::Call | Kind::Extension => {
+            let name = item.children().next().and_then(Item::text);
+            format!(" of {}", quoted(name.expect("a method or a name")))
         }
         Kind::Other => {
             let name = item.children().next().and_then(Item::text);

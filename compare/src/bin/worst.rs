@@ -1,8 +1,8 @@
 //! How long the library takes on tables and messages made to be slow:
 //! `cargo run --release --bin worst`. Each table is judged (by a lookup, which
-//! judges first) and written, and what was written is read; a call above `BAR`
-//! ends the run with 1, and so does reading a text slower than the second
-//! implementation.
+//! judges first) and written, and what was written is read; and what its
+//! Response holds is written as hyperglyph. A call above `BAR` ends the run with
+//! 1, and so does reading a text slower than the second implementation.
 
 #[allow(dead_code, reason = "the other functions")]
 #[path = "../library.rs"]
@@ -10,8 +10,9 @@ mod library;
 mod messages;
 
 use messages::{card, text};
-use second::layout::{Layout, RowsMut};
-use second::rules::{BYTE_LIMIT, ROW_LIMIT, ROW_WORDS};
+use second::glyph::Edition;
+use second::layout::{Layout, Rows, RowsMut};
+use second::rules::{BYTE_LIMIT, NESTING_LIMIT, ROW_LIMIT, ROW_WORDS};
 use second::{ByColumns, Read};
 use std::cell::RefCell;
 use std::hint::black_box;
@@ -43,8 +44,8 @@ fn main() -> ExitCode {
     let card = Table::of_message(&card(300));
     let usual = card.times();
     println!(
-        "{:52} {:>5} {:>16} {:>16} {:>16}",
-        "table", "rows", "judging  cards", "writing  cards", "reading  cards"
+        "{:52} {:>5} {:>16} {:>16} {:>16} {:>9}",
+        "table", "rows", "judging  cards", "writing  cards", "reading  cards", "as glyph"
     );
     card.print("card of 300 members", &usual, &usual);
     let mut above = 0;
@@ -132,6 +133,10 @@ fn tables() -> Vec<(&'static str, Table)> {
             alike(16, KEYS, STRUCT),
         ),
         ("keys picked for one bucket", picked()),
+        (
+            "keys of 61 KB, each a beginning of the next",
+            Table::keys(&ascii, (0..KEYS).map(|i| (i, BYTE_LIMIT - KEYS - i))),
+        ),
     ]
 }
 
@@ -196,13 +201,13 @@ fn alike(apart: usize, count: usize, holder: u32) -> Table {
 /// `crates/spread`.
 fn picked() -> Table {
     let word = |key: &[u8], at: usize| u32::from_le_bytes(key[at..at + 4].try_into().unwrap());
-    let mixed = |hash: u32, word: u32| hash.wrapping_add(word).wrapping_mul(1_540_483_477);
-    let first_key = 2;
+    let first_key: u32 = 2;
     let bucket = |key: &[u8]| {
-        mixed(
-            mixed(mixed(word(key, 0), word(key, 2)), word(key, 4)),
-            first_key,
-        ) >> 20
+        let three = word(key, 0)
+            .wrapping_mul(625_341_585)
+            .wrapping_add(word(key, 2).wrapping_mul(1_013_904_243))
+            .wrapping_add(word(key, 4).wrapping_mul(668_265_263));
+        three.wrapping_add(first_key.wrapping_mul(1_540_483_477)) >> 20
     };
     let text: Vec<u8> = (0_u64..)
         .map(|number| {
@@ -302,7 +307,32 @@ impl Table {
         [Some(judging), Some(writing), reading]
     }
 
-    /// Tells how many of the three are above the bar, too.
+    /// The milliseconds to write as hyperglyph what the Response holds.
+    fn as_glyph(&self) -> f64 {
+        let rows = ByColumns::rows(&self.words);
+        let mut words = vec![0; ROW_LIMIT * ROW_WORDS];
+        let mut inner = ByColumns::rows_mut(&mut words);
+        for row in 1..self.rows {
+            let [kind, a, b, end] = rows.at(row);
+            inner.put(row - 1, [kind, a, b, end - 1]);
+        }
+        let output = RefCell::new(vec![0; BYTE_LIMIT]);
+        milliseconds(|| {
+            let (words, output) = (black_box(&words), &mut output.borrow_mut());
+            let (rows, edition) = (self.rows - 1, Edition::Hyperglyph);
+            let text = &self.text;
+            black_box(library::write_glyph(
+                words,
+                rows,
+                text,
+                edition,
+                NESTING_LIMIT,
+                output,
+            ));
+        })
+    }
+
+    /// Tells how many of the four are above the bar, too.
     fn print(&self, name: &str, times: &Times, usual: &Times) -> usize {
         print!("{name:52} {:>5}", self.rows);
         for (time, usual) in times.iter().zip(usual) {
@@ -311,7 +341,10 @@ impl Table {
                 None => print!(" {:>16}", "refused"),
             }
         }
-        let above = times.iter().flatten().filter(|&&time| time > BAR).count();
+        let as_glyph = self.as_glyph();
+        print!(" {as_glyph:>9.3}");
+        let all = times.iter().flatten().chain([&as_glyph]);
+        let above = all.filter(|&&time| time > BAR).count();
         println!("{}", if above > 0 { "  above" } else { "" });
         above
     }

@@ -6,7 +6,8 @@ use shares::station_of;
 ghost use lib.ListN.{length};
 ghost use Rattle.glyph.specs.Answers.{reading};
 ghost use Rattle.glyph_reports.specs.Numbers.{report};
-ghost use Rattle.binmode.specs.Glyphs.{GlyphReported, StationGlyph};
+ghost use Rattle.glyph_reports.specs.Writing as writing;
+ghost use Rattle.binmode.specs.Glyphs.{GlyphReported, StationGlyph, GlyphWritten, StationGlyphWritten};
 
 // Reads a hyperglyph 1.0 message into a table, nested to at most a limit: the result is 0 for acceptance, or the refusal's number.
 #[no_mangle]
@@ -78,4 +79,76 @@ pub extern "C" fn binmode_station_read_glyph(
     let share = station_of(station);
     let answer = glyph_stations::read(message, table, row, share, Edition::Old, limit);
     glyph_reports::station(answer, rows, used, place)
+}
+
+// Writes a table as a hyperglyph 1.0 message, nested to at most a limit: the result is 0 for acceptance, or the refusal's number.
+#[no_mangle]
+pub extern "C" fn binmode_write_hyperglyph(
+    table: &[u32],
+    rows: usize,
+    text: &[u8],
+    limit: usize,
+    output: &mut [u8],
+    length: &mut u64,
+) -> u8
+    ensures { λ n. ⌜ GlyphWritten Edition.New limit (now (table .entry)) rows (now (text .entry)) (now (output .entry)) (now (output .exit)) (writing.report n (now (length .exit))) ⌝ }
+{
+    let answer = glyph_writer::write(table, rows, text, Edition::New, limit, output);
+    glyph_reports::writing::written(answer, length)
+}
+
+// Writes a table as a glyph 0.5 message, likewise.
+#[no_mangle]
+pub extern "C" fn binmode_write_glyph(
+    table: &[u32],
+    rows: usize,
+    text: &[u8],
+    limit: usize,
+    output: &mut [u8],
+    length: &mut u64,
+) -> u8
+    ensures { λ n. ⌜ GlyphWritten Edition.Old limit (now (table .entry)) rows (now (text .entry)) (now (output .entry)) (now (output .exit)) (writing.report n (now (length .exit))) ⌝ }
+{
+    let answer = glyph_writer::write(table, rows, text, Edition::Old, limit, output);
+    glyph_reports::writing::written(answer, length)
+}
+
+// Writes a station's share of a table as a hyperglyph 1.0 message.
+#[no_mangle]
+pub extern "C" fn binmode_station_write_hyperglyph(
+    table: &[u32],
+    split: usize,
+    station: u8,
+    rows: usize,
+    text: &[u8],
+    limit: usize,
+    output: &mut [u8],
+    length: &mut u64,
+) -> u8
+    ensures { λ n. ⌜ StationGlyphWritten Edition.New limit (now (table .entry)) station split rows (now (text .entry)) (now (output .entry)) (now (output .exit)) (writing.report n (now (length .exit))) ⌝ }
+{
+    let row = split_for(station, split);
+    let share = station_of(station);
+    let answer = glyph_stations::write(table, row, share, rows, text, Edition::New, limit, output);
+    glyph_reports::writing::station(answer, length)
+}
+
+// Writes a station's share as a glyph 0.5 message, likewise.
+#[no_mangle]
+pub extern "C" fn binmode_station_write_glyph(
+    table: &[u32],
+    split: usize,
+    station: u8,
+    rows: usize,
+    text: &[u8],
+    limit: usize,
+    output: &mut [u8],
+    length: &mut u64,
+) -> u8
+    ensures { λ n. ⌜ StationGlyphWritten Edition.Old limit (now (table .entry)) station split rows (now (text .entry)) (now (output .entry)) (now (output .exit)) (writing.report n (now (length .exit))) ⌝ }
+{
+    let row = split_for(station, split);
+    let share = station_of(station);
+    let answer = glyph_stations::write(table, row, share, rows, text, Edition::Old, limit, output);
+    glyph_reports::writing::station(answer, length)
 }

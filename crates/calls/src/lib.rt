@@ -1,5 +1,5 @@
 // Reading a Call: its method, a String, and its Array.
-// Assumes that the place is in the message, the rows fit the table, the codebook has its 512 words and the notes on keys are blank, with an
+// Assumes that the place is in the message, the rows fit the table, the codebook has its 256 words and the notes on keys are blank, with an
 // entry for each row.
 use draft::Refusal;
 use item::Step;
@@ -29,7 +29,7 @@ fn read_array_only(
         return item::refuse(Refusal::Ended, at);
     }
     if s[at] == b'A' {
-        value::read_value(s, at, row, deep, room, table, book, notes)
+        value::read_array(s, at, row, deep, room, table, book, notes)
     } else {
         item::refuse(Refusal::UnexpectedByte, at)
     }

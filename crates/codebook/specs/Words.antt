@@ -1,5 +1,5 @@
--- The codebook in 512 words. Assumes nothing.
-use Prim.Native.Nat.{ℕ, _+_, _*_}
+-- The codebook in 256 words. Assumes nothing.
+use Prim.Native.Nat.{ℕ, _+_, _/_, _%_}
 use mathlib.Core.List.{List}
 use lib.ListN.{getD}
 use lib.Dec.{eqb}
@@ -7,10 +7,11 @@ use Rattle.draft.specs.declared.Entry.{Entry}
 use Rattle.draft.specs.declared.Entry.the-variants.{Unset, Text}
 use Rattle.draft.specs.Codebook.{Book, choose}
 
--- Position p has two words, offset and length. No text lies at offset 0, where a message begins, so the offset 0 says unset.
--- The length says nothing of that: an empty text may be recorded
-abbrev pub entry : ℕ → ℕ → Entry
-entry o n = choose (eqb o 0) Unset (Text o n)
+-- Position p has one word: the offset less 1, which is below 65,536 even of an empty text at the end of the longest message, and behind it
+-- the length in 16 bits. No text lies at offset 1, within the prefix, so the word 0 says unset. The length alone says nothing of that: an
+-- empty text may be recorded
+abbrev pub entry : ℕ → Entry
+entry w = choose (eqb w 0) Unset (Text (w / 65536 + 1) (w % 65536))
 
 unfoldable pub bookOf : List ℕ → Book
-bookOf words p = entry (getD words (p * 2) 0) (getD words (p * 2 + 1) 0)
+bookOf words p = entry (getD words p 0)

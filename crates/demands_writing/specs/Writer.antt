@@ -1,18 +1,18 @@
 -- Demands 2 and 3, said of the writer's own answer and output: if `writer::write` answers `Written n`, the first n bytes of the output are read
 -- back with the table's meaning, are settled by it, and no message with it is shorter; and the words of the stated rows are all that is looked
 -- at. `Did limit T rows s out₀ out a` is the promise of that function, as in Accepting. Assumes nothing.
-use mathlib.Core.Path.{_≡_, refl, sym, ap, _∙_}
-use mathlib.Core.Bool.{Bool, true, false}
+use mathlib.Core.Path.{_≡_, sym, ap, _∙_}
+use mathlib.Core.Bool.{true}
 use mathlib.Core.Logic.{_↔_}
 use mathlib.Core.List.{List, _++_}
-use Prim.Native.Nat.{ℕ, zero, suc, _+_, _*_, _-_, _≤_, _<_}
+use Prim.Native.Nat.{ℕ, _+_, _*_, _-_, _≤_, _<_}
 use native.Mathlib.Omega.{arith}
 use lib.ListN.{length, take, drop, getD, replicate, take-append-drop}
 use lib.Seq.{take-at, take-take, getD-take, getD-drop}
 use Rattle.draft.specs.declared.Row.{Row}
 use Rattle.draft.specs.Codebook.{Book}
-use Rattle.draft.specs.Table.{roomOf, place, rowAt, from}
-use Rattle.draft.specs.Read.{Reading, got, message}
+use Rattle.draft.specs.Table.{roomOf, place, rowAt}
+use Rattle.draft.specs.Read.{got, message}
 use Rattle.draft.specs.Meaning.{MeanSame}
 use Rattle.draft.specs.Strings.{repeated, textsOf}
 use Rattle.draft.specs.Limits.{allowed}
@@ -25,6 +25,9 @@ use Rattle.reader.specs.Answers as reader
 use Rattle.writer.specs.declared.Answer.{Answer}
 use Rattle.writer.specs.declared.Answer.the-variants.{Written}
 use Rattle.writer.specs.Answers.{formOf, answerOf, Did}
+use Rattle.written.specs.Derivable.{HoldAlike}
+use Rattle.written.proofs.Standing.{from-same}
+use Rattle.written.proofs.Tests.{agreeing}
 use Rattle.demands_writing.specs.Writing.{Words, Octets, ReadsBack, writable-derivable, reading-back, shortest, one-form, read-rows}
 use Rattle.demands_writing.specs.Accepting.{AcceptedFor, accepted-exactly, written-whole}
 
@@ -81,22 +84,6 @@ pub same-bytes :
 same-bytes limit limit′ T T′ rows rows′ s s′ out₀ out₁ out out′ w w′ d d′ =
     rw (first-bytes limit T rows s out₀ out d, first-bytes limit′ T′ rows′ s′ out₁ out′ d′)
     (one-form limit limit′ T rows s T′ rows′ s′ w w′ (was-writable limit T rows s out₀ out d) (was-writable limit′ T′ rows′ s′ out₁ out′ d′))
-
--- tests that imply one another
-agreeing : (b c : Bool) → (b ≡ true → c ≡ true) → (c ≡ true → b ≡ true) → b ≡ c
-agreeing true c f g = sym (f refl)
-agreeing false true f g = g refl
-agreeing false false f g = refl
-
--- functions that agree on some numbers give the same for them
-from-same : {A : Type 0} (f g : ℕ → A) (r n : ℕ) → ((i : ℕ) → i < r + n → f i ≡ g i) → from f r n ≡ from g r n
-unfolding from
-from-same f g r zero h = refl
-from-same f g r (suc n) h = rw (h r (omega arith), from-same f g (suc r) n (λ i l. h i (omega arith)))
-
--- both tables hold the stated rows, or neither does
-abbrev pub HoldAlike : ℕ → List ℕ → List ℕ → Type 0
-HoldAlike rows T T′ = (rows * 4 ≤ length T) ↔ (rows * 4 ≤ length T′)
 
 -- a table with the rows of a writable one is writable
 writable-over :

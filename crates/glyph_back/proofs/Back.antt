@@ -11,40 +11,7 @@ use Rattle.text.proofs.Comparing.{clash, same-self, same-ne}
 use Rattle.glyph.specs.declared.Edition.{Edition}
 use Rattle.glyph.specs.declared.Want.{Want}
 use Rattle.glyph.specs.Tree.{Tree, Trees, none, also, Pairs, no-pairs, pair}
-use Rattle.glyph.specs.Grammar.{
-  Blanks,
-  no-blanks,
-  Meets,
-  any,
-  unicode-met,
-  dict-met,
-  ordered-met,
-  Extends,
-  new-extension,
-  old-extension,
-  Nodes,
-  old-node,
-  Object,
-  integer,
-  unicode,
-  bytearray,
-  true-object,
-  false-object,
-  nil,
-  list,
-  dict,
-  ordered-dict,
-  extension,
-  node,
-  Objects,
-  close,
-  more,
-  Members,
-  close-members,
-  more-members,
-  Parts,
-  parts,
-}
+use Rattle.glyph.specs.Grammar.{no-blanks, Meets, any, unicode-met, dict-met, ordered-met, Extends, new-extension, old-extension, Nodes, old-node, Object, integer, unicode, bytearray, true-object, false-object, nil, list, dict, ordered-dict, extension, node, Objects, close, more, Members, close-members, more-members, Parts, parts}
 use Rattle.glyph_form.specs.Form.{canon, canonAll, canonPairs, booleanBytes, contentBytes, leafBytes, letterFor, bytesOf, bytesOfAll, bytesOfPairs, written}
 use Rattle.glyph_order.specs.Same.{Shuffled, as-is, keep, swap, both, Apart, apart-none, apart-and}
 use Rattle.glyph_order.proofs.Order.{Keys, keys-none, keys-and, apart-shuffled, sorted, apart-canon}
@@ -126,15 +93,21 @@ members-keys : {e : Edition} {d : ℕ} {seen : List (List ℕ)} {zs : List ℕ} 
 members-keys close-members = keys-none
 members-keys (more-members o a b p c m q) = keys-and (members-apart m) (members-keys m)
 
+-- the bytes of a pair and those behind it, and of three objects
+pub parted : (xs ys zs : List ℕ) → (xs ++ (ys ++ zs)) ++ (code ";" ∷ []) ≡ xs ++ ([] ++ (ys ++ ([] ++ (zs ++ (code ";" ∷ [])))))
+parted xs ys zs = append-assoc xs (ys ++ zs) (code ";" ∷ []) ∙ ap (λ (v : List ℕ). xs ++ v) (append-assoc ys zs (code ";" ∷ []))
+
+pub three-bytes : (xs ys zs : List ℕ) → (xs ++ (ys ++ (zs ++ []))) ++ (code ";" ∷ []) ≡ [] ++ (xs ++ ([] ++ (ys ++ ([] ++ (zs ++ ([] ++ (code ";" ∷ [])))))))
+three-bytes xs ys zs =
+    append-assoc xs (ys ++ (zs ++ [])) (code ";" ∷ [])
+    ∙ ap (λ (v : List ℕ). xs ++ v) (append-assoc ys (zs ++ []) (code ";" ∷ []) ∙ ap (λ (v : List ℕ). ys ++ v) (append-assoc zs [] (code ";" ∷ [])))
+
 -- and pairs that are such, in the order in which they stand, are members
 members-of : {e : Edition} {d : ℕ} {ps : Pairs} → Each e d ps → Keys ps → {seen : List (List ℕ)} → Unseen seen ps → Members e d seen (bytesOfPairs e ps ++ (code ";" ∷ [])) ps
 unfolding bytesOf
 members-of each-none keys-none unseen-none = close-members
 members-of {e} {d} (each-and {k} {t} {ps} w l o h) (keys-and a ks) (unseen-and u us) =
     more-members (unicode (content-written k l) w) u no-blanks o no-blanks (members-of h ks (unseen-more a us)) (parted (code "u" ∷ contentBytes k) (bytesOf e t) (bytesOfPairs e ps))
-  where
-    parted : (xs ys zs : List ℕ) → (xs ++ (ys ++ zs)) ++ (code ";" ∷ []) ≡ xs ++ ([] ++ (ys ++ ([] ++ (zs ++ (code ";" ∷ [])))))
-    parted xs ys zs = append-assoc xs (ys ++ zs) (code ";" ∷ []) ∙ ap (λ (v : List ℕ). xs ++ v) (append-assoc ys zs (code ";" ∷ []))
 
 -- an extension's letter, and a node's
 extends-letter : {e : Edition} {x : ℕ} → Extends e x → letterFor e 15 ≡ x
@@ -152,11 +125,6 @@ meets-canon any = any
 meets-canon unicode-met = unicode-met
 meets-canon dict-met = dict-met
 meets-canon ordered-met = ordered-met
-
-three-bytes : (xs ys zs : List ℕ) → (xs ++ (ys ++ (zs ++ []))) ++ (code ";" ∷ []) ≡ [] ++ (xs ++ ([] ++ (ys ++ ([] ++ (zs ++ ([] ++ (code ";" ∷ [])))))))
-three-bytes xs ys zs =
-    append-assoc xs (ys ++ (zs ++ [])) (code ";" ∷ [])
-    ∙ ap (λ (v : List ℕ). xs ++ v) (append-assoc ys (zs ++ []) (code ";" ∷ []) ∙ ap (λ (v : List ℕ). ys ++ v) (append-assoc zs [] (code ";" ∷ [])))
 
 mutual
   unfolding canon bytesOf leafBytes booleanBytes letterFor

@@ -117,6 +117,9 @@ pub no-blank : {s : List ℕ} {at : ℕ} → length s ≤ at → Stands s at (is
 unfolding isBlank
 no-blank {s} {at} h = record { is = rw (getD-past s at h); there = λ i. absurd (true≢false (sym i)) }
 
+pub no-text : {s : List ℕ} {at : ℕ} → length s ≤ at → Stands s at (eqb (getD s at 0) 117) false
+no-text {s} {at} h = record { is = rw (getD-past s at h); there = λ i. absurd (true≢false (sym i)) }
+
 pub no-digit : {s : List ℕ} {at : ℕ} → length s ≤ at → Stands s at (digit (getD s at 0)) false
 unfolding digit
 no-digit {s} {at} h = record { is = rw (getD-past s at h); there = λ i. absurd (true≢false (sym i)) }
@@ -168,4 +171,4 @@ stands-less x e = x .there e
 pub fewer-left : {s : List ℕ} {i : ℕ} {test b : Bool} → Stands s i test b → b ≡ true → length s - (i + 1) < length s - i
 fewer-left x e = let h = x .there e in omega arith
 
-pub ruleset bytes = (stands-less, fewer-left, skip-again, skip-done, count-again, count-done, count-small, stands-there, no-blank, no-digit, open-end, open-byte, blank-space, blank-tab, blank-vtab, blank-return, blank-feed, blank-not)
+pub ruleset bytes = (stands-less, fewer-left, skip-again, skip-done, count-again, count-done, count-small, stands-there, no-blank, no-digit, no-text, open-end, open-byte, blank-space, blank-tab, blank-vtab, blank-return, blank-feed, blank-not)

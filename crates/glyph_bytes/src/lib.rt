@@ -7,11 +7,13 @@ use glyph::Three;
 use glyph::Want;
 ghost use mathlib.Core.Path.{_≡_};
 ghost use Prim.Native.Nat.{_+_, _*_, _≤_, _<_, min};
+ghost use lib.Dec.{eqb};
 ghost use lib.ListN.{length, getD};
 ghost use Rattle.lexical.specs.Digits.{digit};
 ghost use Rattle.glyph.specs.Letters.{letterOf, onlyText, onlyDict, wanted, manyKind, keyedBy, threeKind, nameWant, attributesWant};
 ghost use Rattle.glyph.specs.Numbers.{isBlank};
 ghost use Rattle.glyph_bytes.specs.Places.{Skipped, Stands, Open, Counted};
+ghost use Rattle.glyph_bytes.specs.Leafs.{Leafy, LeafAt};
 
 fn letter_of(edition: Edition, b: u8) -> Letter
     ensures { λ r. ⌜ r ≡ letterOf edition b ⌝ }
@@ -86,6 +88,40 @@ pub fn letter_for(edition: Edition, want: Want, b: u8) -> Letter
     ensures { λ r. ⌜ r ≡ wanted want (letterOf edition b) ⌝ }
 {
     in_place(want, letter_of(edition, b))
+}
+
+fn is_leaf(b: u8) -> bool
+    ensures { λ r. ⌜ Leafy b r ⌝ }
+{
+    match b {
+        b'i' => true,
+        b'u' => true,
+        b'b' => true,
+        b'T' => true,
+        b'F' => true,
+        b'N' => true,
+        _ => false,
+    }
+}
+
+// An object without children begins there.
+pub fn leaf_at(s: &[u8], at: usize) -> bool
+    ensures { λ r. ⌜ LeafAt (now (s .entry)) at r ⌝ }
+{
+    if s.len() <= at {
+        return false;
+    }
+    is_leaf(s[at])
+}
+
+// A unicode begins there.
+pub fn text_at(s: &[u8], at: usize) -> bool
+    ensures { λ r. ⌜ Stands (now (s .entry)) at (eqb (getD (now (s .entry)) at 0) 117) r ⌝ }
+{
+    if s.len() <= at {
+        return false;
+    }
+    s[at] == b'u'
 }
 
 pub fn many_kind(many: Many) -> u32

@@ -1,6 +1,6 @@
 -- What answers the returns of the functions that read a key. Assumes nothing.
 use mathlib.Core.Path.{_≡_, refl, sym, ap, _∙_}
-use mathlib.Core.Bool.{Bool, true, false}
+use mathlib.Core.Bool.{Bool, true, false, true≢false}
 use mathlib.Core.List.{List, [], _∷_}
 use Prim.Native.Nat.{ℕ, _+_, _*_, _≤_, _<_}
 use native.Mathlib.Omega.{arith}
@@ -12,16 +12,17 @@ use Rattle.draft.specs.Strings.{Text}
 use Rattle.draft.specs.Table.{putRows}
 use Rattle.table.proofs.Stored.{rows-kept, first-row}
 use Rattle.item.specs.declared.Step.{Step}
+use Rattle.item.specs.Contract.{readTo}
 use Rattle.keys.specs.Notes.{ownerOf, named, keysOf, Noted, Rows, Entry, Added, Noting, Joins}
 use Rattle.keys.proofs.Chaining.{keys-move}
 use Rattle.keys.proofs.Keeping.{noted-move, key-below}
 use Rattle.member_keys.specs.Contract.{Joined}
 use Rattle.glyph.specs.declared.Refusal.the-variants.{Ended, UnexpectedByte, RepeatedKey}
-use Rattle.glyph.specs.declared.Leaf.the-variants.{Unicode}
-use Rattle.glyph.specs.Read.{Reading, got, refused, Texts, opened, text, leafOf, firstText, distinct}
+use Rattle.glyph.specs.Read.{Reading, got, refused, Texts, opened, text, firstText, distinct}
+use Rattle.glyph_bytes.specs.Places.{Skipped}
 use Rattle.glyph_item.specs.Contract.{refusedAt, answer, Leaves, Did}
 use Rattle.glyph_item.proofs.Readings.{Got, did-next, did-not, done, did-no, number-some}
-use Rattle.glyph_keys.specs.Contract.{name, Prepared, KeyDone}
+use Rattle.glyph_keys.specs.Contract.{name, Prepared, KeyDone, KeyIf}
 use Rattle.glyph_keys.proofs.Ones.{name-one}
 
 -- rows stored from row r on leave the texts of those before
@@ -44,7 +45,7 @@ module _ (s : List ℕ) (at : ℕ) {room r : ℕ} {T T′ : List ℕ} {step : St
   unfolding name
   name-wrong h n e = did-no UnexpectedByte e (simp (lt-ltb _ _ h, ne-eqb _ _ n))
 
-  pub name-on : at < length s → getD s at 0 ≡ 117 → Did (opened room at r (leafOf s Unicode at r)) (length s) room (at + 1) r T T′ step → Did (name s room at r) (length s) room (at + 1) r T T′ step
+  pub name-on : at < length s → getD s at 0 ≡ 117 → Did (opened room at r (text s true at r)) (length s) room (at + 1) r T T′ step → Did (name s room at r) (length s) room (at + 1) r T T′ step
   unfolding name
   name-on h n d = done (simp (lt-ltb _ _ h, eq-eqb _ _ n)) d
 
@@ -123,5 +124,21 @@ module _ (s : List ℕ) (at : ℕ) {room r : ℕ} {T T₁ N : List ℕ} {step : 
                   record { says = d .says ∙ rw (g .reading, ← says, q); leaves = let l : Leaves (got (g .rows) (step .at)) (length s) room (at + 1) r T T₁ = rw (g .reading) at (d .leaves) in rw (g .reading, ← says, q) l };
               joined = record { joins = λ _. rw next-row (joins (c .added q)); behind = λ _. omega (arith, next-row, did-next d e .ahead, p .entries .behind) };
             }
+
+-- where there are keys, and where there are none
+module _ {s : List ℕ} {room owner at r : ℕ} {T T′ N N′ : List ℕ} {key : Step} where
+  pub key-in : KeyDone s room owner at r T T′ N N′ key → key .number ≡ 0 → key .at ≤ length s
+  key-in d e = did-next (d .did) e .within
+
+  pub if-stops : {keyed : Bool} → keyed ≡ true → KeyDone s room owner at r T T′ N N′ key → (key .number ≡ 0 → ⊥) → KeyIf keyed s room owner at r T T′ N N′ key
+  if-stops k d n = record { some = λ _. record { key = key; done = d; stops = λ _. refl; skipped = λ e. absurd (n e); goes = λ e. absurd (n e) }; none = λ f. absurd (true≢false (sym k ∙ f)) }
+
+  pub if-goes : {keyed : Bool} {to : ℕ} → keyed ≡ true → KeyDone s room owner at r T T′ N N′ key → key .number ≡ 0 → Skipped s (key .at) to → KeyIf keyed s room owner at r T T′ N N′ (readTo to (key .row))
+  if-goes k d e z = record { some = λ _. record { key = key; done = d; stops = λ n. absurd (n e); skipped = λ _. z; goes = λ _. refl }; none = λ f. absurd (true≢false (sym k ∙ f)) }
+
+pub if-none : {keyed : Bool} (s : List ℕ) (room owner at r : ℕ) (T N : List ℕ) → keyed ≡ false → KeyIf keyed s room owner at r T T N N (readTo at r)
+if-none s room owner at r T N k = record { some = λ f. absurd (true≢false (sym f ∙ k)); none = λ _. record { says = refl; table = refl; notes = refl } }
+
+pub ruleset key-ifs = (key-in, if-stops, if-goes, if-none)
 
 pub ruleset keying = (name-short, name-wrong, name-on, key-refused, key-noted, key-rows, key-entry, key-again)

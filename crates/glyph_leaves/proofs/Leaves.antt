@@ -175,14 +175,14 @@ module _ (s : List ℕ) (u : Bool) (o n at : ℕ) {room r : ℕ} {T T′ : List 
     unfolding content
     content-wrong k e = did-no UnexpectedByte e (simp (lt-ltb _ _ h, ne-eqb _ _ k))
 
-    pub content-bad : {b : Bool} {t : List ℕ} → getD s (o + n) 0 ≡ 59 → t ≡ part s o n → b ≡ goodText u t → b ≡ false → step ≡ refusedAt BadText at → Did (content s u o n at r) (length s) room (at + 1) r T T′ step
+    pub content-bad : {b : Bool} → getD s (o + n) 0 ≡ 59 → b ≡ goodText u (part s o n) → b ≡ false → step ≡ refusedAt BadText at → Did (content s u o n at r) (length s) room (at + 1) r T T′ step
     unfolding content
-    content-bad k p f g e = did-no BadText e (simp (lt-ltb _ _ h, eq-eqb _ _ k) (rw (← p, ← f, g)))
+    content-bad k f g e = did-no BadText e (simp (lt-ltb _ _ h, eq-eqb _ _ k) (rw (← f, g)))
 
-    pub content-got : {b : Bool} {t : List ℕ} {k words : ℕ} → getD s (o + n) 0 ≡ 59 → t ≡ part s o n → b ≡ goodText u t → b ≡ true → k ≡ textKind u → step ≡ readTo (o + n + 1) (r + 1) → T′ ≡ setRow room T r (row k o n (r + 1)) → at < o → Slots r room (length s) words → Did (content s u o n at r) (length s) room (at + 1) r T T′ step
+    pub content-got : {b : Bool} {k words : ℕ} → getD s (o + n) 0 ≡ 59 → b ≡ goodText u (part s o n) → b ≡ true → k ≡ textKind u → step ≡ readTo (o + n + 1) (r + 1) → T′ ≡ setRow room T r (row k o n (r + 1)) → at < o → Slots r room (length s) words → Did (content s u o n at r) (length s) room (at + 1) r T T′ step
     unfolding content
-    content-got k p f g q e w l z =
-        done (simp (lt-ltb _ _ h, eq-eqb _ _ k) (rw (← p, ← f, g, ← q))) (leaf-got e w (omega arith) (omega arith) (z .left))
+    content-got k f g q e w l z =
+        done (simp (lt-ltb _ _ h, eq-eqb _ _ k) (rw (← f, g, ← q))) (leaf-got e w (omega arith) (omega arith) (z .left))
 
 -- content of a length that was cut: both are past the end
 cut-content : (s : List ℕ) (u : Bool) (o at r v n : ℕ) → v ≡ min n 2147483649 → length s ≤ 65536 → content s u o n at r ≡ content s u o v at r
@@ -228,6 +228,9 @@ module _ (s : List ℕ) (u : Bool) (at : ℕ) {room r : ℕ} {T T′ : List ℕ}
   unfolding text
   text-empty x y q e w z = let t = x .there y in done (rw (x .ends y, ← q)) (leaf-got e w (omega arith) (omega arith) (z .left))
 
+pub unicode-on : (s : List ℕ) (at : ℕ) {room r : ℕ} {T T′ : List ℕ} {step : Step} → r < room → Did (text s true at r) (length s) room (at + 1) r T T′ step → Did (opened room at r (text s true at r)) (length s) room (at + 1) r T T′ step
+unicode-on s at h d = opened-on at _ h d
+
 -- by letter
 module _ (s : List ℕ) (at : ℕ) {l : Leaf} {room r : ℕ} {T T′ : List ℕ} {step : Step} (h : r < room) where
   pub leaf-integer : l ≡ Integer → Did (integer s at r) (length s) room (at + 1) r T T′ step → Did (opened room at r (leafOf s l at r)) (length s) room (at + 1) r T T′ step
@@ -248,4 +251,4 @@ module _ (s : List ℕ) (at : ℕ) {l : Leaf} {room r : ℕ} {T T′ : List ℕ}
   pub leaf-nil : l ≡ Nil → Did (single s 13 0 at r) (length s) room (at + 1) r T T′ step → Did (opened room at r (leafOf s l at r)) (length s) room (at + 1) r T T′ step
   leaf-nil e d = opened-on at _ h (rw e d)
 
-pub ruleset leaves = (slots, single-cut, single-wrong, single-got, range-minus, range-plain, word-zero, word-minus, word-plain, sign-minus, sign-plus, sign-none, in-range, number-cut, number-none, number-wrong, number-far, number-got, integer-cut, integer-on, sign-from, from-after, sign-fits, good-text, good-bytes, content-cut, content-wrong, content-bad, content-got, length-cut, length-none, length-wrong, length-on, value-small, after-digits, text-on, text-empty, opened-full, leaf-integer, leaf-unicode, leaf-bytes, leaf-true, leaf-false, leaf-nil)
+pub ruleset leaves = (unicode-on, slots, single-cut, single-wrong, single-got, range-minus, range-plain, word-zero, word-minus, word-plain, sign-minus, sign-plus, sign-none, in-range, number-cut, number-none, number-wrong, number-far, number-got, integer-cut, integer-on, sign-from, from-after, sign-fits, good-text, good-bytes, content-cut, content-wrong, content-bad, content-got, length-cut, length-none, length-wrong, length-on, value-small, after-digits, text-on, text-empty, opened-full, leaf-integer, leaf-unicode, leaf-bytes, leaf-true, leaf-false, leaf-nil)

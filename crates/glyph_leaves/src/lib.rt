@@ -4,13 +4,18 @@ use glyph::Leaf;
 use glyph::Refusal;
 use item::Step;
 ghost use mathlib.Core.Path.{_≡_};
+ghost use mathlib.Core.Bool.{true};
 ghost use Prim.Native.Nat.{_+_, _≤_, _<_};
-ghost use lib.ListN.{length};
+ghost use lib.ListN.{length, getD};
+ghost use Rattle.text.specs.Utf8.{wellFormed};
+ghost use Rattle.draft.specs.Bytes.{part};
 ghost use Rattle.glyph.specs.Numbers.{digits, inRange, word};
 ghost use Rattle.glyph.specs.Read.{opened, single, numberFrom, integer, content, lengthened, text, textKind, goodText, leafOf};
 ghost use Rattle.item.specs.Contract.{Fitting};
+ghost use Rattle.glyph_bytes.specs.Leafs.{leafBy};
 ghost use Rattle.glyph_item.specs.Contract.{Did};
 ghost use Rattle.glyph_leaves.specs.Signs.{Signed, Slots};
+ghost use Rattle.glyph_leaves.specs.Plain.{Plain};
 
 // A letter and `;`.
 fn read_single(
@@ -127,13 +132,43 @@ fn read_integer(s: &[u8], at: usize, row: usize, room: usize, table: &mut [u32])
     read_number(s, at, row, sign.minus, at + 1 + sign.size, room, table)
 }
 
-// Whether content is well-formed: a bytearray's always is. The loop by itself is called, since `is_utf8` is to have one caller, in which it is
-// compiled.
-fn is_good(unicode: bool, t: &[u8]) -> bool
-    ensures { λ r. ⌜ r ≡ goodText unicode (now (t .entry)) ⌝ }
+// Whether the n bytes at o are below 128, so far as a look at sixteen bytes tells: at the eight before their end, and at their first eight if
+// they are more. Of fewer than eight some that stand before them are looked at too.
+fn is_plain(s: &[u8], o: usize, n: usize) -> bool
+    requires { ⌜ o + n ≤ length (now s) ⌝ }
+    ensures { λ r. ⌜ Plain (now (s .entry)) o n r ⌝ }
+{
+    let end = o + n;
+    if end < 8 {
+        return false;
+    }
+    if n <= 8 {
+        return eights::eight_below(s, end - 8);
+    }
+    if n <= 16 {
+        return eights::eight_below(s, end - 8) & eights::eight_below(s, o);
+    }
+    false
+}
+
+// Whether the n bytes at o are UTF-8. The loop by itself is called, since `is_utf8` is to have one caller, in which it is compiled.
+fn is_text(s: &[u8], o: usize, n: usize) -> bool
+    requires { ⌜ o + n ≤ length (now s) ⌝ }
+    ensures { λ r. ⌜ r ≡ wellFormed (part (now (s .entry)) o n) ⌝ }
+{
+    if is_plain(s, o, n) {
+        return true;
+    }
+    text_check::walk_from(content::part(s, o, n), 0)
+}
+
+// Whether content, the n bytes at o, is well-formed: a bytearray's always is.
+fn is_good(unicode: bool, s: &[u8], o: usize, n: usize) -> bool
+    requires { ⌜ o + n ≤ length (now s) ⌝ }
+    ensures { λ r. ⌜ r ≡ goodText unicode (part (now (s .entry)) o n) ⌝ }
 {
     if unicode {
-        return text_check::walk_from(t, 0);
+        return is_text(s, o, n);
     }
     true
 }
@@ -165,7 +200,7 @@ fn read_content(
     if s[end] != b';' {
         return glyph_item::refuse(Refusal::UnexpectedByte, at);
     }
-    if is_good(unicode, content::part(s, o, n)) {
+    if is_good(unicode, s, o, n) {
         item::put_leaf(
             row,
             end + 1,
@@ -218,6 +253,17 @@ fn read_text(s: &[u8], at: usize, row: usize, unicode: bool, room: usize, table:
     item::put_leaf(row, at + 2, text_kind(unicode), o as u32, 0, room, table)
 }
 
+// The unicode at `at`, whose letter has been seen.
+pub fn read_unicode(s: &[u8], at: usize, row: usize, room: usize, table: &mut [u32]) -> Step
+    requires { ⌜ (at < length (now s)) × Fitting at row room (length (now s)) (length (now table)) ⌝ }
+    ensures { λ r. ⌜ Did (opened room at row (text (now (s .entry)) true at row)) (length (now (s .entry))) room (at + 1) row (now (table .entry)) (now (table .exit)) r ⌝ }
+{
+    if room <= row {
+        return glyph_item::refuse(Refusal::NoRow, at);
+    }
+    read_text(s, at, row, true, room, table)
+}
+
 // The object at `at`, whose letter is this leaf's.
 pub fn read_leaf(
     s: &[u8],
@@ -240,5 +286,24 @@ pub fn read_leaf(
         Leaf::True => read_single(s, at, row, 5, 1, room, table),
         Leaf::False => read_single(s, at, row, 5, 0, room, table),
         Leaf::Nil => read_single(s, at, row, 13, 0, room, table),
+    }
+}
+
+// The object at `at`, by its letter, for the loop that reads the things of a list or a dict. It is called there alone, so that it is compiled
+// into it.
+pub fn read_in_run(s: &[u8], at: usize, row: usize, room: usize, table: &mut [u32]) -> Step
+    requires { ⌜ (at < length (now s)) × Fitting at row room (length (now s)) (length (now table)) ⌝ }
+    ensures { λ r. ⌜ Did (opened room at row (leafOf (now (s .entry)) (leafBy (getD (now (s .entry)) at 0)) at row)) (length (now (s .entry))) room (at + 1) row (now (table .entry)) (now (table .exit)) r ⌝ }
+{
+    if room <= row {
+        return glyph_item::refuse(Refusal::NoRow, at);
+    }
+    match s[at] {
+        b'i' => read_integer(s, at, row, room, table),
+        b'u' => read_text(s, at, row, true, room, table),
+        b'b' => read_text(s, at, row, false, room, table),
+        b'T' => read_single(s, at, row, 5, 1, room, table),
+        b'F' => read_single(s, at, row, 5, 0, room, table),
+        _ => read_single(s, at, row, 13, 0, room, table),
     }
 }

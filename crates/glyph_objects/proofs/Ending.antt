@@ -1,7 +1,7 @@
 -- The three objects of an extension or a node, and its end. Assumes nothing.
 use mathlib.Core.Path.{_≡_, refl, sym, ap, _∙_}
 use mathlib.Core.List.{List, [], _∷_}
-use Prim.Native.Nat.{ℕ, suc, _+_, _-_, _≤_, _<_}
+use Prim.Native.Nat.{ℕ, zero, suc, _+_, _-_, _≤_, _<_}
 use native.Mathlib.Omega.{arith}
 use native.Mathlib.Numerals.{add-one}
 use native.Mathlib.Nat.{add-zero}
@@ -18,16 +18,16 @@ use Rattle.glyph.specs.declared.Edition.{Edition}
 use Rattle.glyph.specs.declared.Three.{Three as ThreeLetter}
 use Rattle.glyph.specs.declared.Want.{Want}
 use Rattle.glyph.specs.declared.Want.the-variants.{Any}
-use Rattle.glyph.specs.Letters.{threeKind, nameWant, attributesWant}
+use Rattle.glyph.specs.Letters.{threeKind}
 use Rattle.glyph.specs.Numbers.{past}
-use Rattle.glyph.specs.Read.{Reading, got, next, closing, three, object}
+use Rattle.glyph.specs.Read.{Reading, Reader, got, next, closing, three, object}
 use Rattle.glyph_bytes.specs.Places.{Skipped}
 use Rattle.glyph_item.specs.Contract.{refusedAt}
 use Rattle.glyph_item.proofs.Readings.{did-next, did-not, done, did-no}
 use Rattle.glyph_keys.specs.Contract.{Prepared, Done}
-use Rattle.glyph_objects.specs.Contract.{Begun, Went, Nexted, Closable, Closed, stopped, short, wrong, right}
+use Rattle.glyph_objects.specs.Contract.{partWant, Begun, Nexted, Closable, Closed, stopped, short, wrong, right}
 use Rattle.glyph_objects.proofs.Objects.{after-not, done-no, done-by}
-use Rattle.glyph_objects.proofs.Entering.{done-ready, next-done}
+use Rattle.glyph_objects.proofs.Entering.{next-done}
 use Rattle.glyph_objects.proofs.Running.{noted-next, closed-keeps}
 
 -- the returns of the function that ends an object with three children
@@ -89,46 +89,43 @@ module _ {s : List ℕ} {at r room : ℕ} {T N : List ℕ} (b : Begun s at r roo
         after = record { keeps = λ _. keeps-none (noted-next (p .noted)) (λ k h. refl) _ (omega arith); behind = λ _. omega (arith, p .entries .behind) };
       }
 
-  pub start-ready : Went s (readTo (at + 1) (r + 1)) room T N
-  start-ready = done-ready p start-done refl refl
+pub part-last : (l : ThreeLetter) (k : ℕ) → (k ≡ 0 → ⊥) → (k ≡ 1 → ⊥) → Any ≡ partWant l k
+part-last l zero h i = absurd (h refl)
+part-last l (suc zero) h i = absurd (i refl)
+part-last l (suc (suc k)) h i = refl
 
-  module _ (e : Edition) (deep : ℕ) {w : Want} {T₁ N₁ : List ℕ} {one : Step} (n₁ : Nexted s room e deep w (readTo (at + 1) (r + 1)) T T₁ N N₁ one) where
-    name-done : Done (next s (got [] (at + 1)) (r + 1) (object s room e deep w)) s room (at + 1) (r + 1) T T₁ N N₁ one
-    name-done = next-done start-done n₁
+-- the first k objects of an extension or a node
+unfoldable pub parts : List ℕ → (Want → Reader) → ThreeLetter → ℕ → ℕ → ℕ → Reading
+parts s f l at r zero = got [] (at + 1)
+parts s f l at r (suc k) = next s (parts s f l at r k) (r + 1) (f (partWant l k))
 
-    pub name-ready : length T₁ ≡ length T → length N₁ ≡ length N → Went s one room T₁ N₁
-    name-ready t n = done-ready p name-done t n
+module _ (s : List ℕ) (e : Edition) (deep : ℕ) (l : ThreeLetter) (at r : ℕ) {room : ℕ} {T N : List ℕ} where
+  pub parts-first : Begun s at r room → Prepared s at r room T N → Done (parts s (object s room e deep) l at r 0) s room (at + 1) (r + 1) T T N N (readTo (at + 1) (r + 1))
+  unfolding parts
+  parts-first b p = start-done b p
 
-    module _ {v : Want} {T₂ N₂ : List ℕ} {two : Step} (n₂ : Nexted s room e deep v one T₁ T₂ N₁ N₂ two) where
-      attributes-done : Done (next s (next s (got [] (at + 1)) (r + 1) (object s room e deep w)) (r + 1) (object s room e deep v)) s room (at + 1) (r + 1) T T₂ N N₂ two
-      attributes-done = next-done name-done n₂
+  module _ (k : ℕ) {T₁ N₁ : List ℕ} {last : Step} (d : Done (parts s (object s room e deep) l at r k) s room (at + 1) (r + 1) T T₁ N N₁ last) where
+    pub parts-again : {w : Want} {T₂ N₂ : List ℕ} {step : Step} → Nexted s room e deep w last T₁ T₂ N₁ N₂ step → w ≡ partWant l k → Done (parts s (object s room e deep) l at r (k + 1)) s room (at + 1) (r + 1) T T₂ N N₂ step
+    unfolding parts
+    parts-again n i = rw (add-one k, ← i) (next-done d n)
 
-      pub attributes-ready : length T₂ ≡ length T → length N₂ ≡ length N → Went s two room T₂ N₂
-      attributes-ready t n = done-ready p attributes-done t n
+    pub parts-closable : Begun s at r room → Prepared s at r room T N → length T₁ ≡ length T → Closable s last r room T₁
+    parts-closable b p t =
+        let f = p .fitting in
+        record {
+          within = λ z. did-next (d .did) z .within;
+          fits = λ z. did-next (d .did) z .fits;
+          left = b .left;
+          rows = f .rows;
+          table = rw t (f .table);
+          message = f .message;
+        }
 
-      module _ {T₃ N₃ : List ℕ} {last : Step} (n₃ : Nexted s room e deep Any two T₂ T₃ N₂ N₃ last) where
-        content-done : Done (next s (next s (next s (got [] (at + 1)) (r + 1) (object s room e deep w)) (r + 1) (object s room e deep v)) (r + 1) (object s room e deep Any)) s room (at + 1) (r + 1) T T₃ N N₃ last
-        content-done = next-done attributes-done n₃
+    -- its end
+    pub parts-done : {m : ℕ} {T₂ : List ℕ} {step : Step} → Begun s at r room → Prepared s at r room T N → k ≤ 3 → 3 ≤ k → m ≡ threeKind l → Closed s last m r room T₁ T₂ step → Done (three s l (object s room e deep) at r) s room (at + 1) r T T₂ N N₁ step
+    unfolding three parts
+    parts-done {m} b p h i j c =
+        let q : k ≡ 3 = omega arith in
+        done-by (rw (← j)) (closing-done m b p (rw q at d) c)
 
-        pub content-closable : length T₃ ≡ length T → Closable s last r room T₃
-        content-closable t =
-            let f = p .fitting in
-            record {
-              within = λ z. did-next (content-done .did) z .within;
-              fits = λ z. did-next (content-done .did) z .fits;
-              left = b .left;
-              rows = f .rows;
-              table = rw t (f .table);
-              message = f .message;
-            }
-
-        -- its end
-        module _ {k : ℕ} (l : ThreeLetter) (m : k ≡ threeKind l) (x : w ≡ nameWant l) (y : v ≡ attributesWant l) where
-          as-three : three s l (object s room e deep) at r ≡ closing s k r (next s (next s (next s (got [] (at + 1)) (r + 1) (object s room e deep w)) (r + 1) (object s room e deep v)) (r + 1) (object s room e deep Any))
-          unfolding three
-          as-three = rw (m, x, y)
-
-          pub three-done : {T₄ : List ℕ} {step : Step} → Closed s last k r room T₃ T₄ step → Done (three s l (object s room e deep) at r) s room (at + 1) r T T₄ N N₃ step
-          three-done c = done-by as-three (closing-done k b p content-done c)
-
-pub ruleset ending = (end-short, end-wrong, end-stops, end-right, end-in, end-fits, start-ready, name-ready, attributes-ready, content-closable, three-done)
+pub ruleset ending = (end-short, end-wrong, end-stops, end-right, end-in, end-fits, part-last, parts-first, parts-again, parts-closable, parts-done)

@@ -9,6 +9,7 @@ use lib.ListN.{length, length-append, getD}
 use borrow.Author.Tests.{eqb-true}
 use Rattle.table.proofs.Rows.{put-append}
 use Rattle.item.specs.declared.Step.{Step}
+use Rattle.item.specs.Contract.{Fitting}
 use Rattle.keys.specs.Notes.{named}
 use Rattle.keys.proofs.Keeping.{keeps-then}
 use Rattle.member_keys.specs.Contract.{Joined}
@@ -16,21 +17,23 @@ use Rattle.glyph.specs.declared.Refusal.the-variants.{Ended, UnexpectedByte}
 use Rattle.glyph.specs.declared.Edition.{Edition}
 use Rattle.glyph.specs.declared.Edition.the-variants.{New, Old}
 use Rattle.glyph.specs.declared.Want.{Want}
-use Rattle.glyph.specs.declared.Want.the-variants.{Any, Text as Name}
+use Rattle.glyph.specs.declared.Want.the-variants.{Any, Text as Name, EitherDict}
 use Rattle.glyph.specs.declared.Leaf.the-variants.{Integer, Bytes, True, False, Nil}
 use Rattle.glyph.specs.declared.Many.the-variants.{List as ListLetter, Dict, Ordered}
 use Rattle.glyph.specs.declared.Letter.{Letter}
 use Rattle.glyph.specs.declared.Letter.the-variants.{Leaf, Many, Unknown}
 use Rattle.glyph.specs.Letters.{letterOf, letterX, letterH, pickLetter, wanted}
 use Rattle.glyph.specs.Numbers.{past}
-use Rattle.glyph.specs.Read.{Reading, got, refused, Nest, pick, behind, opened, text, next, entry, object, item}
+use Rattle.glyph.specs.Read.{Reading, got, refused, Nest, pick, behind, opened, text, leafOf, next, entry, object, item}
 use Rattle.glyph_bytes.specs.Places.{Skipped}
+use Rattle.glyph_bytes.specs.Leafs.{leafBy, LeafAt}
 use Rattle.glyph_item.specs.Contract.{answer, Leaves, Did}
 use Rattle.glyph_item.proofs.Readings.{Got, Not, did-next, did-not, did-no}
-use Rattle.glyph_keys.specs.Contract.{name, Prepared, Done, KeyDone}
+use Rattle.glyph_keys.specs.Contract.{name, Prepared, Done, KeyDone, KeyIf}
+use Rattle.glyph_keys.proofs.Ones.{name-one}
 use Rattle.glyph_keys.proofs.Keying.{named-kept}
-use Rattle.glyph_objects.specs.Contract.{Went, Nexted, EntryDone}
-use Rattle.glyph_objects.proofs.Objects.{after-not}
+use Rattle.glyph_objects.specs.Contract.{isName, Went, Nexted, EntryDone}
+use Rattle.glyph_objects.proofs.Objects.{after-not, one-after, object-leaf}
 
 -- what an accepted call leaves for the next
 pub done-ready : {s : List ℕ} {at₀ r₀ : ℕ} {o : Reading} {room from r : ℕ} {T T′ N N′ : List ℕ} {step : Step} → Prepared s at₀ r₀ room T N → Done o s room from r T T′ N N′ step → length T′ ≡ length T → length N′ ≡ length N → Went s step room T′ N′
@@ -179,6 +182,20 @@ unfolding object name
 object-name s room e zero at r = ap (λ (x : Reading). pick (ltb at (length s)) x (refused Ended at)) (item-name s room e _ at r)
 object-name s room e (suc d) at r = ap (λ (x : Reading). pick (ltb at (length s)) x (refused Ended at)) (item-name s room e _ at r)
 
+-- a name, where nothing else may stand
+name-wanted : (want : Want) → isName want ≡ true → want ≡ Name
+name-wanted Any i = absurd (true≢false (sym i))
+name-wanted Name i = refl
+name-wanted EitherDict i = absurd (true≢false (sym i))
+
+pub next-name : {s : List ℕ} {room : ℕ} (e : Edition) (deep : ℕ) (want : Want) {b : Bool} {before : Step} {T T′ N : List ℕ} {to : ℕ} {step : Step} → before .number ≡ 0 → Skipped s (before .at) to → b ≡ isName want → b ≡ true → Did (name s room to (before .row)) (length s) room (to + 1) (before .row) T T′ step → Prepared s to (before .row) room T N → Nexted s room e deep want before T T′ N N step
+next-name {s} {room} e deep want {before = before} {to = to} z k i j d p =
+    let w = name-wanted want (sym i ∙ j) in
+    rw w (next-goes z k (record { did = rw (← object-name s room e deep to (before .row)) at d; after = one-after s to (name-one s room to (before .row)) d p }))
+
+pub name-fits : {s : List ℕ} {before : Step} {room to : ℕ} {T N : List ℕ} → Went s before room T N → before .number ≡ 0 → Skipped s (before .at) to → Fitting to (before .row) room (length s) (length T)
+name-fits w e z = past-ready w e z .fitting
+
 -- what a key leaves for its value
 pub key-ready : {s : List ℕ} {room owner at r : ℕ} {T T₁ N N₁ : List ℕ} {key : Step} → Prepared s at r room T N → KeyDone s room owner at r T T₁ N N₁ key → length T₁ ≡ length T → length N₁ ≡ length N → Went s key room T₁ N₁
 key-ready p k t n =
@@ -228,4 +245,56 @@ pub entry-plain : {keyed : Bool} {s : List ℕ} {room owner at r : ℕ} {e : Edi
 unfolding entry
 entry-plain i d = rw i (record { did = d .did; joined = λ j. absurd (true≢false (sym j)); after = λ _. d .after })
 
-pub ruleset entering = (done-ready, past-ready, went-in, next-stops, next-goes, next-done, key-ready, entry-keyed, entry-plain)
+-- an object without children, where any may stand
+pub thing-leaf : (s : List ℕ) (e : Edition) (deep at : ℕ) {room r : ℕ} {T T′ N : List ℕ} {step : Step} {b : Bool} → LeafAt s at b → b ≡ true → Did (opened room at r (leafOf s (leafBy (getD s at 0)) at r)) (length s) room (at + 1) r T T′ step → Prepared s at r room T N → Done (object s room e deep Any at r) s room (at + 1) r T T′ N N step
+thing-leaf s e deep at l t d p = object-leaf s e deep Any at (l .there t) refl (l .letter t e) d p
+
+pub leaf-in : {s : List ℕ} {at : ℕ} {b : Bool} → LeafAt s at b → b ≡ true → at < length s
+leaf-in l t = l .there t
+
+-- what stands before an object, a key or nothing
+key-none : {key step : Step} → ((key .number ≡ 0 → ⊥) → step ≡ key) → step .number ≡ 0 → key .number ≡ 0
+key-none {key} h z = decide key (λ e. e) (λ n. absurd (n (sym (ap (λ (x : Step). x .number) (h n)) ∙ z)))
+
+pub if-ready : {keyed : Bool} {s : List ℕ} {room owner at r : ℕ} {T T₁ N N₁ : List ℕ} {step : Step} → Prepared s at r room T N → KeyIf keyed s room owner at r T T₁ N N₁ step → step .number ≡ 0 → length T₁ ≡ length T → length N₁ ≡ length N → Prepared s (step .at) (step .row) room T₁ N₁
+if-ready {keyed} {s} {room} {owner} {at} {r} {T} {T₁} {N} {N₁} {step} p k z t n = go keyed k
+  where
+    go : (b : Bool) → KeyIf b s room owner at r T T₁ N N₁ step → Prepared s (step .at) (step .row) room T₁ N₁
+    go true k =
+        let x = k .some refl in
+        let e = key-none (x .stops) z in
+        let q : step .row ≡ x .key .row = ap (λ (y : Step). y .row) (x .goes e) in
+        rw q (past-ready (key-ready p (x .done) t n) e (x .skipped e))
+    go false k =
+        let x = k .none refl in
+        let a : step .at ≡ at = ap (λ (y : Step). y .at) (x .says) in
+        let q : step .row ≡ r = ap (λ (y : Step). y .row) (x .says) in
+        rw (a, q, x .table, x .notes) p
+
+module _ {keyed : Bool} {s : List ℕ} {room owner at r : ℕ} (e : Edition) (deep : ℕ) {T T₁ N N₁ : List ℕ} {before : Step} (k : KeyIf keyed s room owner at r T T₁ N N₁ before) (h : 0 < owner) (l : owner ≤ r) where
+  pub entry-stops : (before .number ≡ 0 → ⊥) → EntryDone keyed s room e deep owner at r T T₁ N N₁ before
+  entry-stops n = go keyed k
+    where
+      go : (b : Bool) → KeyIf b s room owner at r T T₁ N N₁ before → EntryDone b s room e deep owner at r T T₁ N N₁ before
+      go true k =
+          let x = k .some refl in
+          let m : x .key .number ≡ 0 → ⊥ = λ i. n (ap (λ (y : Step). y .number) (x .goes i)) in
+          entry-keyed (x .done) (record { stops = x .stops; goes = λ i. absurd (m i) }) refl h l
+      go false k = absurd (n (ap (λ (y : Step). y .number) (k .none refl .says)))
+
+  pub entry-goes : {T₂ N₂ : List ℕ} {step : Step} → before .number ≡ 0 → Done (object s room e deep Any (before .at) (before .row)) s room (before .at + 1) (before .row) T₁ T₂ N₁ N₂ step → EntryDone keyed s room e deep owner at r T T₂ N N₂ step
+  entry-goes {T₂} {N₂} {step} z d = go keyed k
+    where
+      go : (b : Bool) → KeyIf b s room owner at r T T₁ N N₁ before → EntryDone b s room e deep owner at r T T₂ N N₂ step
+      go true k =
+          let x = k .some refl in
+          let i = key-none (x .stops) z in
+          let q : before .row ≡ x .key .row = ap (λ (y : Step). y .row) (x .goes i) in
+          entry-keyed (x .done) (next-goes i (x .skipped i) (rw q at d)) refl h l
+      go false k =
+          let x = k .none refl in
+          let a : before .at ≡ at = ap (λ (y : Step). y .at) (x .says) in
+          let q : before .row ≡ r = ap (λ (y : Step). y .row) (x .says) in
+          entry-plain refl (rw (a, q, x .table, x .notes) at d)
+
+pub ruleset entering = (done-ready, past-ready, went-in, next-stops, next-goes, next-name, name-fits, next-done, thing-leaf, leaf-in, if-ready, entry-stops, entry-goes)

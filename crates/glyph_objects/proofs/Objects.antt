@@ -25,7 +25,7 @@ use Rattle.glyph.specs.Read.{Reading, refused, Nest, floor, under, opened, leaf
 use Rattle.glyph_item.specs.Contract.{refusedAt, Did}
 use Rattle.glyph_item.proofs.Readings.{did-next, done, did-no, number-some}
 use Rattle.glyph_keys.specs.Contract.{Prepared, Done}
-use Rattle.glyph_keys.proofs.Ones.{opened-one}
+use Rattle.glyph_keys.proofs.Ones.{One, opened-one}
 use Rattle.glyph_keys.proofs.Keying.{named-kept}
 use Rattle.glyph_objects.specs.Contract.{Begun}
 
@@ -62,12 +62,12 @@ unfolding nestOf
 nest-less s room e zero n = absurd (n refl)
 nest-less s room e (suc d) n = rw sub-one
 
--- an object without children leaves the notes
-leaf-after : (s : List ℕ) (room : ℕ) (l : LeafLetter) (at r : ℕ) {T T′ N : List ℕ} {step : Step} → Did (opened room at r (leafOf s l at r)) (length s) room (at + 1) r T T′ step → Prepared s at r room T N → After (named s room T) (named s room T′) N N r step
-leaf-after s room l at r d p =
+-- an object of one row leaves the notes
+pub one-after : (s : List ℕ) (at : ℕ) {o : Reading} {room r : ℕ} {T T′ N : List ℕ} {step : Step} → One o → Did o (length s) room (at + 1) r T T′ step → Prepared s at r room T N → After (named s room T) (named s room T′) N N r step
+one-after s at x d p =
     record {
       keeps = λ e. let g = did-next d e in keeps-none (p .noted) (λ k h. named-kept s g k (key-below (p .noted) k h)) _ (omega (arith, g .next));
-      behind = λ e. let g = did-next d e in omega (arith, g .next, g .ahead, opened-one s room l at r .row (g .reading), p .entries .behind);
+      behind = λ e. let g = did-next d e in omega (arith, g .next, g .ahead, x .row (g .reading), p .entries .behind);
     }
 
 module _ (s : List ℕ) (e : Edition) (d : ℕ) (want : Want) (at : ℕ) {room r : ℕ} {T T′ N N′ : List ℕ} {step : Step} where
@@ -104,7 +104,7 @@ module _ (s : List ℕ) (e : Edition) (d : ℕ) (want : Want) (at : ℕ) {room r
       three-on n f k = done-by (object-is s room e d want at r h i ∙ rw (j, nest-less s room e d n, lt-ltb _ _ f)) k
 
 pub object-leaf : (s : List ℕ) (e : Edition) (d : ℕ) (want : Want) (at : ℕ) {room r : ℕ} {T T′ N : List ℕ} {step : Step} {l : Letter} {m : LeafLetter} → at < length s → l ≡ wanted want (letterOf e (getD s at 0)) → l ≡ Leaf m → Did (opened room at r (leafOf s m at r)) (length s) room (at + 1) r T T′ step → Prepared s at r room T N → Done (object s room e d want at r) s room (at + 1) r T T′ N N step
-object-leaf s e d want at {room} {r} {m = m} h i j k p = record { did = done (object-is s room e d want at r h i ∙ rw j) k; after = leaf-after s room m at r k p }
+object-leaf s e d want at {room} {r} {m = m} h i j k p = record { did = done (object-is s room e d want at r h i ∙ rw j) k; after = one-after s at (opened-one s room m at r) k p }
 
 pub begun : {s : List ℕ} {at r room : ℕ} → at < length s → r < room → Begun s at r room
 begun h k = record { there = h; left = k }

@@ -2,7 +2,7 @@
 use mathlib.Core.Path.{_≡_}
 use mathlib.Core.Bool.{Bool, true, false}
 use mathlib.Core.List.{List}
-use Prim.Native.Nat.{ℕ, _+_, _*_, _≤_, _<_}
+use Prim.Native.Nat.{ℕ, zero, suc, _+_, _*_, _≤_, _<_}
 use lib.ListN.{length}
 use Rattle.draft.specs.Rows.{row}
 use Rattle.draft.specs.Table.{setRow}
@@ -12,9 +12,11 @@ use Rattle.keys.specs.Notes.{named, keysOf}
 use Rattle.member_keys.specs.Contract.{After, Joined}
 use Rattle.glyph.specs.declared.Edition.{Edition}
 use Rattle.glyph.specs.declared.Want.{Want}
+use Rattle.glyph.specs.declared.Want.the-variants.{Any, Text as Name, EitherDict}
 use Rattle.glyph.specs.declared.Many.{Many}
 use Rattle.glyph.specs.declared.Three.{Three}
 use Rattle.glyph.specs.declared.Refusal.the-variants.{Ended, UnexpectedByte}
+use Rattle.glyph.specs.Letters.{nameWant, attributesWant}
 use Rattle.glyph.specs.Numbers.{past}
 use Rattle.glyph.specs.Read.{Reader, object, entry, many, three}
 use Rattle.glyph_item.specs.Contract.{Did, refusedAt}
@@ -27,6 +29,18 @@ manyOf = many
 
 abbrev pub threeOf : List ℕ → Three → (Want → Reader) → Reader
 threeOf = three
+
+-- whether a unicode alone may stand at a place
+abbrev pub isName : Want → Bool
+isName Any = false
+isName Name = true
+isName EitherDict = false
+
+-- what may stand as the first, the second and the third object of an extension or a node
+abbrev pub partWant : Three → ℕ → Want
+partWant l zero = nameWant l
+partWant l (suc zero) = attributesWant l
+partWant l (suc (suc k)) = Any
 
 -- a letter stands there, and a row is left for its object
 pub record Begun (s : List ℕ) (at r room : ℕ) : Type 0 where

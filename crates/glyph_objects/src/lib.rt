@@ -1,7 +1,7 @@
 // Reading glyph objects. A list's objects may be lists, dicts, extensions or nodes, and so on: `read_object` reads an object by its letter,
-// `read_many` what a list or a dict holds, `read_entry` one thing of it, `read_three` what an extension or a node holds, and `read_next` one
-// object behind blanks; they call one another in a cycle, in which `deep`, the nesting left, falls at each object with children, and the bytes
-// left at each thing. The keys of all dicts are noted in the lent words `notes`.
+// `read_many` what a list or a dict holds, `read_entry` one thing of it, `read_thing` that without its key, `read_three` what an extension or a
+// node holds, and `read_next` one object of it behind blanks; they call one another in a cycle, in which `deep`, the nesting left, falls at each
+// object with children, and the bytes left at each thing. The keys of all dicts are noted in the lent words `notes`.
 use draft::Row;
 use glyph::Edition;
 use glyph::Letter;
@@ -10,10 +10,11 @@ use glyph::Refusal;
 use glyph::Three;
 use glyph::Want;
 use item::Step;
+ghost use mathlib.Core.Path.{_≡_};
 ghost use Prim.Native.Nat.{_+_, _-_, _≤_, _<_};
 ghost use Rattle.glyph.specs.Read.{object};
 ghost use Rattle.glyph_keys.specs.Contract.{Prepared, Done};
-ghost use Rattle.glyph_objects.specs.Contract.{Begun, Went, Nexted, EntryDone, Closable, Closed, manyOf, threeOf};
+ghost use Rattle.glyph_objects.specs.Contract.{Begun, Went, Nexted, EntryDone, Closable, Closed, manyOf, threeOf, isName, partWant};
 
 // The object at `at`, if it may stand there.
 pub fn read_object(
@@ -58,6 +59,17 @@ pub fn read_object(
     }
 }
 
+// Whether a name alone may stand there.
+fn is_name(want: Want) -> bool
+    ensures { λ r. ⌜ r ≡ isName want ⌝ }
+{
+    match want {
+        Want::Any => false,
+        Want::Text => true,
+        Want::EitherDict => false,
+    }
+}
+
 // Blanks and an object, behind what was read up to a step; or that step, if it is a refusal.
 fn read_next(
     s: &[u8],
@@ -76,7 +88,30 @@ fn read_next(
         return before;
     }
     let at = glyph_bytes::past_blanks(s, before.at);
+    if is_name(want) {
+        return glyph_keys::read_name(s, at, before.row, room, table);
+    }
     read_object(s, at, before.row, edition, want, deep, room, table, notes)
+}
+
+// An object that a list or a dict holds. One without children is read here, so that it takes no call of the cycle.
+fn read_thing(
+    s: &[u8],
+    at: usize,
+    row: usize,
+    edition: Edition,
+    deep: usize,
+    room: usize,
+    table: &mut [u32],
+    notes: &mut [u16],
+) -> Step
+    requires { ⌜ Prepared (now s) at row room (now table) (now notes) ⌝ }
+    ensures { λ r. ⌜ Done (object (now (s .entry)) room edition deep Want.Any at row) (now (s .entry)) room (at + 1) row (now (table .entry)) (now (table .exit)) (now (notes .entry)) (now (notes .exit)) r ⌝ }
+{
+    if glyph_bytes::leaf_at(s, at) {
+        return glyph_leaves::read_in_run(s, at, row, room, table);
+    }
+    read_object(s, at, row, edition, Want::Any, deep, room, table, notes)
 }
 
 // One thing of a list or a dict: an object, behind its key if there are keys.
@@ -95,12 +130,11 @@ fn read_entry(
     requires { ⌜ (0 < owner) × (owner ≤ row) × Prepared (now s) at row room (now table) (now notes) ⌝ }
     ensures { λ r. ⌜ EntryDone keyed (now (s .entry)) room edition deep owner at row (now (table .entry)) (now (table .exit)) (now (notes .entry)) (now (notes .exit)) r ⌝ }
 {
-    if keyed {
-        let key = glyph_keys::read_key(s, at, row, room, table, notes, owner);
-        read_next(s, key, edition, Want::Any, deep, room, table, notes)
-    } else {
-        read_object(s, at, row, edition, Want::Any, deep, room, table, notes)
+    let key = glyph_keys::read_key_if(keyed, s, at, row, room, table, notes, owner);
+    if key.number != 0 {
+        return key;
     }
+    read_thing(s, key.at, key.row, edition, deep, room, table, notes)
 }
 
 // The things of the list or the dict whose letter stands at `at`, until its `;`; then its own row.
@@ -195,6 +229,17 @@ fn end_three(s: &[u8], before: Step, kind: u32, row: usize, room: usize, table: 
     }
 }
 
+// What may stand as the first, the second and the third object of an extension or a node.
+fn part_want(three: Three, k: usize) -> Want
+    ensures { λ r. ⌜ r ≡ partWant three k ⌝ }
+{
+    match k {
+        0 => glyph_bytes::name_want(three),
+        1 => glyph_bytes::attributes_want(three),
+        _ => Want::Any,
+    }
+}
+
 // The name, the attributes and the content of the extension or the node whose letter stands at `at`; its `;`; and its own row.
 fn read_three(
     s: &[u8],
@@ -210,31 +255,24 @@ fn read_three(
     requires { ⌜ Begun (now s) at row room × Prepared (now s) at row room (now table) (now notes) ⌝ }
     ensures { λ r. ⌜ Done (threeOf (now (s .entry)) three (object (now (s .entry)) room edition deep) at row) (now (s .entry)) room (at + 1) row (now (table .entry)) (now (table .exit)) (now (notes .entry)) (now (notes .exit)) r ⌝ }
 {
-    let start = Step {
+    let mut step = Step {
         number: 0,
         at: at + 1,
         row: row + 1,
     };
-    let name = read_next(
-        s,
-        start,
-        edition,
-        glyph_bytes::name_want(three),
-        deep,
-        room,
-        table,
-        notes,
-    );
-    let attributes = read_next(
-        s,
-        name,
-        edition,
-        glyph_bytes::attributes_want(three),
-        deep,
-        room,
-        table,
-        notes,
-    );
-    let content = read_next(s, attributes, edition, Want::Any, deep, room, table, notes);
-    end_three(s, content, glyph_bytes::three_kind(three), row, room, table)
+    let mut k: usize = 0;
+    while k < 3 {
+        step = read_next(
+            s,
+            step,
+            edition,
+            part_want(three, k),
+            deep,
+            room,
+            table,
+            notes,
+        );
+        k += 1;
+    }
+    end_three(s, step, glyph_bytes::three_kind(three), row, room, table)
 }

@@ -1,59 +1,158 @@
-// The written form of glyph objects without children, put into a lent line from a place on. A function answers where it ends; what the line
-// has no room for is dropped.
+// The bytes of glyph objects without children, put into a lent output from a place on, if they end at `most` at the latest. A function answers
+// where they end, also where they were not put; all places past 65,536 are told as 65,537.
 ghost use mathlib.Core.Path.{_≡_};
-ghost use mathlib.Core.Bool.{cond};
-ghost use mathlib.Core.List.{[], _∷_};
-ghost use lib.Dec.{eqb};
-ghost use Rattle.spelling.specs.Line.{Puts};
-ghost use Rattle.glyph_form.specs.Form.{numberBefore, integerBytes, booleanBytes, contentBytes};
+ghost use mathlib.Core.List.{[], _∷_, _++_};
+ghost use Prim.Native.Nat.{_-_, _*_, _≤_};
+ghost use lib.ListN.{length};
+ghost use Rattle.glyph_form.specs.Form.{digitsBefore, numberBefore, integerBytes, booleanBytes, contentBytes};
+ghost use Rattle.glyph_output.specs.Contract.{reached as reachedBy, Open, Adds};
+
+// The most bytes that a message may have.
+pub const MOST_BYTES: usize = 65536;
+
+// What is told of a place.
+fn reached(n: usize) -> usize
+    ensures { λ r. ⌜ r ≡ reachedBy n ⌝ }
+{
+    if MOST_BYTES < n {
+        return 65537;
+    }
+    n
+}
+
+// A byte.
+pub fn put_byte(out: &mut [u8], most: usize, at: usize, b: u8) -> usize
+    requires { ⌜ Open most (length (now out)) at ⌝ }
+    ensures { λ r. ⌜ Adds (b ∷ []) most (now (out .entry)) at (now (out .exit)) r ⌝ }
+{
+    if at < most {
+        out[at] = b;
+        return at + 1;
+    }
+    reached(at + 1)
+}
+
+// Bytes as they are.
+pub fn put_text(out: &mut [u8], most: usize, at: usize, t: &[u8]) -> usize
+    requires { ⌜ Open most (length (now out)) at × (length (now t) ≤ 65536) ⌝ }
+    ensures { λ r. ⌜ Adds (now (t .entry)) most (now (out .entry)) at (now (out .exit)) r ⌝ }
+{
+    let stop = at + t.len();
+    if stop <= most {
+        output::put_bytes(&mut out[at..], t);
+        return stop;
+    }
+    reached(stop)
+}
+
+// Two bytes.
+fn put_two(out: &mut [u8], most: usize, at: usize, b: u8, c: u8) -> usize
+    requires { ⌜ Open most (length (now out)) at ⌝ }
+    ensures { λ r. ⌜ Adds (b ∷ c ∷ []) most (now (out .entry)) at (now (out .exit)) r ⌝ }
+{
+    if at + 2 <= most {
+        out[at] = b;
+        out[at + 1] = c;
+        return at + 2;
+    }
+    reached(at + 2)
+}
+
+// A number's digits, two at a time; the last of them if it has more than twice `pairs`.
+fn put_digits(out: &mut [u8], most: usize, at: usize, n: u32, pairs: usize) -> usize
+    requires { ⌜ Open most (length (now out)) at ⌝ }
+    ensures { λ r. ⌜ Adds (digitsBefore (2 * pairs) n []) most (now (out .entry)) at (now (out .exit)) r ⌝ }
+{
+    if pairs == 0 {
+        return reached(at);
+    }
+    if n < 10 {
+        return put_byte(out, most, at, 48 + n as u8);
+    }
+    let tens = n / 10;
+    let last = 48 + (n % 10) as u8;
+    if tens < 10 {
+        return put_two(out, most, at, 48 + tens as u8, last);
+    }
+    let next = put_digits(out, most, at, tens / 10, pairs - 1);
+    put_two(out, most, next, 48 + (tens % 10) as u8, last)
+}
 
 // A number without leading zeros, and the byte behind it.
-fn put_number(line: &mut [u8], at: usize, n: u64, b: u8) -> usize
-    ensures { λ r. ⌜ Puts (numberBefore n (b ∷ [])) (now (line .entry)) at (now (line .exit)) r ⌝ }
+fn put_number(out: &mut [u8], most: usize, at: usize, n: u32, b: u8) -> usize
+    requires { ⌜ Open most (length (now out)) at ⌝ }
+    ensures { λ r. ⌜ Adds (numberBefore n (b ∷ [])) most (now (out .entry)) at (now (out .exit)) r ⌝ }
 {
-    let end = spelling::put_digits(line, at, n, 10);
-    spelling::put_byte(line, end, b)
+    let last = put_digits(out, most, at, n, 5);
+    put_byte(out, most, last, b)
 }
 
 // A letter and `;`.
-pub fn put_single(line: &mut [u8], at: usize, letter: u8) -> usize
-    ensures { λ r. ⌜ Puts (letter ∷ 59 ∷ []) (now (line .entry)) at (now (line .exit)) r ⌝ }
+pub fn put_single(out: &mut [u8], most: usize, at: usize, letter: u8) -> usize
+    requires { ⌜ Open most (length (now out)) at ⌝ }
+    ensures { λ r. ⌜ Adds (letter ∷ 59 ∷ []) most (now (out .entry)) at (now (out .exit)) r ⌝ }
 {
-    let end = spelling::put_byte(line, at, letter);
-    spelling::put_byte(line, end, b';')
+    put_two(out, most, at, letter, b';')
+}
+
+// A minus and the number of a negative integer, by its 32 bits.
+fn put_negative(out: &mut [u8], most: usize, at: usize, n: u32) -> usize
+    requires { ⌜ Open most (length (now out)) at × (2147483648 ≤ n) ⌝ }
+    ensures { λ r. ⌜ Adds (45 ∷ numberBefore (4294967296 - n) (59 ∷ [])) most (now (out .entry)) at (now (out .exit)) r ⌝ }
+{
+    let next = put_byte(out, most, at, b'-');
+    put_number(out, most, next, (4294967296 - n as u64) as u32, b';')
 }
 
 // An integer, by its 32 bits.
-pub fn put_integer(line: &mut [u8], at: usize, n: u32) -> usize
-    ensures { λ r. ⌜ Puts (integerBytes n) (now (line .entry)) at (now (line .exit)) r ⌝ }
+pub fn put_integer(out: &mut [u8], most: usize, at: usize, n: u32) -> usize
+    requires { ⌜ Open most (length (now out)) at ⌝ }
+    ensures { λ r. ⌜ Adds (integerBytes n) most (now (out .entry)) at (now (out .exit)) r ⌝ }
 {
-    let next = spelling::put_byte(line, at, b'i');
+    let next = put_byte(out, most, at, b'i');
     if n < 2147483648 {
-        return put_number(line, next, n as u64, b';');
+        return put_number(out, most, next, n, b';');
     }
-    let last = spelling::put_byte(line, next, b'-');
-    put_number(line, last, 4294967296 - n as u64, b';')
+    put_negative(out, most, next, n)
 }
 
 // T, or F for 0.
-pub fn put_boolean(line: &mut [u8], at: usize, n: u32) -> usize
-    ensures { λ r. ⌜ Puts (booleanBytes n) (now (line .entry)) at (now (line .exit)) r ⌝ }
+pub fn put_boolean(out: &mut [u8], most: usize, at: usize, n: u32) -> usize
+    requires { ⌜ Open most (length (now out)) at ⌝ }
+    ensures { λ r. ⌜ Adds (booleanBytes n) most (now (out .entry)) at (now (out .exit)) r ⌝ }
 {
     if n == 0 {
-        return put_single(line, at, b'F');
+        return put_single(out, most, at, b'F');
     }
-    put_single(line, at, b'T')
+    put_single(out, most, at, b'T')
+}
+
+// Bytes and `;`.
+fn put_ended(out: &mut [u8], most: usize, at: usize, t: &[u8]) -> usize
+    requires { ⌜ Open most (length (now out)) at × (length (now t) ≤ 65536) ⌝ }
+    ensures { λ r. ⌜ Adds (now (t .entry) ++ (59 ∷ [])) most (now (out .entry)) at (now (out .exit)) r ⌝ }
+{
+    let last = put_text(out, most, at, t);
+    put_byte(out, most, last, b';')
+}
+
+// Bytes with their number before them, and `;`.
+fn put_counted(out: &mut [u8], most: usize, at: usize, t: &[u8]) -> usize
+    requires { ⌜ Open most (length (now out)) at × (length (now t) ≤ 65536) ⌝ }
+    ensures { λ r. ⌜ Adds (numberBefore (length (now (t .entry))) (58 ∷ (now (t .entry) ++ (59 ∷ [])))) most (now (out .entry)) at (now (out .exit)) r ⌝ }
+{
+    let start = put_number(out, most, at, t.len() as u32, b':');
+    put_ended(out, most, start, t)
 }
 
 // A unicode or a bytearray, by its letter: an empty one has no length.
-pub fn put_content(line: &mut [u8], at: usize, letter: u8, t: &[u8]) -> usize
-    ensures { λ r. ⌜ Puts (letter ∷ contentBytes (now (t .entry))) (now (line .entry)) at (now (line .exit)) r ⌝ }
+pub fn put_content(out: &mut [u8], most: usize, at: usize, letter: u8, t: &[u8]) -> usize
+    requires { ⌜ Open most (length (now out)) at × (length (now t) ≤ 65536) ⌝ }
+    ensures { λ r. ⌜ Adds (letter ∷ contentBytes (now (t .entry))) most (now (out .entry)) at (now (out .exit)) r ⌝ }
 {
     if t.len() == 0 {
-        return put_single(line, at, letter);
+        return put_single(out, most, at, letter);
     }
-    let next = spelling::put_byte(line, at, letter);
-    let start = put_number(line, next, t.len() as u64, b':');
-    let end = spelling::put_text(line, start, t);
-    spelling::put_byte(line, end, b';')
+    let next = put_byte(out, most, at, letter);
+    put_counted(out, most, next, t)
 }

@@ -1,11 +1,13 @@
 -- What answers each return of the functions that read a whole message. Assumes nothing.
-use mathlib.Core.Path.{_≡_, ap, _∙_}
+use mathlib.Core.Path.{_≡_, sym, ap, _∙_}
+use mathlib.Core.Bool.{Bool, true}
 use mathlib.Core.List.{List}
-use Prim.Native.Nat.{ℕ, _/_, _≤_, _<_, min}
+use Prim.Native.Nat.{ℕ, _+_, _/_, _≤_, _<_, min}
 use native.Mathlib.Omega.{arith}
 use native.Mathlib.Nat.{zero-add}
-use lib.ListN.{length, replicate}
-use borrow.Author.Tests.{le-leb, lt-leb}
+use lib.Dec.{eqb}
+use lib.ListN.{length, getD, replicate}
+use borrow.Author.Tests.{eqb-true, le-leb, lt-leb}
 use Rattle.draft.specs.Table.{roomOf}
 use Rattle.item.specs.declared.Step.{Step}
 use Rattle.item.specs.Contract.{Fitting}
@@ -18,11 +20,14 @@ use Rattle.glyph.specs.declared.Answer.the-variants as answer
 use Rattle.glyph.specs.declared.Want.the-variants.{Any}
 use Rattle.glyph.specs.Refusals.{numberOf}
 use Rattle.glyph.specs.Numbers.{past}
-use Rattle.glyph.specs.Read.{Reading, got, refused, object, rooted, root, message}
+use Rattle.glyph.specs.Read.{Reading, got, refused, opened, text, object, rooted, root, message}
 use Rattle.glyph.specs.Answers.{reading, Answers}
-use Rattle.glyph_bytes.specs.Places.{Skipped}
-use Rattle.glyph_item.proofs.Readings.{Got, Not, did-next, did-not}
+use Rattle.glyph_bytes.specs.Places.{Skipped, Stands}
+use Rattle.glyph_bytes.proofs.Letters.{letter-unicode}
+use Rattle.glyph_item.specs.Contract.{Did}
+use Rattle.glyph_item.proofs.Readings.{Got, Not, done, did-next, did-not}
 use Rattle.glyph_keys.specs.Contract.{Prepared, Done}
+use Rattle.glyph_objects.proofs.Objects.{object-is}
 use Rattle.glyph_reader.specs.Rooted.{RootDid}
 
 -- the root with nothing noted
@@ -36,6 +41,18 @@ root-ready f n z k =
 
 pub root-did : {s : List ℕ} {room : ℕ} {e : Edition} {limit at from : ℕ} {T T′ N N′ : List ℕ} {step : Step} → Skipped s 0 at → Done (object s room e limit Any at 0) s room from 0 T T′ N N′ step → RootDid s room e limit T T′ step
 root-did {from = from} k d = record { from = from; did = rw (k .is) at (d .did) }
+
+-- a text as the root, without notes
+pub text-fits : {s : List ℕ} {room at words : ℕ} → Fitting 0 0 room (length s) words → Skipped s 0 at → Fitting at 0 room (length s) words
+text-fits f k = record { within = k .within; fits = f .fits; rows = f .rows; table = f .table; message = f .message }
+
+pub text-in : {s : List ℕ} {at : ℕ} {test b : Bool} → Stands s at test b → b ≡ true → at < length s
+text-in x e = x .there e
+
+pub text-did : {s : List ℕ} {room : ℕ} (e : Edition) (limit : ℕ) {at : ℕ} {T T′ : List ℕ} {step : Step} {b : Bool} → Skipped s 0 at → Stands s at (eqb (getD s at 0) 117) b → b ≡ true → Did (opened room at 0 (text s true at 0)) (length s) room (at + 1) 0 T T′ step → RootDid s room e limit T T′ step
+text-did {s} {room} e limit {at} k x y d =
+    let i : getD s at 0 ≡ 117 = eqb-true (getD s at 0) 117 (sym (x .is) ∙ y) in
+    record { from = past s 0 + 1; did = rw (k .is) at (done (object-is s room e limit Any at 0 (x .there y) (letter-unicode e (getD s at 0) i)) d) }
 
 pub root-in : {s : List ℕ} {room : ℕ} {e : Edition} {limit : ℕ} {T T′ : List ℕ} {step : Step} → RootDid s room e limit T T′ step → step .number ≡ 0 → step .at ≤ length s
 root-in d z = did-next (d .did) z .within
@@ -100,4 +117,4 @@ zeros words words₁ e k = rw k e
 pub many-enough : (room bytes : ℕ) → room ≤ 4096 → min room bytes ≤ 12288 / 3
 many-enough room bytes h = omega arith
 
-pub ruleset whole = (many-enough, root-ready, root-did, root-in, root-no, root-more, root-got, read-low, read-high, read-long, read-on, zeros)
+pub ruleset whole = (many-enough, text-fits, text-in, text-did, root-ready, root-did, root-in, root-no, root-more, root-got, read-low, read-high, read-long, read-on, zeros)

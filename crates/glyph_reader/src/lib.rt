@@ -35,13 +35,13 @@ fn read_root(
     glyph_objects::read_object(s, at, 0, edition, Want::Any, limit, room, table, notes)
 }
 
-// Notes on keys for up to 64 rows. Laying out the largest takes longer than reading a small message, so a small one gets small ones; the
+// Notes on keys for up to 128 rows. Laying out the largest takes longer than reading a small message, so a small one gets small ones; the
 // length of an array has to be a constant, so there is a function for each.
 fn read_few(s: &[u8], edition: Edition, limit: usize, room: usize, table: &mut [u32]) -> Step
-    requires { ⌜ Fitting 0 0 room (length (now s)) (length (now table)) × (min room (length (now s)) ≤ 64) ⌝ }
+    requires { ⌜ Fitting 0 0 room (length (now s)) (length (now table)) × (min room (length (now s)) ≤ 128) ⌝ }
     ensures { λ r. ⌜ RootDid (now (s .entry)) room edition limit (now (table .entry)) (now (table .exit)) r ⌝ }
 {
-    let mut words = [0u16; 192];
+    let mut words = [0u16; 384];
     let notes: &mut [u16] = &mut words;
     read_root(s, edition, limit, room, table, notes)
 }
@@ -73,18 +73,30 @@ fn fewer(a: usize, b: usize) -> usize
 }
 
 // The root, with notes on keys for as many rows as there can be: no more than there is room for, nor than the message has bytes.
-fn read_first(s: &[u8], edition: Edition, limit: usize, room: usize, table: &mut [u32]) -> Step
+fn read_noted(s: &[u8], edition: Edition, limit: usize, room: usize, table: &mut [u32]) -> Step
     requires { ⌜ Fitting 0 0 room (length (now s)) (length (now table)) ⌝ }
     ensures { λ r. ⌜ RootDid (now (s .entry)) room edition limit (now (table .entry)) (now (table .exit)) r ⌝ }
 {
     let rows = fewer(room, s.len());
-    if rows <= 64 {
+    if rows <= 128 {
         return read_few(s, edition, limit, room, table);
     }
     if rows <= 512 {
         return read_some(s, edition, limit, room, table);
     }
     read_many(s, edition, limit, room, table)
+}
+
+// The root. A text needs no notes on keys: to lay them out takes a tenth of the time of a long one.
+fn read_first(s: &[u8], edition: Edition, limit: usize, room: usize, table: &mut [u32]) -> Step
+    requires { ⌜ Fitting 0 0 room (length (now s)) (length (now table)) ⌝ }
+    ensures { λ r. ⌜ RootDid (now (s .entry)) room edition limit (now (table .entry)) (now (table .exit)) r ⌝ }
+{
+    let at = glyph_bytes::past_blanks(s, 0);
+    if glyph_bytes::text_at(s, at) {
+        return glyph_leaves::read_unicode(s, at, 0, room, table);
+    }
+    read_noted(s, edition, limit, room, table)
 }
 
 // The root and the blanks around it, into a table of zeros.

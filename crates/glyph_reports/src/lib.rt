@@ -1,5 +1,7 @@
 // What reading a glyph message answered, reported to programs in C and Rust: every number that they lend is set, and the result is 0 or the
 // refusal's number.
+pub mod writing; // writing.rt: of writing
+
 use glyph::Answer;
 use glyph_stations::StationAnswer;
 ghost use mathlib.Core.Path.{_≡_};

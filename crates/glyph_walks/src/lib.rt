@@ -203,7 +203,7 @@ fn walk_entries(
     let mut left = n;
     let mut here = first;
     while 0 < left {
-        let at = key_rows::walk_key_if(keyed, table, room, rows, text, good, here, notes, first);
+        let at = key_rows::dict_key_if(keyed, table, room, rows, text, good, here, notes, first);
         if at == 0 {
             return 0;
         }

@@ -15,17 +15,18 @@ use Rattle.glyph.specs.Grammar.{no-blanks, Object, Root}
 use Rattle.glyph_form.specs.Form.{canon, written}
 use Rattle.glyph_order.specs.Same.{Same}
 use Rattle.glyph_order.proofs.Order.{same-canon, same-by-canon, one-form}
-use Rattle.glyph_back.specs.Brief.{Short}
+use Rattle.glyph_back.specs.Brief.{Brief}
 use Rattle.glyph_back.proofs.Back.{read-back}
 use Rattle.glyph_back.proofs.Derived.{brief, distinct}
 use Rattle.glyph_back.proofs.Sizes.{size}
+use Rattle.glyph_told.proofs.Shorter.{no-longer as shorter}
 use Rattle.glyph_demands.specs.Reading.{Allowed, Derived, Accepts, sound, complete, one-meaning}
 
--- t is what some bytes mean in an edition, fewer than 10,000,000,000 of them; a message has 65,536 at most
+-- t is what some bytes mean in an edition, its texts of fewer than 10,000,000,000 bytes each; those of a message or a table have 65,536 at most
 pub record Means (e : Edition) (d : ℕ) (t : Tree) : Type 0 where
   pub bytes : List ℕ
   pub object : Object e d bytes t
-  pub short : Short bytes
+  pub texts : Brief t
 
 -- an object as a whole message
 whole : {e : Edition} {d : ℕ} {xs : List ℕ} {t : Tree} → Object e d xs t → Root e d xs (length xs) t
@@ -34,7 +35,7 @@ whole {xs = xs} o =
 
 -- READ BACK. The written form is a message of the edition, within the same nesting, and used whole.
 pub read-back-whole : {e : Edition} {d : ℕ} {t : Tree} → Means e d t → Root e d (written e t) (length (written e t)) (canon t)
-read-back-whole m = whole (read-back (m .object) (brief (m .object) (m .short)))
+read-back-whole m = whole (read-back (m .object) (m .texts))
 
 -- It means the same.
 pub read-back-same : {e : Edition} {d : ℕ} {t : Tree} → Means e d t → Same t (canon t)
@@ -49,6 +50,16 @@ pub read-back-accepts :
     → Accepts (message e limit (written e t) room) (written e t) (length (written e t)) (cells (canon t))
 read-back-accepts {t = t} room m a h = complete room (read-back-whole m) a (omega (arith, size t))
 
+-- a message's object, the bytes used and the message, by length
+read-within :
+    {e : Edition} {limit : ℕ} {s : List ℕ} {room : ℕ} {rows : List Row} {used : ℕ} (d : Derived e limit s room rows used)
+    → (length (d .root .bytes) ≤ used) × (used ≤ length s)
+read-within d =
+    let r = d .root in
+    let l = length-append (r .before) (r .bytes ++ r .after) in
+    let m = length-append (r .bytes) (r .after) in
+    (omega (arith, r .ends), omega (arith, r .ends, ap length (r .is), l, m))
+
 -- what was read means something
 read-means : {e : Edition} {limit : ℕ} {s : List ℕ} {room : ℕ} {rows : List Row} {used : ℕ} (d : Derived e limit s room rows used) → Means e limit (d .tree)
 read-means d =
@@ -56,22 +67,29 @@ read-means d =
     record {
       bytes = r .bytes;
       object = r .object;
-      short = omega (arith, d .allowed .bytes, ap length (r .is), length-append (r .before) (r .bytes ++ r .after), length-append (r .bytes) (r .after));
+      texts = brief (r .object) (omega (arith, d .allowed .bytes, read-within d .0, read-within d .1));
     }
 
--- WHAT WAS READ, written and read again. Its tree t is that of SOUND; the form of t, if it has at most 65,536 bytes, is accepted under the same
+-- WHAT WAS READ, written and read again. Its tree t is that of SOUND; the form of t is no longer than the bytes used, is accepted under the same
 -- limits, used whole, with rows that mean the canonical tree of t, which means the same.
-pub record Again (e : Edition) (limit room : ℕ) (t : Tree) : Type 0 where
+pub record Again (e : Edition) (limit room used : ℕ) (t : Tree) : Type 0 where
   pub same : Same t (canon t)
-  pub accepts : length (written e t) ≤ 65536 → Accepts (message e limit (written e t) room) (written e t) (length (written e t)) (cells (canon t))
+  pub no-longer : length (written e t) ≤ used
+  pub accepts : Accepts (message e limit (written e t) room) (written e t) (length (written e t)) (cells (canon t))
 
-pub read-written-read : (e : Edition) (limit : ℕ) (s : List ℕ) (room : ℕ) {rows : List Row} {used : ℕ} (i : message e limit s room ≡ got rows used) → Again e limit room (sound e limit s room i .tree)
+pub read-written-read :
+    (e : Edition) (limit : ℕ) (s : List ℕ) (room : ℕ) {rows : List Row} {used : ℕ} (i : message e limit s room ≡ got rows used)
+    → Again e limit room used (sound e limit s room i .tree)
 read-written-read e limit s room i =
     let d = sound e limit s room i in
     let m = read-means d in
+    let l = shorter (d .root .object) in
+    let w = read-within d in
+    let b : length (written e (d .tree)) ≤ 65536 = omega (arith, l, w .0, w .1, d .allowed .bytes) in
     record {
       same = read-back-same m;
-      accepts = λ h. read-back-accepts room m (record { least = d .allowed .least; most = d .allowed .most; bytes = h }) (omega (arith, counts (d .meaning), d .fits));
+      no-longer = omega (arith, l, w .0);
+      accepts = read-back-accepts room m (record { least = d .allowed .least; most = d .allowed .most; bytes = b }) (omega (arith, counts (d .meaning), d .fits));
     }
 
 -- ONE FORM. Within an edition, the form is settled by the meaning, and equal forms come only from equal meaning.

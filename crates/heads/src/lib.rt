@@ -27,7 +27,7 @@ pub fn kind_for(keyed: bool) -> u32
 }
 
 // Whether an Array or a Struct is refused for what it begins with; if not, nothing is read yet.
-fn read_head(s: &[u8], at: usize, row: usize, deep: usize, room: usize) -> Step
+pub fn read_head(s: &[u8], at: usize, row: usize, deep: usize, room: usize) -> Step
     requires { ⌜ at < length (now s) ⌝ }
     ensures { λ r. ⌜ r ≡ headOf (length (now (s .entry))) room deep at row ⌝ }
 {

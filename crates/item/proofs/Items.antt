@@ -25,6 +25,7 @@ use Rattle.draft.specs.declared.Form.{Form}
 use Rattle.draft.specs.declared.Form.the-variants.{Regular, Recorded, Recalled}
 use Rattle.draft.specs.declared.Row.{Row}
 use Rattle.draft.specs.Rows.{row, kindOf}
+use Rattle.draft.proofs.Naming.{number-some}
 use Rattle.draft.specs.Content.{verdict, allThere, contentRule, nameRule}
 use Rattle.draft.specs.Bytes.{part}
 use Rattle.draft.specs.Codebook.{Book, recorded}
@@ -75,6 +76,31 @@ module _ (s : List ℕ) (c : Content) (o at : ℕ) {m n : ℕ} (e : m ≡ n) {by
   -- and that was recorded
   pub contents-recorded : (book : Book) (p : ℕ) (W : List ℕ) → bookOf W ≡ recorded book p o m → Did (contents s room c o n at r (recorded book p o n)) bytes room from r T T′ W step
   contents-recorded book p W f = rw (← e, ← f) (d .did W)
+
+-- content that was refused is refused with any codebook; content that was taken has an offset and a length that a word of the codebook holds
+module _ (s : List ℕ) (c : Content) (o m at : ℕ) {bytes room from r : ℕ} {T T₁ : List ℕ} {step : Step} (d : Stored (contents s room c o m at r) bytes room from r T T₁ step) where
+  pub contents-refused : {n : ℕ} (book : Book) {T′ W′ : List ℕ} → m ≡ n → (step .number ≡ 0 → ⊥) → Did (contents s room c o n at r book) bytes room from r T T′ W′ step
+  unfolding contents
+  contents-refused book e z = rw (← e) (go (verdict c s o m) (d .did []))
+    where
+      go : {T′ W′ : List ℕ} (v : Verdict) → Did (judged v at (leaf (kindOf c) o m r (o + m) (bookOf []))) bytes room from r T T₁ [] step → Did (judged v at (leaf (kindOf c) o m r (o + m) book)) bytes room from r T T′ W′ step
+      go Fine x = absurd (z (ap (λ (y : Step). y .number) (x .says)))
+      go (Bad why) x = did-no why (x .says) refl
+
+  contents-in : step .number ≡ 0 → o + m ≤ bytes
+  unfolding contents
+  contents-in e = go (verdict c s o m) (d .did [])
+    where
+      go : (v : Verdict) → Did (judged v at (leaf (kindOf c) o m r (o + m) (bookOf []))) bytes room from r T T₁ [] step → o + m ≤ bytes
+      go Fine x = x .leaves .within
+      go (Bad why) x = absurd (number-some why (sym (ap (λ (y : Step). y .number) (x .says)) ∙ e))
+
+  module _ (e : step .number ≡ 0) (h : bytes ≤ 65536) where
+    pub word-offset : o ≤ 65536
+    word-offset = omega (arith, contents-in e)
+
+    pub word-length : 0 < o → m < 65536
+    word-length l = omega (arith, contents-in e)
 
 -- an Integer's bits, as they were read
 pub integer-got : {m n to : ℕ} {bytes room from r : ℕ} {T T′ W : List ℕ} {step : Step} → m ≡ n → step ≡ readTo to (r + 1) → T′ ≡ setRow room T r (row 4 m 0 (r + 1)) → from ≤ to → to ≤ bytes → r < room → Did (leaf 4 n 0 r to (bookOf W)) bytes room from r T T′ W step
@@ -230,7 +256,7 @@ ahead-five n = omega arith
 pub one-in : {n m : ℕ} → n < m → n + 1 ≤ m
 one-in h = omega arith
 
-pub ruleset leaves = (held, opened-full, opened-cut, opened-on, leaf-got, integer-got, contents-bad, contents-fine, contents-read, contents-recorded, recalled-unset, recalled-got, end-fits, offset-fits, length-fits, ahead-one, ahead-two, ahead-five, one-in)
+pub ruleset leaves = (held, opened-full, opened-cut, opened-on, leaf-got, integer-got, contents-bad, contents-fine, contents-read, contents-recorded, contents-refused, word-offset, word-length, recalled-unset, recalled-got, end-fits, offset-fits, length-fits, ahead-one, ahead-two, ahead-five, one-in)
 
 pub ruleset strings = (string-short, string-regular, string-recorded, string-recalled, string-no, only-short, only-no, only-on, only-held)
 

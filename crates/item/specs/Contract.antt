@@ -26,7 +26,7 @@ pub record Fitting (at row room bytes words : ℕ) : Type 0 where
 -- and the codebook its words
 pub record Ready (at row room bytes words marks : ℕ) : Type 0 where
   pub fitting : Fitting at row room bytes words
-  pub book : marks ≡ 512
+  pub book : marks ≡ 256
 
 -- a refusal, and that all was read up to a place and a row
 abbrev pub refusedAt : Refusal → ℕ → Step

@@ -23,7 +23,8 @@ use Rattle.draft.specs.Writable.{fit, ruled, closed, leaf, Walk, sized, content
 use Rattle.extents.specs.Asked.{Ready}
 use Rattle.extents.specs.Ends.{extentOf}
 use Rattle.extents.proofs.Walking.{none-found, some-found, only-there}
-use Rattle.keys.specs.Notes.{named, keysOf, Noted, Rows, Entry, Added, Noting, Joins}
+use Rattle.keys.specs.Notes.{headOf, named, keysOf, joined, Noted, Rows, Entry, Placed, Added, Noting, Joins}
+use Rattle.keys.proofs.Chaining.{note-alone}
 use Rattle.key_rows.specs.Contract.{Entries, Prepared, Joined, KeyDone, KeyIf}
 
 -- an end that was found
@@ -108,6 +109,10 @@ module _ (s : List ℕ) {room rows : ℕ} (T : List ℕ) {good r : ℕ} {N : Lis
               joined = record { joins = λ next f. rw (sym (until-one (sym (some-found i) ∙ f)) ∙ e) (joins (c .added q)) };
             }
 
+    -- where its bucket has no keys of the owner
+    pub key-alone : {owner : ℕ} {N′ : List ℕ} {q : ℕ} {b : Bool} → 0 < owner → owner ≤ r → Placed (named s room T) (length N) owner r q → b ≡ ltb owner (headOf N q) → b ≡ false → N′ ≡ joined N owner r q → KeyDone s room rows T owner r N N′ n
+    key-alone k l z f g j = key-new (note-alone (p .noted) (key-entry k l) z f g j) refl
+
 -- where there are keys, and where there are none
 module _ {s : List ℕ} {room rows : ℕ} {T : List ℕ} {keyed : Bool} {owner r : ℕ} {N : List ℕ} where
   pub keyed-some : {N′ : List ℕ} {n : ℕ} → keyed ≡ true → KeyDone s room rows T owner r N N′ n → KeyIf s room rows T keyed owner r N N′ n
@@ -125,4 +130,4 @@ module _ {s : List ℕ} {room rows : ℕ} {T : List ℕ} {keyed : Bool} {owner r
 pub key-owner : {keyed : Bool} {owner : ℕ} → (keyed ≡ true → 0 < owner) → keyed ≡ true → 0 < owner
 key-owner h e = h e
 
-pub ruleset keying = (key-owner, key-no, key-rows, key-entry, key-again, key-new, keyed-some, keyed-none)
+pub ruleset keying = (key-owner, key-no, key-rows, key-entry, key-again, key-new, key-alone, keyed-some, keyed-none)

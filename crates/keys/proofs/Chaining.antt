@@ -7,8 +7,8 @@ use native.Mathlib.Omega.{arith}
 use native.Mathlib.Numerals.{add-one}
 use lib.ListN.{length, getD, set, length-set}
 use lib.Seq.{getD-set-same, getD-set-other}
-use lib.Dec.{eqb}
-use borrow.Author.Tests.{eqb-true, eqb-false, eq-eqb, ne-eqb}
+use lib.Dec.{eqb, ltb}
+use borrow.Author.Tests.{eqb-true, eqb-false, eq-eqb, ne-eqb, ltb-false}
 use Rattle.text.specs.Texts.{same, among}
 use Rattle.text.proofs.Comparing.{clash, both, same-is, same-self, same-ne}
 use Rattle.draft.specs.declared.Row.{Row}
@@ -16,7 +16,7 @@ use Rattle.draft.specs.Bytes.{part}
 use Rattle.draft.specs.Strings.{Text}
 use Rattle.draft.specs.Table.{rowAt}
 use Rattle.spread.specs.Buckets.{wholeBucketOf}
-use Rattle.keys.specs.Notes.{headOf, linkOf, ownerOf, named, keepIf, keysOf, On, here, next, Noted, Rows, Entry, Added, Noting, Ahead}
+use Rattle.keys.specs.Notes.{headOf, linkOf, ownerOf, named, keepIf, keysOf, joined, On, here, next, Noted, Rows, Entry, Placed, Added, Noting, Ahead}
 
 pub text-is : (s : List ℕ) (room : ℕ) (T : List ℕ) (r : ℕ) {x : Row} {a n : ℕ} {t : Text} → x ≡ rowAt room T r → a ≡ x .a → n ≡ x .b → t ≡ part s a n → t ≡ named s room T r
 unfolding named
@@ -126,28 +126,39 @@ keys-move t t′ W W′ o (suc n) p q = rw (p n (omega arith)) (go (eqb (ownerOf
     go true e i = rw (q n (omega arith) (eqb-true (ownerOf W n) o e), i)
     go false e i = i
 
-module _ {t : ℕ → Text} {W : List ℕ} {owner row : ℕ} (a : Noted t W row) {u : Text} {h m : ℕ} (eu : u ≡ t row) (bu : h ≡ wholeBucketOf (m / 3) owner u) (em : m ≡ length W) (en : Entry owner row (length W)) where
-  eh : h ≡ wholeBucketOf (length W / 3) owner u
-  eh = bu ∙ rw em
+-- a row's key in its bucket
+pub placed-is : (t : ℕ → Text) {words owner row h m : ℕ} {u : Text} → u ≡ t row → h ≡ wholeBucketOf (m / 3) owner u → h < m / 3 → m ≡ words → Placed t words owner row h
+placed-is t eu eh lh em = record { bucket = eh ∙ rw (em, eu); inside = rw em at lh }
 
+pub joined-is : (W : List ℕ) (owner row h : ℕ) {x : ℕ} → x ≡ headOf W h → set (set (set W (row * 3 + 1) x) (row * 3 + 2) owner) (h * 3) (row + 1) ≡ joined W owner row h
+unfolding joined
+joined-is W owner row h e = rw e
+
+pub crowded-is : (W : List ℕ) (owner h : ℕ) {x : ℕ} → x ≡ headOf W h → ltb owner x ≡ ltb owner (headOf W h)
+crowded-is W owner h e = rw e
+
+module _ {t : ℕ → Text} {W : List ℕ} {owner row : ℕ} (a : Noted t W row) (en : Entry owner row (length W)) {h : ℕ} (pl : Placed t (length W) owner row h) where
   -- a chain before its walk
-  pub note-ahead : {c : ℕ} → c ≡ headOf W h → Ahead t W owner row c u
-  note-ahead e =
-      rw (e, eh)
+  ahead : Ahead t W owner row (headOf W h) (t row)
+  ahead =
+      rw (pl .bucket)
       (record {
-        within = a .heads (wholeBucketOf (length W / 3) owner u);
+        within = a .heads (wholeBucketOf (length W / 3) owner (t row));
         links = a .links;
         owners = a .owners;
         on = λ k l o r. rw (o, r) at (a .on k (omega (arith, o, en .some)));
       })
 
-  pub note-again : {b : Bool} → b ≡ among (keysOf t W owner row) u → b ≡ true → Noting t W W owner row true
-  note-again q e = record { says = sym (rw eu at (sym q ∙ e)); added = λ f. clash refl f }
+  pub note-ahead : {c : ℕ} {u : Text} → c ≡ headOf W h → u ≡ t row → Ahead t W owner row c u
+  note-ahead e eu = rw (e, eu) ahead
+
+  pub note-again : {b : Bool} {u : Text} → u ≡ t row → b ≡ among (keysOf t W owner row) u → b ≡ true → Noting t W W owner row true
+  note-again eu q e = record { says = sym (rw eu at (sym q ∙ e)); added = λ f. clash refl f }
 
   -- a new key, put in front on its bucket's chain
-  module _ (lm : h < m / 3) {b : Bool} (q : b ≡ among (keysOf t W owner row) u) (new : b ≡ false) where
+  module _ (new : false ≡ among (keysOf t W owner row) (t row)) where
     lh : h < length W / 3
-    lh = rw em at lm
+    lh = pl .inside
 
     abbrev W₁ : List ℕ
     W₁ = set W (row * 3 + 1) (headOf W h)
@@ -215,7 +226,7 @@ module _ {t : ℕ → Text} {W : List ℕ} {owner row : ℕ} (a : Noted t W row)
     on-more : (k : ℕ) → 0 < ownerOf W′ k → On W′ (headOf W′ (wholeBucketOf (length W / 3) (ownerOf W′ k) (t k))) k
     on-more k =
         at-or-not (λ (k : ℕ). 0 < ownerOf W′ k → On W′ (headOf W′ (wholeBucketOf (length W / 3) (ownerOf W′ k) (t k))) k) k row
-        (λ l. rw (own, ← eu, ← eh, head) here)
+        (λ l. rw (own, ← pl .bucket, head) here)
         (λ d. rw (owner-other k d) (λ l. on-old (wholeBucketOf (length W / 3) (ownerOf W k) (t k)) k (a .on k l)))
 
     same-words : length W′ ≡ length W
@@ -235,11 +246,22 @@ module _ {t : ℕ → Text} {W : List ℕ} {owner row : ℕ} (a : Noted t W row)
     unfolding keysOf
     others o d = rw (own, ne-eqb owner o (λ e. d (sym e)), keys-same o)
 
-    pub note-new : Noting t W (set (set (set W (row * 3 + 1) (headOf W h)) (row * 3 + 2) owner) (h * 3) (row + 1)) owner row false
-    note-new =
+    fresh : Noting t W (set (set (set W (row * 3 + 1) (headOf W h)) (row * 3 + 2) owner) (h * 3) (row + 1)) owner row false
+    fresh =
         record {
-          says = rw eu at (sym new ∙ q);
+          says = new;
           added = λ f. rw (add-one row) (record { noted = rw (add-one row) noted-more; owners = owner-below; mine = rw (add-one row) mine; others = λ o d. rw (add-one row) (others o d) });
         }
 
-pub ruleset noting = (text-is, key-other, key-own, walk-below, walk-less, walk-here, walk-again, walk-none, rows-below, note-ahead, note-again, note-new)
+    new-noting : {W″ : List ℕ} → W″ ≡ joined W owner row h → Noting t W W″ owner row false
+    unfolding joined
+    new-noting e = rw e fresh
+
+  pub note-new : {b : Bool} {u : Text} {W′ : List ℕ} → u ≡ t row → b ≡ among (keysOf t W owner row) u → b ≡ false → W′ ≡ joined W owner row h → Noting t W W′ owner row false
+  note-new eu q e f = new-noting (rw eu at (sym e ∙ q)) f
+
+  -- where its bucket has no keys of the owner
+  pub note-alone : {b : Bool} {W′ : List ℕ} → b ≡ ltb owner (headOf W h) → b ≡ false → W′ ≡ joined W owner row h → Noting t W W′ owner row false
+  note-alone q e f = new-noting (walk-none ahead (ltb-false owner (headOf W h) (sym q ∙ e))) f
+
+pub ruleset noting = (text-is, key-other, key-own, walk-below, walk-less, walk-here, walk-again, walk-none, rows-below, placed-is, joined-is, crowded-is, note-ahead, note-again, note-new)

@@ -5,7 +5,7 @@ use Prim.Native.Nat.{ℕ, zero, suc, _+_, _*_, _/_, _≤_, _<_}
 use mathlib.Core.Path.{_≡_}
 use mathlib.Core.Bool.{Bool, true, false}
 use mathlib.Core.List.{List, [], _∷_}
-use lib.ListN.{length, getD}
+use lib.ListN.{length, getD, set}
 use lib.Dec.{eqb}
 use Rattle.text.specs.Texts.{among}
 use Rattle.draft.specs.Strings.{Text}
@@ -59,6 +59,15 @@ pub record Entry (owner row words : ℕ) : Type 0 where
   pub before : owner ≤ row
   pub inside : row < words / 3
   pub most : words ≤ 12288
+
+-- h is the bucket of a row's key
+pub record Placed (t : ℕ → Text) (words owner row h : ℕ) : Type 0 where
+  pub bucket : h ≡ wholeBucketOf (words / 3) owner (t row)
+  pub inside : h < words / 3
+
+-- the words once a row is put in front on a bucket's chain
+unfoldable pub joined : List ℕ → ℕ → ℕ → ℕ → List ℕ
+joined W owner row h = set (set (set W (row * 3 + 1) (headOf W h)) (row * 3 + 2) owner) (h * 3) (row + 1)
 
 -- the key of a row is noted for its owner: the owner's keys are one more, and those of others what they were
 pub record Added (t : ℕ → Text) (W W′ : List ℕ) (owner row : ℕ) : Type 0 where

@@ -5,9 +5,9 @@ ghost use mathlib.Core.Path.{_≡_};
 ghost use mathlib.Core.Bool.{_&&_};
 ghost use Prim.Native.Nat.{_+_, _*_, _≤_, _<_, _/_};
 ghost use lib.ListN.{length};
-ghost use lib.Dec.{eqb};
+ghost use lib.Dec.{eqb, ltb};
 ghost use Rattle.text.specs.Texts.{same, among};
-ghost use Rattle.keys.specs.Notes.{ownerOf, named, keysOf, Noted, Rows, Entry, Noting, Ahead};
+ghost use Rattle.keys.specs.Notes.{headOf, ownerOf, named, keysOf, joined, Noted, Rows, Entry, Placed, Noting, Ahead};
 
 // A word as a number: the caller has no fit of the element to show.
 fn wide(x: u32) -> usize
@@ -75,7 +75,55 @@ fn find(
     false
 }
 
-// Whether the key of a row is among its owner's; if not, it is noted.
+// The bucket of the key of a row.
+pub fn place(s: &[u8], table: &[u32], room: usize, notes: &[u16], owner: usize, row: usize) -> usize
+    requires { ⌜ Rows row room (length (now table)) × Entry owner row (length (now notes)) ⌝ }
+    ensures { λ h. ⌜ Placed (named (now (s .entry)) room (now (table .entry))) (length (now (notes .entry))) owner row h ⌝ }
+{
+    spread::bucket_whole(text_of(s, table, room, row), owner, notes.len() / 3)
+}
+
+// Whether a bucket may have keys of the owner: they have no row before its first.
+pub fn crowded(notes: &[u16], owner: usize, h: usize) -> bool
+    requires { ⌜ h < length (now notes) / 3 ⌝ }
+    ensures { λ r. ⌜ r ≡ ltb owner (headOf (now (notes .entry)) h) ⌝ }
+{
+    owner < word(notes[h * 3])
+}
+
+// A new key is put on its bucket's chain.
+pub fn join(notes: &mut [u16], owner: usize, row: usize, h: usize)
+    requires { ⌜ Entry owner row (length (now notes)) × (h < length (now notes) / 3) ⌝ }
+    ensures { λ _. ⌜ now (notes .exit) ≡ joined (now (notes .entry)) owner row h ⌝ }
+{
+    notes[row * 3 + 1] = notes[h * 3];
+    notes[row * 3 + 2] = owner as u16;
+    notes[h * 3] = (row + 1) as u16;
+}
+
+// Whether the key of a row is among its owner's, all in its bucket; if not, it is noted.
+pub fn note_in(
+    s: &[u8],
+    table: &[u32],
+    room: usize,
+    notes: &mut [u16],
+    owner: usize,
+    row: usize,
+    h: usize,
+) -> bool
+    requires { ⌜ Rows row room (length (now table)) × Entry owner row (length (now notes)) × Noted (named (now s) room (now table)) (now notes) row × Placed (named (now s) room (now table)) (length (now notes)) owner row h ⌝ }
+    ensures { λ again. ⌜ Noting (named (now (s .entry)) room (now (table .entry))) (now (notes .entry)) (now (notes .exit)) owner row again ⌝ }
+{
+    let newest = word(notes[h * 3]);
+    let key = text_of(s, table, room, row);
+    if find(s, table, room, notes, owner, row, newest, key) {
+        return true;
+    }
+    join(notes, owner, row, h);
+    false
+}
+
+// The same where its bucket isn't known. Where keys are many, ask first whether it is crowded.
 pub fn note(
     s: &[u8],
     table: &[u32],
@@ -87,14 +135,6 @@ pub fn note(
     requires { ⌜ Rows row room (length (now table)) × Entry owner row (length (now notes)) × Noted (named (now s) room (now table)) (now notes) row ⌝ }
     ensures { λ again. ⌜ Noting (named (now (s .entry)) room (now (table .entry))) (now (notes .entry)) (now (notes .exit)) owner row again ⌝ }
 {
-    let key = text_of(s, table, room, row);
-    let h = spread::bucket_whole(key, owner, notes.len() / 3);
-    let newest = notes[h * 3];
-    if find(s, table, room, notes, owner, row, word(newest), key) {
-        return true;
-    }
-    notes[row * 3 + 1] = newest;
-    notes[row * 3 + 2] = owner as u16;
-    notes[h * 3] = (row + 1) as u16;
-    false
+    let h = place(s, table, room, notes, owner, row);
+    note_in(s, table, room, notes, owner, row, h)
 }

@@ -25,8 +25,8 @@ use Rattle.item.specs.declared.Step.{Step}
 use Rattle.item.specs.Contract.{refusedAt, readTo, judgedAt, Ready, Did}
 use Rattle.item.proofs.Readings.{Got, did-next}
 use Rattle.item.proofs.Items.{name-refused, name-judged, the-row, string-row, string-recalled}
-use Rattle.keys.specs.Notes.{ownerOf, named, keysOf, Noted, Entry, Added, Noting, Joins}
-use Rattle.keys.proofs.Chaining.{keys-move}
+use Rattle.keys.specs.Notes.{headOf, ownerOf, named, keysOf, joined, Noted, Rows, Entry, Placed, Added, Noting, Joins}
+use Rattle.keys.proofs.Chaining.{keys-move, note-alone}
 use Rattle.keys.proofs.Keeping.{noted-move, noted-blank, key-below}
 use Rattle.member_keys.specs.Contract.{Entries, Prepared, Joined, Done, KeyDone, KeyIf}
 
@@ -80,6 +80,9 @@ module _ (s : List ℕ) (at : ℕ) {room r : ℕ} {T T₁ W W₁ N : List ℕ} {
   pub key-noted : Noted (named s room T₁) N r
   key-noted = noted-move (p .noted) old r (omega arith)
 
+  pub key-rows : length T₁ ≡ length T → Rows r room (length T₁)
+  key-rows l = let f = p .ready .fitting in record { inside = string-row s at (bookOf W) d e; most = f .rows; table = rw l (f .table) }
+
   pub key-entry : {owner : ℕ} → 0 < owner → owner ≤ r → Entry owner r (length N)
   key-entry h k =
       let g = did-next d e in
@@ -125,6 +128,10 @@ module _ (s : List ℕ) (at : ℕ) {room r : ℕ} {T T₁ W W₁ N : List ℕ} {
               did = judged false q refl;
               joined = record { joins = λ _. rw next-row (joins (c .added q)); behind = λ _. omega (arith, next-row, did-next d e .ahead, p .entries .behind) };
             }
+
+    -- where its bucket has no keys of the owner
+    pub key-alone : {N′ : List ℕ} {q : ℕ} {b : Bool} → owner ≤ r → Placed (named s room T₁) (length N) owner r q → b ≡ ltb owner (headOf N q) → b ≡ false → N′ ≡ joined N owner r q → KeyDone s room owner at r T T₁ W W₁ N N′ step
+    key-alone k z f g j = key-new (note-alone key-noted (key-entry h k) z f g j) refl
 
 -- a key where there are keys, or nothing
 pub key-owner : {keyed : Bool} {owner : ℕ} → (keyed ≡ true → 0 < owner) → keyed ≡ true → 0 < owner

@@ -1,5 +1,5 @@
 // Reading a Struct's key: a String, noted with those of its Struct before it. See specs/Contract.antt for what becomes of the notes.
-// Assumes that the place is in the message, the rows fit the table, the codebook has its 512 words and the notes an entry for each row.
+// Assumes that the place is in the message, the rows fit the table, the codebook has its 256 words and the notes an entry for each row.
 use draft::Refusal;
 use item::Step;
 ghost use mathlib.Core.Path.{_≡_};
@@ -58,9 +58,14 @@ fn read_key(
     if step.number != 0 {
         return step;
     }
-    if keys::note(s, table, room, notes, owner, row) {
-        return item::refuse(Refusal::RepeatedKey, at);
+    let h = keys::place(s, table, room, notes, owner, row);
+    if keys::crowded(notes, owner, h) {
+        if keys::note_in(s, table, room, notes, owner, row, h) {
+            return item::refuse(Refusal::RepeatedKey, at);
+        }
+        return step;
     }
+    keys::join(notes, owner, row, h);
     step
 }
 

@@ -1,10 +1,10 @@
 -- What answers the returns and turns of the functions that measure and put a row's item, and all items. Assumes nothing.
-use Prim.Native.Nat.{ℕ, zero, suc, _+_, _-_, _*_, _≤_, _<_}
+use Prim.Native.Nat.{ℕ, suc, _+_, _-_, _*_, _≤_, _<_}
 use mathlib.Core.Path.{_≡_, refl, sym, ap, _∙_}
 use mathlib.Core.Bool.{Bool, true, false, cond}
 use mathlib.Core.List.{List, [], _∷_, _++_, append-assoc, append-nil}
 use native.Mathlib.Omega.{arith}
-use native.Mathlib.Nat.{zero-add, sub-zero}
+use native.Mathlib.Nat.{sub-zero}
 use native.Mathlib.Numerals.{add-one}
 use mir.Syntax.{w64}
 use mir.Val.{Fits}
@@ -12,17 +12,12 @@ use lib.ListN.{length, getD, take, drop, length-append, length-take, length-drop
 use lib.Seq.{length-take-le, drop-drop}
 use lib.Dec.{ltb, leb}
 use borrow.Author.Tests.{eq-eqb, ne-eqb, eqb-true, eqb-false, leb-true, leb-false}
-use Rattle.draft.specs.declared.Item.{Item}
-use Rattle.draft.specs.declared.Item.the-variants as item
-use Rattle.draft.specs.declared.Content.the-variants as content
 use Rattle.draft.specs.declared.Row.{Row}
-use Rattle.draft.specs.Rows.{itemOf}
-use Rattle.draft.specs.Bytes.{part}
 use Rattle.draft.specs.Read.{prefix, textOf}
 use Rattle.draft.specs.Table.{from}
 use Rattle.draft.specs.Grammar.{Sent, regular, recorded, recalled}
-use Rattle.draft.specs.Strings.{Text, isString, textsOf, kept, choose, sentOf, sents, plan, cost}
-use Rattle.draft.specs.Written.{counted, lsb, stringBytes, bytesOf, itemBytes, itemsOf, messageOf, written}
+use Rattle.draft.specs.Strings.{Text, isString, textsOf, kept, choose, sentOf, sents, cost}
+use Rattle.draft.specs.Written.{stringBytes, itemBytes, itemsOf, messageOf, written}
 use Rattle.extents.specs.Asked.{Ready}
 use Rattle.buckets.specs.Numbered.{textAt, Through, before}
 use Rattle.positions.specs.Contract.{told, Ready as Told}
@@ -30,36 +25,17 @@ use Rattle.buckets.proofs.Numbered.{from-step, from-none}
 use Rattle.buckets.proofs.Comparing.{text-short, through}
 use Rattle.positions.proofs.Choosing.{told-is}
 use Rattle.output.specs.Contract.{Front, Put, Tried}
-use Rattle.output.proofs.Putting.{front-on, front-long, front-drop, front-take, lsb-four, counted-length}
+use Rattle.output.proofs.Putting.{front-on, front-long, front-drop, front-take}
+use Rattle.encoding.specs.declared.Run.{Run}
+use Rattle.encoding.specs.Contract.{Between, Ran}
+use Rattle.encoding.proofs.Running.{item-most, items-other}
 use Rattle.sending.specs.Contract.{Collected, Takes}
 use Rattle.message.specs.Contract.{planned, Known, rowBytes, nextString, Asked, Long, Fitted}
 use Rattle.message.specs.Filled.{Most}
 use Rattle.sending.proofs.Collecting.{texts-string, texts-other, strings-there}
 use Rattle.sending.proofs.Sending.{string-cost}
 
--- the most that an item takes
-part-most : (s : List ℕ) (o n : ℕ) → length (part s o n) ≤ length s
-part-most s o n = simp (length-take, length-drop) (omega arith)
-
-bytes-most : (s : List ℕ) (i : Item) (x : Row) → length (bytesOf s i x) ≤ 5 + length s
-bytes-most s item.Call x = omega arith
-bytes-most s item.Response x = omega arith
-bytes-most s item.Fault x = omega arith
-bytes-most s item.Integer x = omega (arith, lsb-four (x .a))
-bytes-most s item.Boolean x = omega arith
-bytes-most s (item.Content content.Double) x = omega (arith, part-most s (x .a) (x .b))
-bytes-most s (item.Content content.DateTime) x = omega (arith, part-most s (x .a) (x .b))
-bytes-most s (item.Content content.Binary) x = omega (arith, part-most s (x .a) (x .b), counted-length (textOf s x))
-bytes-most s (item.Content content.Text) x = omega arith
-bytes-most s item.Array x = omega (arith, lsb-four (x .b))
-bytes-most s item.Struct x = omega (arith, lsb-four (x .b))
-bytes-most s item.Other x = omega arith
-bytes-most s item.Unknown x = omega arith
-
-pub item-most : (s : List ℕ) (x : Row) → length (itemBytes s x) ≤ 5 + length s
-unfolding itemBytes
-item-most s x = bytes-most s (itemOf (x .kind)) x
-
+-- the most that a string takes
 cost-most : (x y : Bool) (p : ℕ) (t : Text) → cost (choose x (choose y (recalled p t) (recorded p t)) (regular t)) ≤ 6 + length t
 unfolding cost
 cost-most true true p t = omega arith
@@ -118,8 +94,12 @@ module _ {row : ℕ → Row} {rows : ℕ} {s W : List ℕ} {n r j : ℕ} (i : St
     next-other = record { left = sym (texts-other row rows r h e s k) ∙ i .left; within = h; strings = i .strings }
 
     rest-other : rest row rows s W n r j ≡ itemBytes s x ++ rest row rows s W n (suc r) j
-    unfolding itemsOf
-    rest-other = rw (from-step row r rows h, ← e, ne-eqb _ _ k)
+    rest-other = items-other row rows h e s k _
+
+-- behind a run of rows that are no strings
+module _ {row : ℕ → Row} {rows : ℕ} {s W : List ℕ} {n r j end : ℕ} {xs : List ℕ} (i : Stands row rows s W n r j) (b : Between row rows s r end xs) where
+  pub next-run : Stands row rows s W n end j
+  next-run = record { left = sym (b .texts) ∙ i .left; within = b .within; strings = i .strings }
 
 rest-first : {row : ℕ → Row} {rows : ℕ} (s : List ℕ) {W : List ℕ} {n : ℕ} → Collected row rows W n → planned s (from row 0 rows) ≡ rest row rows s W n 0 0
 unfolding planned before
@@ -194,21 +174,6 @@ module _ (row : ℕ → Row) (s W fs sp : List ℕ) (j : ℕ) (x : Row) where
     pub item-long : {n : ℕ} → (x .kind ≡ 11 → ⊥) → n ≡ length (itemBytes s x) → Long (rowBytes row s W fs sp j x) n
     item-long f e = record { is = e ∙ rw (item-bytes f); few = omega (arith, item-most s x, a .short) }
 
-    -- the most that it takes
-    row-most : length (rowBytes row s W fs sp j x) ≤ 65542
-    unfolding rowBytes
-    row-most = go (isString x)
-      where
-        go : (b : Bool) → length (cond b (stringBytes (told fs sp j (textAt row W s j))) (itemBytes s x)) ≤ 65542
-        go true = omega (arith, string-most row W s fs sp j, a .short)
-        go false = omega (arith, item-most s x, a .short)
-
-  pub string-tried : {m n : ℕ} {o o′ : List ℕ} → x .kind ≡ 11 → Tried (stringBytes (told fs sp j (textAt row W s j))) m o o′ n → Tried (rowBytes row s W fs sp j x) m o o′ n
-  string-tried f p = rw (string-bytes f) p
-
-  pub item-tried : {m n : ℕ} {o o′ : List ℕ} → (x .kind ≡ 11 → ⊥) → Tried (itemBytes s x) m o o′ n → Tried (rowBytes row s W fs sp j x) m o o′ n
-  item-tried f p = rw (item-bytes f) p
-
 pub next-yes : (j : ℕ) (x : Row) → x .kind ≡ 11 → j + 1 ≡ nextString j x
 unfolding nextString
 next-yes j x f = add-one j ∙ rw (eq-eqb (x .kind) 11 f)
@@ -217,7 +182,7 @@ pub next-no : (j : ℕ) (x : Row) → (x .kind ≡ 11 → ⊥) → j ≡ nextStr
 unfolding nextString
 next-no j x f = rw (ne-eqb (x .kind) 11 f)
 
-pub ruleset rowwise = (asked-told, asked-words, string-long, item-long, string-tried, item-tried, next-yes, next-no)
+pub ruleset rowwise = (asked-told, asked-words, string-long, item-long, next-yes, next-no)
 
 -- where the measuring stands
 pub record Measuring (row : ℕ → Row) (rows : ℕ) (s W fs sp : List ℕ) (r j sum : ℕ) : Type 0 where
@@ -312,51 +277,84 @@ module _ {row : ℕ → Row} {rows : ℕ} {s W fs sp : List ℕ} {most : ℕ} {o
       let q : take 12 o ++ planned s (from row 0 rows) ≡ i .done = i .split ∙ rw (rest-none row rows s W (i .known .count) r j h) (append-nil (i .done)) in
       record { put = λ k. record { front = rw q (i .front); long = i .place ∙ ap length (sym q) }; over = λ k. absurd (omega (arith, i .within)) }
 
-  module _ {x : Row} (e : x ≡ row r) (h : r < rows) where
-    module _ {room words : ℕ} (y : Ready rows room words) where
-      pub write-asked : Asked room words s W fs sp j x
-      write-asked = asked-there (i .known) (i .stands) h e y
+  pub write-short : length s ≤ 65536
+  write-short = i .known .short
 
-      pub write-few : j ≤ 4096
-      write-few = few-strings (i .known) (i .stands) h e y
+  pub write-few : most - at ≤ 65536
+  write-few = omega (arith, i .room .few)
 
-    module _ {m : ℕ} {ys : List ℕ} (p : Tried (rowBytes row s W fs sp j x) (most - at) (take (length out - at) (drop at out)) ys m) where
-      pub write-fits : {room words : ℕ} → Ready rows room words → Fits w64 (at + m)
-      write-fits y = omega (arith, p .long, row-most row s W fs sp j x (asked-there (i .known) (i .stands) h e y), i .within, i .room .few)
+  -- bytes xs put behind what is there, with `more` to come
+  module _ (xs more : List ℕ) (q : rest row rows s W (i .known .count) r j ≡ xs ++ more) {m : ℕ} {ys : List ℕ} (p : Tried xs (most - at) (take (length out - at) (drop at out)) ys m) where
+    split-here : take 12 o ++ planned s (from row 0 rows) ≡ i .done ++ (xs ++ more)
+    split-here = i .split ∙ ap (λ (w : List ℕ). i .done ++ w) q
 
-      split : take 12 o ++ planned s (from row 0 rows) ≡ i .done ++ (rowBytes row s W fs sp j x ++ rest row rows s W (i .known .count) (suc r) (nextString j x))
-      split = i .split ∙ ap (λ (w : List ℕ). i .done ++ w) (rest-row (i .known) (i .stands) h e)
+    over-here : {out′ : List ℕ} → most - at < m → Fitted (take 12 o ++ planned s (from row 0 rows)) most o out′ (at + m)
+    over-here l =
+        record {
+          put = λ k. absurd (omega (arith, i .within));
+          over = λ k. omega (arith, i .within, i .place, p .long, ap length split-here ∙ length-append (i .done) _, length-append xs more);
+        }
 
-      pub write-over : {out′ : List ℕ} → most - at < m → Fitted (take 12 o ++ planned s (from row 0 rows)) most o out′ (at + m)
-      write-over l =
+    module _ (l : m ≤ most - at) where
+      front-here : Front (i .done ++ xs) o (take at out ++ (ys ++ drop (length out - at) (drop at out)))
+      front-here = front-on (i .front) at (sym (i .place)) (omega (arith, i .within, i .room .within)) (p .front l)
+
+      place-here : at + m ≡ length (i .done ++ xs)
+      place-here = sym (length-append (i .done) xs ∙ omega (arith, i .place, p .long))
+
+      put-here : {r′ j′ : ℕ} → Stands row rows s W (i .known .count) r′ j′ → more ≡ rest row rows s W (i .known .count) r′ j′ → Writing row rows s W fs sp most o r′ j′ (at + m) (take at out ++ (ys ++ drop (length out - at) (drop at out)))
+      put-here g z =
           record {
-            put = λ k. absurd (omega (arith, i .within));
-            over = λ k. omega (arith, i .within, i .place, p .long, ap length split ∙ length-append (i .done) _, length-append (rowBytes row s W fs sp j x) (rest row rows s W (i .known .count) (suc r) (nextString j x)));
+            known = i .known;
+            stands = g;
+            done = i .done ++ xs;
+            split = split-here ∙ ap (λ (w : List ℕ). i .done ++ (xs ++ w)) z ∙ sym (append-assoc (i .done) xs _);
+            front = front-here;
+            place = place-here;
+            within = omega (arith, i .within);
+            long = front-long front-here (at + m) (sym place-here) (omega (arith, i .within, i .room .within));
+            room = i .room;
           }
 
-      module _ (l : m ≤ most - at) where
-        front-here : Front (i .done ++ rowBytes row s W fs sp j x) o (take at out ++ (ys ++ drop (length out - at) (drop at out)))
-        front-here = front-on (i .front) at (sym (i .place)) (omega (arith, i .within, i .room .within)) (p .front l)
+  module _ {x : Row} (e : x ≡ row r) (h : r < rows) where
+    module _ (f : x .kind ≡ 11) where
+      pub write-told : Told fs sp j
+      write-told = told-there (i .known) (i .stands) h e f
 
-        place-here : at + m ≡ length (i .done ++ rowBytes row s W fs sp j x)
-        place-here = sym (length-append (i .done) (rowBytes row s W fs sp j x) ∙ omega (arith, i .place, p .long))
+      module _ {room words : ℕ} (y : Ready rows room words) where
+        pub write-through : Through room words j W
+        write-through = through (strings-there y (i .known .strings)) (string-there (i .stands) h e f)
 
-        pub write-again : {k : ℕ} → k ≡ nextString j x → Writing row rows s W fs sp most o (r + 1) k (at + m) (take at out ++ (ys ++ drop (length out - at) (drop at out)))
-        write-again q =
-            rw (add-one r, q)
-            (record {
-              known = i .known;
-              stands = stands-row (i .known) (i .stands) h e;
-              done = i .done ++ rowBytes row s W fs sp j x;
-              split = split ∙ sym (append-assoc (i .done) (rowBytes row s W fs sp j x) _);
-              front = front-here;
-              place = place-here;
-              within = omega (arith, i .within);
-              long = front-long front-here (at + m) (sym place-here) (omega (arith, i .within, i .room .within));
-              room = i .room;
-            })
+        pub write-count : Fits w64 (j + 1)
+        write-count = omega (arith, few-strings (i .known) (i .stands) h e y)
 
-pub ruleset writing = (write-first, write-left, write-part, write-room, write-done, write-asked, write-few, write-fits, write-over, write-again, row-room)
+      module _ {m : ℕ} {ys : List ℕ} (p : Tried (stringBytes (told fs sp j (textAt row W s j))) (most - at) (take (length out - at) (drop at out)) ys m) where
+        pub write-fits : Fits w64 (at + m)
+        write-fits = omega (arith, p .long, string-most row W s fs sp j, i .known .short, i .within, i .room .few)
+
+        pub write-over : {out′ : List ℕ} → most - at < m → Fitted (take 12 o ++ planned s (from row 0 rows)) most o out′ (at + m)
+        write-over = over-here _ _ (rest-told (i .known) (i .stands) h e f) p
+
+        pub write-string : m ≤ most - at → Writing row rows s W fs sp most o (r + 1) (j + 1) (at + m) (take at out ++ (ys ++ drop (length out - at) (drop at out)))
+        write-string l = rw (add-one r, add-one j) (put-here _ _ (rest-told (i .known) (i .stands) h e f) p l (next-string (i .stands) h e f) refl)
+
+    pub write-other : (x .kind ≡ 11 → ⊥) → row r .kind ≡ 11 → ⊥
+    write-other f k = f (rw e k)
+
+  module _ {ys : List ℕ} {run : Run} (p : Ran row rows s r (most - at) (take (length out - at) (drop at out)) ys run) where
+    pub run-fits : Fits w64 (at + run .bytes)
+    run-fits = omega (arith, p .few, i .within, i .room .few)
+
+    pub run-less : r < rows → rows - run .end < rows - r
+    run-less h = omega (arith, p .further)
+
+    pub run-over : {out′ : List ℕ} → most - at < run .bytes → Fitted (take 12 o ++ planned s (from row 0 rows)) most o out′ (at + run .bytes)
+    run-over = over-here _ _ (p .between .items _) (p .tried)
+
+    pub run-again : run .bytes ≤ most - at → Writing row rows s W fs sp most o (run .end) j (at + run .bytes) (take at out ++ (ys ++ drop (length out - at) (drop at out)))
+    run-again l = put-here _ _ (p .between .items _) (p .tried) l (next-run (i .stands) (p .between)) refl
+
+pub ruleset writing = (write-first, write-left, write-part, write-room, write-done, write-short, write-few, write-told, write-through, write-count, write-fits, write-over, write-string, write-other, run-fits, run-less, run-over, run-again, row-room)
 
 -- the first bytes, and the items behind them
 pub message-start : {most n : ℕ} → Most n most → 12 ≤ most → 12 ≤ n

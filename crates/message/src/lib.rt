@@ -8,7 +8,6 @@ ghost use lib.ListN.{length, take};
 ghost use Rattle.draft.specs.Table.{rowAt, from};
 ghost use Rattle.draft.specs.Written.{written};
 ghost use Rattle.extents.specs.Asked.{Ready};
-ghost use Rattle.output.specs.Contract.{Tried};
 ghost use Rattle.message.specs.Contract.{planned, Known, rowBytes, nextString, Asked, Long, Fitted};
 ghost use Rattle.message.specs.Filled.{neededFor, Most, Filled};
 
@@ -46,28 +45,6 @@ fn row_length(
     encoding::item_length(text, row)
 }
 
-// That item to the front of the output, if it has at most so many bytes; and how many it has.
-fn put_row(
-    table: &[u32],
-    room: usize,
-    text: &[u8],
-    strings: &[u16],
-    firsts: &[u16],
-    spots: &[u16],
-    j: usize,
-    row: Row,
-    most: usize,
-    output: &mut [u8],
-) -> usize
-    requires { ⌜ Asked room (length (now table)) (now text) (now strings) (now firsts) (now spots) j row × (most ≤ length (now output)) ⌝ }
-    ensures { λ n. ⌜ Tried (rowBytes (rowAt room (now (table .entry))) (now (text .entry)) (now (strings .entry)) (now (firsts .entry)) (now (spots .entry)) j row) most (now (output .entry)) (now (output .exit)) n ⌝ }
-{
-    if row.kind == 11 {
-        return sending::put_string(output, most, table, room, text, strings, firsts, spots, j);
-    }
-    encoding::put_item(output, most, text, row)
-}
-
 // How many bytes the message has.
 fn measure(
     table: &[u32],
@@ -93,8 +70,8 @@ fn measure(
     sum
 }
 
-// The items, each behind what is there, from the first 12 bytes on, if all has at most so many bytes. Stops at an item that goes over, and
-// tells where it would end.
+// The items, each behind what is there, from the first 12 bytes on, if all has at most so many bytes: strings one by one, and the rows between
+// them in runs. Stops at an item that goes over, and tells where it would end.
 fn put_items(
     table: &[u32],
     room: usize,
@@ -115,24 +92,32 @@ fn put_items(
     while sent < rows {
         let row = table::get_row(table, room, sent);
         let left = most - at;
-        let n = put_row(
-            table,
-            room,
-            text,
-            strings,
-            firsts,
-            spots,
-            j,
-            row,
-            left,
-            &mut output[at..],
-        );
-        if left < n {
-            return at + n;
+        if row.kind == 11 {
+            let n = sending::put_string(
+                &mut output[at..],
+                left,
+                table,
+                room,
+                text,
+                strings,
+                firsts,
+                spots,
+                j,
+            );
+            if left < n {
+                return at + n;
+            }
+            at += n;
+            j += 1;
+            sent += 1;
+        } else {
+            let run = encoding::put_run(table, room, sent, rows, text, left, &mut output[at..]);
+            if left < run.bytes {
+                return at + run.bytes;
+            }
+            at += run.bytes;
+            sent = run.end;
         }
-        at += n;
-        j = next_string(j, row);
-        sent += 1;
     }
     at
 }

@@ -9,22 +9,17 @@ use lib.Seq.{drop-cons}
 use borrow.Author.Tests.{lt-ltb, le-ltb}
 use Rattle.order.specs.declared.Relation.the-variants.{Before, Equal, After}
 use Rattle.order.specs.ByteOrder.{compared}
+use Rattle.order.specs.Alike.{Alike}
 
--- the first i bytes are equal
-pub record Comparing (a b : List ℕ) (i : ℕ) : Type 0 where
-  pub in-first : i ≤ length a
-  pub in-second : i ≤ length b
-  pub rest : compared (drop i a) (drop i b) ≡ compared a b
-
-pub compare-first : (a b : List ℕ) → Comparing a b 0
+pub compare-first : (a b : List ℕ) → Alike a b 0
 compare-first a b = record { in-first = omega arith; in-second = omega arith; rest = refl }
 
-module _ {a b : List ℕ} {i : ℕ} (c : Comparing a b i) where
+module _ {a b : List ℕ} {i : ℕ} (c : Alike a b i) where
   module _ (h : i < length a) (k : i < length b) where
     here : compared (getD a i 0 ∷ drop (suc i) a) (getD b i 0 ∷ drop (suc i) b) ≡ compared a b
     here = rw (drop-cons a i 0 h, drop-cons b i 0 k) at (c .rest)
 
-    pub compare-again : getD b i 0 ≤ getD a i 0 → getD a i 0 ≤ getD b i 0 → Comparing a b (i + 1)
+    pub compare-again : getD b i 0 ≤ getD a i 0 → getD a i 0 ≤ getD b i 0 → Alike a b (i + 1)
     unfolding compared
     compare-again l m = record { in-first = omega arith; in-second = omega arith; rest = rw add-one (simp (le-ltb _ _ l, le-ltb _ _ m) at here) }
 

@@ -1,3 +1,4 @@
 -- The laws of `order`.
 pub mod Comparing
+pub mod Eights
 pub mod Ordering

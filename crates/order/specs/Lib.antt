@@ -1,1 +1,2 @@
 pub mod ByteOrder
+pub mod Alike

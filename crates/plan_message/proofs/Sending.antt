@@ -1,11 +1,11 @@
 -- What answers each return of the function that puts a string as a plan sends it. Assumes nothing.
-use Prim.Native.Nat.{ℕ, zero, suc, _+_, _≤_}
-use mathlib.Core.Path.{_≡_, refl, sym, ap, _∙_}
+use Prim.Native.Nat.{ℕ, zero, suc, _≤_}
+use mathlib.Core.Path.{_≡_, refl, _∙_}
 use mathlib.Core.List.{List, [], _∷_}
 use native.Mathlib.Omega.{arith}
 use lib.ListN.{length}
 use Rattle.draft.specs.declared.Row.{Row}
-use Rattle.draft.specs.Grammar.{Sent, regular, recorded, recalled}
+use Rattle.draft.specs.Grammar.{regular, recorded, recalled}
 use Rattle.draft.specs.Strings.{Text}
 use Rattle.draft.specs.Written.{counted, stringBytes}
 use Rattle.buckets.specs.Numbered.{textAt}
@@ -13,7 +13,7 @@ use Rattle.output.specs.Contract.{Put, Tried}
 use Rattle.plans.specs.Plans.{formAt, positionAt, sentBy, sentAt}
 
 -- what was tried with room for it is put
-pub tried-put : {xs o o′ : List ℕ} {n : ℕ} → length xs ≤ length o → Tried xs (length o) o o′ n → Put xs o o′ n
+tried-put : {xs o o′ : List ℕ} {n : ℕ} → length xs ≤ length o → Tried xs (length o) o o′ n → Put xs o o′ n
 tried-put h t = record { front = t .front (omega (arith, t .long)); long = t .long }
 
 module _ (row : ℕ → Row) (W s plan : List ℕ) (j : ℕ) {t : Text} {form : ℕ} (g : t ≡ textAt row W s j) (f : form ≡ formAt plan j) where
@@ -49,4 +49,4 @@ module _ (row : ℕ → Row) (W s plan : List ℕ) (j : ℕ) {t : Text} {form : 
     unfolding stringBytes
     recalled-put a b q = tried-put k (rw (recalled-is a b) q)
 
-pub ruleset sending = (regular-put, recorded-put, recalled-put, tried-put)
+pub ruleset sending = (regular-put, recorded-put, recalled-put)

@@ -1,18 +1,18 @@
 -- What answers the returns and turns of the functions that measure and put the message that a plan sends. Assumes nothing.
 use Prim.Native.Nat.{ℕ, suc, _+_, _-_, _*_, _≤_, _<_}
 use mathlib.Core.Path.{_≡_, refl, sym, ap, _∙_}
-use mathlib.Core.List.{List, [], _∷_, _++_, append-assoc, append-nil}
+use mathlib.Core.List.{List, [], _++_, append-assoc, append-nil}
 use native.Mathlib.Omega.{arith}
 use native.Mathlib.Nat.{sub-zero}
 use native.Mathlib.Numerals.{add-one}
 use mir.Syntax.{w64}
 use mir.Val.{Fits}
 use lib.ListN.{length, take, drop, length-append, length-take, length-drop}
-use borrow.Author.Tests.{eq-eqb, ne-eqb}
+use borrow.Author.Tests.{eq-eqb}
 use Rattle.draft.specs.declared.Row.{Row}
 use Rattle.draft.specs.Read.{prefix}
 use Rattle.draft.specs.Table.{from}
-use Rattle.draft.specs.Strings.{Text, textsOf, cost}
+use Rattle.draft.specs.Strings.{Text}
 use Rattle.draft.specs.Written.{stringBytes, itemBytes, itemsOf, messageOf}
 use Rattle.extents.specs.Asked.{Ready}
 use Rattle.buckets.specs.Numbered.{textAt, Through}
@@ -23,7 +23,10 @@ use Rattle.output.proofs.Putting.{front-on, front-long}
 use Rattle.sending.specs.Contract.{Collected}
 use Rattle.sending.proofs.Collecting.{strings-there}
 use Rattle.sending.proofs.Sending.{string-cost}
-use Rattle.message.proofs.Writing.{item-most, Stands, stands-first, string-there, next-string, next-other, row-room}
+use Rattle.encoding.specs.declared.Run.{Run}
+use Rattle.encoding.specs.Contract.{Ran}
+use Rattle.encoding.proofs.Running.{item-most, items-other}
+use Rattle.message.proofs.Writing.{Stands, stands-first, string-there, next-string, next-other, next-run}
 use Rattle.plans.specs.Plans.{sentAt, sentsFrom, planned}
 use Rattle.plans.specs.Contract.{Takes}
 use Rattle.plan_message.specs.Contract.{plannedItems, Known}
@@ -42,8 +45,7 @@ module _ {row : ℕ → Row} {rows : ℕ} {s W : List ℕ} (plan : List ℕ) {n 
   rest-string k = rw (from-step row r rows h, ← e, eq-eqb _ _ k, from-step (textAt row W s) j n (string-there i h e k))
 
   rest-other : (x .kind ≡ 11 → ⊥) → rest row rows s W plan n r j ≡ itemBytes s x ++ rest row rows s W plan n (suc r) j
-  unfolding itemsOf
-  rest-other k = rw (from-step row r rows h, ← e, ne-eqb _ _ k)
+  rest-other k = items-other row rows h e s k _
 
 rest-first : {row : ℕ → Row} {rows : ℕ} (s plan : List ℕ) {W : List ℕ} {n : ℕ} → Collected row rows W n → plannedItems s (from row 0 rows) plan ≡ rest row rows s W plan n 0 0
 unfolding plannedItems
@@ -99,9 +101,6 @@ module _ {row : ℕ → Row} {rows : ℕ} {s W plan : List ℕ} {r j sum : ℕ} 
       pub measure-through : {room words : ℕ} → Ready rows room words → Through room words j W
       measure-through y = through-there (i .known) (i .stands) h e k y
 
-      pub measure-count : {room words : ℕ} → Ready rows room words → Fits w64 (j + 1)
-      measure-count y = omega (arith, string-there (i .stands) h e k, i .known .strings .few, y .stated, y .most)
-
       pub measure-string : {m : ℕ} → Takes plan j (textAt row W s j) m → Measuring row rows s W plan (r + 1) (j + 1) (sum + m)
       measure-string {m} l =
           rw (add-one r, add-one j)
@@ -131,8 +130,8 @@ module _ {row : ℕ → Row} {rows : ℕ} {s W plan : List ℕ} {r j sum : ℕ} 
     pub measure-item-fits : {m : ℕ} (x : Row) → m ≡ length (itemBytes s x) → Fits w64 (sum + m)
     measure-item-fits x l = omega (arith, item-most s x, i .known .short, i .small, y .stated, y .most)
 
--- where the writing stands
-pub record Writing (row : ℕ → Row) (rows : ℕ) (s W plan o : List ℕ) (r j at : ℕ) (out : List ℕ) : Type 0 where
+-- where the writing stands; `most` bytes are room enough
+pub record Writing (row : ℕ → Row) (rows : ℕ) (s W plan : List ℕ) (most : ℕ) (o : List ℕ) (r j at : ℕ) (out : List ℕ) : Type 0 where
   pub known : Known row rows s W plan
   pub stands : Stands row rows s W (known .count) r j
   pub done : List ℕ
@@ -140,11 +139,12 @@ pub record Writing (row : ℕ → Row) (rows : ℕ) (s W plan o : List ℕ) (r j
   pub front : Front done o out
   pub place : at ≡ length done
   pub long : length out ≡ length o
-  pub room : length (plannedItems s (from row 0 rows) plan) ≤ length o
-  pub fits : Fits w64 (length o)
+  pub room : length (plannedItems s (from row 0 rows) plan) ≤ most
+  pub within : most ≤ length o
+  pub few : most ≤ 65536
 
-pub write-first : {row : ℕ → Row} {rows : ℕ} {s W plan o : List ℕ} → Known row rows s W plan → length (plannedItems s (from row 0 rows) plan) ≤ length o → Fits w64 (length o) → Writing row rows s W plan o 0 0 0 o
-write-first {s = s} {plan = plan} k h f =
+pub write-first : {row : ℕ → Row} {rows : ℕ} {s W plan : List ℕ} {most : ℕ} {o : List ℕ} → Known row rows s W plan → length (plannedItems s (from row 0 rows) plan) ≤ most → most ≤ length o → most ≤ 65536 → Writing row rows s W plan most o 0 0 0 o
+write-first {s = s} {plan = plan} k h l m =
     record {
       known = k;
       stands = stands-first s (k .strings);
@@ -154,15 +154,19 @@ write-first {s = s} {plan = plan} k h f =
       place = refl;
       long = refl;
       room = h;
-      fits = f;
+      within = l;
+      few = m;
     }
 
-module _ {row : ℕ → Row} {rows : ℕ} {s W plan o : List ℕ} {r j at : ℕ} {out : List ℕ} (i : Writing row rows s W plan o r j at out) where
+module _ {row : ℕ → Row} {rows : ℕ} {s W plan : List ℕ} {most : ℕ} {o : List ℕ} {r j at : ℕ} {out : List ℕ} (i : Writing row rows s W plan most o r j at out) where
   left-long : length (plannedItems s (from row 0 rows) plan) ≡ at + length (rest row rows s W plan (i .known .count) r j)
   left-long = ap length (i .split) ∙ length-append (i .done) _ ∙ omega (arith, i .place)
 
+  pub write-left : at ≤ most
+  write-left = omega (arith, left-long, i .room)
+
   pub write-start : at ≤ length out
-  write-start = omega (arith, left-long, i .long, i .room)
+  write-start = omega (arith, write-left, i .long, i .within)
 
   pub write-short : length s ≤ 65536
   write-short = i .known .short
@@ -174,23 +178,23 @@ module _ {row : ℕ → Row} {rows : ℕ} {s W plan o : List ℕ} {r j at : ℕ}
 
   -- an item xs put behind what is there
   module _ (xs more : List ℕ) (e : rest row rows s W plan (i .known .count) r j ≡ xs ++ more) where
-    fits-here : at + length xs ≤ length o
+    fits-here : at + length xs ≤ most
     fits-here = omega (arith, left-long, i .room, ap length e ∙ length-append xs more)
 
     room-here : length xs ≤ length (take (length out - at) (drop at out))
-    room-here = simp (length-take, length-drop) (omega (arith, fits-here, i .long))
+    room-here = simp (length-take, length-drop) (omega (arith, fits-here, i .long, i .within))
 
     module _ {ys : List ℕ} {m : ℕ} (p : Put xs (take (length out - at) (drop at out)) ys m) where
       front-here : Front (i .done ++ xs) o (take at out ++ (ys ++ drop (length out - at) (drop at out)))
-      front-here = front-on (i .front) at (sym (i .place)) (omega (arith, fits-here)) (p .front)
+      front-here = front-on (i .front) at (sym (i .place)) (omega (arith, fits-here, i .within)) (p .front)
 
       place-here : at + m ≡ length (i .done ++ xs)
       place-here = sym (length-append (i .done) xs ∙ omega (arith, i .place, p .long))
 
       count-here : Fits w64 (at + m)
-      count-here = omega (arith, i .fits, fits-here, p .long)
+      count-here = omega (arith, i .few, fits-here, p .long)
 
-      put-here : {r′ j′ : ℕ} → Stands row rows s W (i .known .count) r′ j′ → more ≡ rest row rows s W plan (i .known .count) r′ j′ → Writing row rows s W plan o r′ j′ (at + m) (take at out ++ (ys ++ drop (length out - at) (drop at out)))
+      put-here : {r′ j′ : ℕ} → Stands row rows s W (i .known .count) r′ j′ → more ≡ rest row rows s W plan (i .known .count) r′ j′ → Writing row rows s W plan most o r′ j′ (at + m) (take at out ++ (ys ++ drop (length out - at) (drop at out)))
       put-here g q =
           record {
             known = i .known;
@@ -199,9 +203,10 @@ module _ {row : ℕ → Row} {rows : ℕ} {s W plan o : List ℕ} {r j at : ℕ}
             split = i .split ∙ ap (λ (w : List ℕ). i .done ++ w) (e ∙ ap (λ (w : List ℕ). xs ++ w) q) ∙ sym (append-assoc (i .done) xs _);
             front = front-here;
             place = place-here;
-            long = front-long front-here (at + m) (sym place-here) (omega (arith, fits-here, p .long));
+            long = front-long front-here (at + m) (sym place-here) (omega (arith, fits-here, p .long, i .within));
             room = i .room;
-            fits = i .fits;
+            within = i .within;
+            few = i .few;
           }
 
   module _ {x : Row} (e : x ≡ row r) (h : r < rows) where
@@ -212,9 +217,6 @@ module _ {row : ℕ → Row} {rows : ℕ} {s W plan o : List ℕ} {r j at : ℕ}
       pub write-through : {room words : ℕ} → Ready rows room words → Through room words j W
       write-through y = through-there (i .known) (i .stands) h e k y
 
-      pub write-count : {room words : ℕ} → Ready rows room words → Fits w64 (j + 1)
-      write-count y = omega (arith, string-there (i .stands) h e k, i .known .strings .few, y .stated, y .most)
-
       pub write-room : length (stringBytes (sentAt plan j (textAt row W s j))) ≤ length (take (length out - at) (drop at out))
       write-room = room-here (bytesAt row s W plan j) _ (rest-string plan (i .stands) h e k)
 
@@ -222,39 +224,60 @@ module _ {row : ℕ → Row} {rows : ℕ} {s W plan o : List ℕ} {r j at : ℕ}
         pub write-fits : Fits w64 (at + m)
         write-fits = count-here (bytesAt row s W plan j) _ (rest-string plan (i .stands) h e k) p
 
-        pub write-string : Writing row rows s W plan o (r + 1) (j + 1) (at + m) (take at out ++ (ys ++ drop (length out - at) (drop at out)))
+        pub write-string : Writing row rows s W plan most o (r + 1) (j + 1) (at + m) (take at out ++ (ys ++ drop (length out - at) (drop at out)))
         write-string = rw (add-one r, add-one j) (put-here (bytesAt row s W plan j) _ (rest-string plan (i .stands) h e k) p (next-string (i .stands) h e k) refl)
 
-    module _ (k : x .kind ≡ 11 → ⊥) where
-      pub write-item-room : length (itemBytes s x) ≤ length (take (length out - at) (drop at out))
-      write-item-room = room-here (itemBytes s x) _ (rest-other plan (i .stands) h e k)
+    pub write-other : (x .kind ≡ 11 → ⊥) → row r .kind ≡ 11 → ⊥
+    write-other f k = f (rw e k)
 
-      module _ {m : ℕ} {ys : List ℕ} (p : Put (itemBytes s x) (take (length out - at) (drop at out)) ys m) where
-        pub write-item-fits : Fits w64 (at + m)
-        write-item-fits = count-here (itemBytes s x) _ (rest-other plan (i .stands) h e k) p
+  pub run-room : most - at ≤ length (take (length out - at) (drop at out))
+  run-room = simp (length-take, length-drop) (omega (arith, i .long, i .within))
 
-        pub write-item : Writing row rows s W plan o (r + 1) j (at + m) (take at out ++ (ys ++ drop (length out - at) (drop at out)))
-        write-item = rw add-one (put-here (itemBytes s x) _ (rest-other plan (i .stands) h e k) p (next-other (i .stands) h e k) refl)
+  pub run-few : most - at ≤ 65536
+  run-few = omega (arith, i .few)
+
+  module _ {ys : List ℕ} {run : Run} (p : Ran row rows s r (most - at) (take (length out - at) (drop at out)) ys run) where
+    run-put : Put (p .bytes) (take (length out - at) (drop at out)) ys (run .bytes)
+    run-put =
+        record {
+          front = p .tried .front (omega (arith, fits-here (p .bytes) _ (p .between .items _), p .tried .long));
+          long = p .tried .long;
+        }
+
+    pub run-fits : Fits w64 (at + run .bytes)
+    run-fits = count-here (p .bytes) _ (p .between .items _) run-put
+
+    pub run-less : r < rows → rows - run .end < rows - r
+    run-less h = omega (arith, p .further)
+
+    pub run-again : Writing row rows s W plan most o (run .end) j (at + run .bytes) (take at out ++ (ys ++ drop (length out - at) (drop at out)))
+    run-again = put-here (p .bytes) _ (p .between .items _) run-put (next-run (i .stands) (p .between)) refl
 
 -- the first bytes, and the items behind them
-module _ (s : List ℕ) (xs : List Row) (plan : List ℕ) where
-  pub message-start : (l : ℕ) → length (planned s xs plan) ≤ l → 12 ≤ l
-  message-start l h = omega (arith, planned-long s xs plan)
+module _ (s : List ℕ) (xs : List Row) (plan : List ℕ) {n : ℕ} (z : n ≡ length (planned s xs plan)) where
+  pub message-least : 12 ≤ n
+  message-least = omega (arith, planned-long s xs plan)
 
-  module _ {o o₁ : List ℕ} (f : Front prefix o o₁) (h : length (planned s xs plan) ≤ length o) where
+  pub message-items : length (plannedItems s xs plan) ≤ n - 12
+  message-items = omega (arith, planned-long s xs plan)
+
+  pub message-start : {l : ℕ} → n ≤ l → 12 ≤ l
+  message-start h = omega (arith, message-least)
+
+  module _ {o o₁ : List ℕ} (f : Front prefix o o₁) (h : n ≤ length o) where
     pub message-on : 12 ≤ length o₁
-    message-on = omega (arith, front-long f 12 refl (message-start (length o) h), message-start (length o) h)
+    message-on = omega (arith, front-long f 12 refl (message-start h), message-start h)
 
-    pub message-room : length (plannedItems s xs plan) ≤ length (take (length o₁ - 12) (drop 12 o₁))
-    message-room = simp (length-take, length-drop) (omega (arith, planned-long s xs plan, front-long f 12 refl (message-start (length o) h)))
+    pub message-room : n - 12 ≤ length (take (length o₁ - 12) (drop 12 o₁))
+    message-room = simp (length-take, length-drop) (omega (arith, front-long f 12 refl (message-start h)))
 
-    module _ {ys : List ℕ} {n : ℕ} (p : Put (plannedItems s xs plan) (take (length o₁ - 12) (drop 12 o₁)) ys n) where
-      pub message-fits : length o < 18446744073709551616 → Fits w64 (12 + n)
+    module _ {ys : List ℕ} {m : ℕ} (p : Put (plannedItems s xs plan) (take (length o₁ - 12) (drop 12 o₁)) ys m) where
+      pub message-fits : n ≤ 65536 → Fits w64 (12 + m)
       message-fits l = omega (arith, planned-long s xs plan, p .long)
 
-      pub message-put : Put (planned s xs plan) o (take 12 o₁ ++ (ys ++ drop (length o₁ - 12) (drop 12 o₁))) (12 + n)
+      pub message-put : Put (planned s xs plan) o (take 12 o₁ ++ (ys ++ drop (length o₁ - 12) (drop 12 o₁))) (12 + m)
       message-put =
           record {
-            front = rw (planned-is s xs plan) (front-on f 12 refl (message-start (length o) h) (p .front));
+            front = rw (planned-is s xs plan) (front-on f 12 refl (message-start h) (p .front));
             long = omega (arith, planned-long s xs plan, p .long);
           }

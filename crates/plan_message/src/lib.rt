@@ -1,11 +1,10 @@
 // The message of rows whose strings a plan sends: how many bytes it has, its bytes into a lent output, and an output filled with it and
 // with zeros behind it. Strings are numbered in row order; of string j a lent word has the row, and the plan two bytes.
-use draft::Row;
 ghost use mathlib.Core.Path.{_≡_};
 ghost use Prim.Native.Nat.{_+_, _*_, _≤_, _<_};
 ghost use lib.ListN.{length};
 ghost use Rattle.draft.specs.Table.{rowAt, from};
-ghost use Rattle.draft.specs.Written.{stringBytes, itemBytes};
+ghost use Rattle.draft.specs.Written.{stringBytes};
 ghost use Rattle.extents.specs.Asked.{Ready};
 ghost use Rattle.buckets.specs.Numbered.{textAt, Through};
 ghost use Rattle.plans.specs.Plans.{sentAt, planned};
@@ -68,16 +67,8 @@ fn put_string(
     output::try_two(out, most, b'<', p)
 }
 
-// The item of a row that is no string's, likewise.
-fn put_item(out: &mut [u8], text: &[u8], row: Row) -> usize
-    requires { ⌜ (length (now text) ≤ 65536) × (length (itemBytes (now text) row) ≤ length (now out)) ⌝ }
-    ensures { λ n. ⌜ Put (itemBytes (now (text .entry)) row) (now (out .entry)) (now (out .exit)) n ⌝ }
-{
-    let most = out.len();
-    encoding::put_item(out, most, text, row)
-}
-
-// The items: each goes into the part of the output after the items already there.
+// The items, which have at most so many bytes: each goes into the part of the output after the items already there, strings one by one, and the
+// rows between them in runs.
 fn put_items(
     table: &[u32],
     room: usize,
@@ -85,9 +76,10 @@ fn put_items(
     text: &[u8],
     strings: &[u16],
     plan: &[u8],
+    most: usize,
     output: &mut [u8],
 ) -> usize
-    requires { ⌜ Ready rows room (length (now table)) × Known (rowAt room (now table)) rows (now text) (now strings) (now plan) × (length (plannedItems (now text) (from (rowAt room (now table)) 0 rows) (now plan)) ≤ length (now output)) ⌝ }
+    requires { ⌜ Ready rows room (length (now table)) × Known (rowAt room (now table)) rows (now text) (now strings) (now plan) × (length (plannedItems (now text) (from (rowAt room (now table)) 0 rows) (now plan)) ≤ most) × (most ≤ length (now output)) × (most ≤ 65536) ⌝ }
     ensures { λ n. ⌜ Put (plannedItems (now (text .entry)) (from (rowAt room (now (table .entry))) 0 rows) (now (plan .entry))) (now (output .entry)) (now (output .exit)) n ⌝ }
 {
     let mut at = 0;
@@ -100,14 +92,16 @@ fn put_items(
             j += 1;
             sent += 1;
         } else {
-            at += put_item(&mut output[at..], text, row);
-            sent += 1;
+            let left = most - at;
+            let run = encoding::put_run(table, room, sent, rows, text, left, &mut output[at..]);
+            at += run.bytes;
+            sent = run.end;
         }
     }
     at
 }
 
-// The message: the first 12 bytes, and the items behind them.
+// The message, which has n bytes: the first 12 bytes, and the items behind them.
 fn put_message(
     table: &[u32],
     room: usize,
@@ -115,13 +109,24 @@ fn put_message(
     text: &[u8],
     strings: &[u16],
     plan: &[u8],
+    n: usize,
     output: &mut [u8],
 ) -> usize
-    requires { ⌜ Ready rows room (length (now table)) × Known (rowAt room (now table)) rows (now text) (now strings) (now plan) × (length (planned (now text) (from (rowAt room (now table)) 0 rows) (now plan)) ≤ length (now output)) ⌝ }
-    ensures { λ n. ⌜ Put (planned (now (text .entry)) (from (rowAt room (now (table .entry))) 0 rows) (now (plan .entry))) (now (output .entry)) (now (output .exit)) n ⌝ }
+    requires { ⌜ Ready rows room (length (now table)) × Known (rowAt room (now table)) rows (now text) (now strings) (now plan) × (n ≡ length (planned (now text) (from (rowAt room (now table)) 0 rows) (now plan))) × (n ≤ length (now output)) × (n ≤ 65536) ⌝ }
+    ensures { λ m. ⌜ Put (planned (now (text .entry)) (from (rowAt room (now (table .entry))) 0 rows) (now (plan .entry))) (now (output .entry)) (now (output .exit)) m ⌝ }
 {
     output::put_bytes(output, b"binmode-rpc:");
-    12 + put_items(table, room, rows, text, strings, plan, &mut output[12..])
+    12
+        + put_items(
+            table,
+            room,
+            rows,
+            text,
+            strings,
+            plan,
+            n - 12,
+            &mut output[12..],
+        )
 }
 
 // The plan's message, which has n bytes, where it is short enough and there is room for it, and zeros behind it; else zeros.
@@ -146,7 +151,7 @@ pub fn fill(
         output::clear(output);
         return n;
     }
-    let at = put_message(table, room, rows, text, strings, plan, output);
+    let at = put_message(table, room, rows, text, strings, plan, n, output);
     output::clear(&mut output[at..]);
     n
 }

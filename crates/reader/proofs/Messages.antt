@@ -47,9 +47,9 @@ module _ (s : List ℕ) (deep at : ℕ) (book : Book) {bytes room from r : ℕ} 
 pub ruleset messages = (first-short, first-call, first-response, first-neither)
 
 -- what follows the first bytes, read into zeros with an empty codebook
-module _ (s : List ℕ) (deep words : ℕ) {room from : ℕ} {T T₁ W W₁ : List ℕ} {step : Step} (f : room ≡ roomOf 4096 words) (w : W ≡ replicate 512 0) (d : Did (callOrResponse s room deep 12 0 (bookOf W)) (length s) room from 0 T T₁ W₁ step) where
+module _ (s : List ℕ) (deep words : ℕ) {room from : ℕ} {T T₁ W W₁ : List ℕ} {step : Step} (f : room ≡ roomOf 4096 words) (w : W ≡ replicate 256 0) (d : Did (callOrResponse s room deep 12 0 (bookOf W)) (length s) room from 0 T T₁ W₁ step) where
   began : callOrResponse s (roomOf 4096 words) deep 12 0 clear ≡ callOrResponse s room deep 12 0 (bookOf W)
-  began = simp (f, w, clear-holds 512)
+  began = simp (f, w, clear-holds 256)
 
   pub body-no : (words₁ : ℕ) {T′ : List ℕ} {m : Refusal} → (step .number ≡ 0 → ⊥) → m ≡ refusalOf (step .number) → T′ ≡ replicate words₁ 0 → words₁ ≡ words → Answers (callOrResponse s (roomOf 4096 words) deep 12 0 clear) words T′ (answer.Refused m (step .at))
   body-no words₁ {T′} {m} n i t k = go (did-not d n)

@@ -66,8 +66,18 @@ fn agrees(s: &[u8]) -> bool
     true
 }
 
-// Notes on keys for up to 64 rows. Laying out the largest takes longer than reading a small message, so a small one gets small ones; the
+// Notes on keys for up to 16 rows. Laying out the largest takes longer than reading a small message, so a small one gets small ones; the
 // length of an array has to be a constant, so there is a function for each.
+fn read_least(s: &[u8], deep: usize, room: usize, table: &mut [u32], book: &mut [u32]) -> Step
+    requires { ⌜ Ready 12 0 room (length (now s)) (length (now table)) (length (now book)) × (min room (length (now s)) ≤ 16) ⌝ }
+    ensures { λ r. ⌜ Did (callOrResponse (now (s .entry)) room deep 12 0 (bookOf (now (book .entry)))) (length (now (s .entry))) room 13 0 (now (table .entry)) (now (table .exit)) (now (book .exit)) r ⌝ }
+{
+    let mut words = [0u16; 48];
+    let notes: &mut [u16] = &mut words;
+    read_call_or_response(s, 12, 0, deep, room, table, book, notes)
+}
+
+// For up to 64 rows.
 fn read_few(s: &[u8], deep: usize, room: usize, table: &mut [u32], book: &mut [u32]) -> Step
     requires { ⌜ Ready 12 0 room (length (now s)) (length (now table)) (length (now book)) × (min room (length (now s)) ≤ 64) ⌝ }
     ensures { λ r. ⌜ Did (callOrResponse (now (s .entry)) room deep 12 0 (bookOf (now (book .entry)))) (length (now (s .entry))) room 13 0 (now (table .entry)) (now (table .exit)) (now (book .exit)) r ⌝ }
@@ -109,6 +119,9 @@ fn read_first(s: &[u8], deep: usize, room: usize, table: &mut [u32], book: &mut 
     ensures { λ r. ⌜ Did (callOrResponse (now (s .entry)) room deep 12 0 (bookOf (now (book .entry)))) (length (now (s .entry))) room 13 0 (now (table .entry)) (now (table .exit)) (now (book .exit)) r ⌝ }
 {
     let rows = fewer(room, s.len());
+    if rows <= 16 {
+        return read_least(s, deep, room, table, book);
+    }
     if rows <= 64 {
         return read_few(s, deep, room, table, book);
     }
@@ -124,7 +137,7 @@ fn read_body(s: &[u8], deep: usize, table: &mut [u32]) -> Answer
     ensures { λ r. ⌜ Answers (callOrResponse (now (s .entry)) (roomOf 4096 (length (now (table .entry)))) deep 12 0 clear) (length (now (table .entry))) (now (table .exit)) r ⌝ }
 {
     let room = table::room_of(table.len());
-    let mut words = [0u32; 512];
+    let mut words = [0u32; 256];
     let book: &mut [u32] = &mut words;
     let step = read_first(s, deep, room, table, book);
     if step.number != 0 {

@@ -1,5 +1,5 @@
 // Reading a Value that is no Array and no Struct, by its byte.
-// Assumes that such a byte stands there, the rows fit the table and the codebook has its 512 words.
+// Assumes that such a byte stands there, the rows fit the table and the codebook has its 256 words.
 use draft::Content;
 use draft::Refusal;
 use item::Step;

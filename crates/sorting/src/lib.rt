@@ -21,7 +21,7 @@ pub fn key_text<'a>(table: &[u32], room: usize, text: &'a [u8], r: usize) -> &'a
 }
 
 // Whether the text of row k is before that of row j.
-fn precedes(table: &[u32], room: usize, text: &[u8], k: usize, j: usize) -> bool
+pub fn precedes(table: &[u32], room: usize, text: &[u8], k: usize, j: usize) -> bool
     requires { ⌜ (room ≤ 4096) × (room * 4 ≤ length (now table)) ⌝ }
     ensures { λ b. ⌜ b ≡ before (keyText room (rowAt room (now (table .entry))) (now (text .entry))) k j ⌝ }
 {
@@ -37,14 +37,14 @@ fn precedes(table: &[u32], room: usize, text: &[u8], k: usize, j: usize) -> bool
 }
 
 // A row's number: its caller has no fit of the element to show.
-fn wide(x: u32) -> usize
+pub fn wide(x: u32) -> usize
     ensures { λ r. ⌜ r ≡ x ⌝ }
 {
     x as usize
 }
 
 // Where row k goes among the first n of `rows`, which are in order.
-fn place(table: &[u32], room: usize, text: &[u8], rows: &[u32], n: usize, k: usize) -> usize
+pub fn place(table: &[u32], room: usize, text: &[u8], rows: &[u32], n: usize, k: usize) -> usize
     requires { ⌜ (room ≤ 4096) × (room * 4 ≤ length (now table)) × (n ≤ length (now rows)) × Rising (keyText room (rowAt room (now table)) (now text)) (take n (now rows)) ⌝ }
     ensures { λ p. ⌜ Placed (keyText room (rowAt room (now (table .entry))) (now (text .entry))) k n (now (rows .entry)) p ⌝ }
 {

@@ -14,7 +14,7 @@ use borrow.Author.Tests.{le-leb, lt-leb, leb-true}
 use Rattle.text.proofs.Comparing.{both}
 use Rattle.draft.specs.Bytes.{unsignedAt}
 use Rattle.draft.specs.Strings.{Text}
-use Rattle.spread.specs.Buckets.{mixed, fours, long, five, short, three, otherOf, mixedOf, scaledBy, bucketOf, folded, lane, whole, wholeOf, wholeBucketOf}
+use Rattle.spread.specs.Buckets.{mixed, five, short, three, folded, lane, lanes, long, rest, mixedOf, wholeOf, scaledBy, bucketOf, wholeBucketOf}
 
 pub none-past : (t : List ℕ) (i : ℕ) → length t ≤ i → _≡_ {A = ℕ} 0 (getD t i 0)
 none-past [] zero h = refl
@@ -23,57 +23,42 @@ none-past (x ∷ t) zero h = absurd (omega arith)
 none-past (x ∷ t) (suc i) h = none-past t i (omega arith)
 
 module _ (t : Text) where
-  pub last-short : {a b c : ℕ} → length t < 4 → a ≡ getD t 0 0 → b ≡ getD t 1 0 → c ≡ getD t 2 0 → a + b * 256 + c * 65536 ≡ unsignedAt t (length t - 4)
-  last-short l p q r = let z : length t - 4 ≡ 0 = omega arith in rw z (omega (arith, none-past t 3 (omega arith)))
-
-  pub fours-again : (i : ℕ) {h w x : ℕ} → h ≡ fours t i → w ≡ unsignedAt t (i * 4) → x ≡ mixed h w → x ≡ fours t (i + 1)
-  unfolding fours
-  fours-again i p q e = e ∙ rw (add-one i, p, q)
-
-  pub fours-done : (i n : ℕ) {h : ℕ} → h ≡ fours t i → i ≤ n → n ≤ i → h ≡ fours t n
-  fours-done i n e l m = let z : i ≡ n = omega arith in e ∙ rw z
-
-  pub fours-none : _≡_ {A = ℕ} 0 (fours t 0)
-  unfolding fours
-  fours-none = refl
-
-  pub long-is : {n f l h : ℕ} → n ≡ min (length t / 4) 16 → f ≡ fours t n → l ≡ unsignedAt t (length t - 4) → h ≡ mixed f l → h ≡ long t
-  unfolding long
-  long-is p q r e = e ∙ rw (q, r, p)
+  pub few-is : {a b c : ℕ} → length t < 4 → a ≡ getD t 0 0 → b ≡ getD t 1 0 → c ≡ getD t 2 0 → a + b * 256 + c * 65536 ≡ unsignedAt t 0
+  few-is l p q r = omega (arith, none-past t 3 (omega arith))
 
   pub five-is : (m : ℕ) {a b c d e p q r x : ℕ} → a ≡ unsignedAt t 0 → b ≡ unsignedAt t (m / 4) → c ≡ unsignedAt t (m / 2) → d ≡ unsignedAt t (m * 3 / 4) → e ≡ unsignedAt t m → p ≡ mixed a b → q ≡ mixed p c → r ≡ mixed q d → x ≡ mixed r e → x ≡ five t m
   unfolding five
   five-is m ea eb ec ed ee ep eq er ex = ex ∙ rw (er, eq, ep, ea, eb, ec, ed, ee)
 
-  pub other-five : {x : ℕ} → 4 ≤ length t → length t ≤ 20 → x ≡ five t (length t - 4) → x ≡ otherOf t
-  unfolding otherOf
-  other-five h k e = e ∙ rw (le-leb 4 (length t) h, le-leb (length t) 20 k)
+  pub rest-few : (n : ℕ) {w x : ℕ} → length t < 4 → w ≡ unsignedAt t 0 → x ≡ mixed 0 w → x ≡ rest t n
+  unfolding rest
+  rest-few n h p e = e ∙ rw (p, lt-leb 4 (length t) h)
 
-  pub other-long : {x : ℕ} → 4 ≤ length t → 20 < length t → x ≡ long t → x ≡ otherOf t
-  unfolding otherOf
-  other-long h k e = e ∙ rw (le-leb 4 (length t) h, lt-leb (length t) 20 k)
+  pub rest-five : (n : ℕ) {x : ℕ} → 4 ≤ length t → length t ≤ 20 → x ≡ five t (length t - 4) → x ≡ rest t n
+  unfolding rest
+  rest-five n h k e = e ∙ rw (le-leb 4 (length t) h, le-leb (length t) 20 k)
 
-  pub other-short : {x : ℕ} → length t < 4 → x ≡ long t → x ≡ otherOf t
-  unfolding otherOf
-  other-short h e = e ∙ rw (lt-leb 4 (length t) h)
+  pub rest-long : (n : ℕ) {x : ℕ} → 4 ≤ length t → 20 < length t → x ≡ long t n → x % 4294967296 ≡ rest t n
+  unfolding rest
+  rest-long n h k e = rw (e, le-leb 4 (length t) h, lt-leb (length t) 20 k)
 
-  pub three-is : (m : ℕ) {a b c p x : ℕ} → a ≡ unsignedAt t 0 → b ≡ unsignedAt t (m / 2) → c ≡ unsignedAt t m → p ≡ mixed a b → x ≡ mixed p c → x ≡ three t m
+  pub three-is : (m : ℕ) {a b c : ℕ} → a ≡ unsignedAt t 0 → b ≡ unsignedAt t (m / 2) → c ≡ unsignedAt t m → (a * 625341585 + b * 1013904243 + c * 668265263) % 4294967296 ≡ three t m
   unfolding three
-  three-is m ea eb ec ep ex = ex ∙ rw (ep, ea, eb, ec)
+  three-is m ea eb ec = rw (ea, eb, ec)
 
   pub mixed-three : {x : ℕ} {r : Bool} → r ≡ short (length t) → r ≡ true → x ≡ three t (length t - 4) → x ≡ mixedOf t
   unfolding mixedOf
   mixed-three q h e = e ∙ rw (sym q, h)
 
-  pub mixed-other : {x : ℕ} {r : Bool} → r ≡ short (length t) → r ≡ false → x ≡ otherOf t → x ≡ mixedOf t
+  pub mixed-rest : {n x : ℕ} {r : Bool} → r ≡ short (length t) → r ≡ false → n ≡ min (length t / 16) 4 → x ≡ rest t n → x ≡ mixedOf t
   unfolding mixedOf
-  mixed-other q h e = e ∙ rw (sym q, h)
+  mixed-rest q h p e = e ∙ rw (sym q, h, p)
 
   pub bucket-is : (buckets salt : ℕ) {h x : ℕ} → h ≡ mixedOf t → x ≡ scaledBy buckets salt h → x ≡ bucketOf buckets salt t
   unfolding bucketOf
   bucket-is buckets salt e f = f ∙ rw e
 
--- a long text
+-- a text that is long, or any by all its bytes
 module _ (t : Text) where
   lane-none : (k : ℕ) → _≡_ {A = ℕ} 0 (lane t k 0)
   unfolding lane
@@ -127,24 +112,21 @@ module _ (t : Text) where
         fourth-small = ed .1;
       }
 
-  pub lanes-done : (i n : ℕ) {a b c d x y z : ℕ} → a ≡ lane t 0 i → b ≡ lane t 4 i → c ≡ lane t 8 i → d ≡ lane t 12 i → i ≤ n → n ≤ i → x ≡ folded a b → y ≡ folded x c → z ≡ folded y d → z ≡ folded (folded (folded (lane t 0 n) (lane t 4 n)) (lane t 8 n)) (lane t 12 n)
+  pub lanes-done : (i n : ℕ) {a b c d x y z : ℕ} → a ≡ lane t 0 i → b ≡ lane t 4 i → c ≡ lane t 8 i → d ≡ lane t 12 i → i ≤ n → n ≤ i → x ≡ folded a b → y ≡ folded x c → z ≡ folded y d → z ≡ lanes t n
+  unfolding lanes
   lanes-done i n ea eb ec ed l m ex ey ez = let q : i ≡ n = omega arith in ez ∙ rw (ey, ex, ea, eb, ec, ed, q)
 
-  pub whole-is : {h a b c d x y z r : ℕ} → h ≡ folded (folded (folded (lane t 0 (length t / 16)) (lane t 4 (length t / 16))) (lane t 8 (length t / 16))) (lane t 12 (length t / 16)) → a ≡ unsignedAt t (length t - 16) → b ≡ unsignedAt t (length t - 12) → c ≡ unsignedAt t (length t - 8) → d ≡ unsignedAt t (length t - 4) → x ≡ folded h a → y ≡ folded x b → z ≡ folded y c → r ≡ folded z d → r ≡ whole t
-  unfolding whole
-  whole-is eh ea eb ec ed ex ey ez er = er ∙ rw (ez, ey, ex, eh, ea, eb, ec, ed)
+  pub long-is : (n : ℕ) {h a b c d x y z r : ℕ} → h ≡ lanes t n → a ≡ unsignedAt t (length t - 16) → b ≡ unsignedAt t (length t - 12) → c ≡ unsignedAt t (length t - 8) → d ≡ unsignedAt t (length t - 4) → x ≡ folded h a → y ≡ folded x b → z ≡ folded y c → r ≡ folded z d → r ≡ long t n
+  unfolding long
+  long-is n eh ea eb ec ed ex ey ez er = er ∙ rw (ez, ey, ex, eh, ea, eb, ec, ed)
 
   pub whole-three : {x : ℕ} {r : Bool} → r ≡ short (length t) → r ≡ true → x ≡ three t (length t - 4) → x ≡ wholeOf t
   unfolding wholeOf
   whole-three q h e = e ∙ rw (sym q, h)
 
-  pub whole-other : {x : ℕ} {r : Bool} → r ≡ short (length t) → r ≡ false → length t ≤ 64 → x ≡ otherOf t → x ≡ wholeOf t
+  pub whole-rest : {x : ℕ} {r : Bool} → r ≡ short (length t) → r ≡ false → x ≡ rest t (length t / 16) → x ≡ wholeOf t
   unfolding wholeOf
-  whole-other q h k e = e ∙ rw (sym q, h, le-leb (length t) 64 k)
-
-  pub whole-long : {x : ℕ} {r : Bool} → r ≡ short (length t) → r ≡ false → 64 < length t → x ≡ whole t → x % 4294967296 ≡ wholeOf t
-  unfolding wholeOf
-  whole-long q h k e = rw (e, sym q, h, lt-leb (length t) 64 k)
+  whole-rest q h e = e ∙ rw (sym q, h)
 
   pub whole-bucket-is : (buckets salt : ℕ) {h x : ℕ} → h ≡ wholeOf t → x ≡ scaledBy buckets salt h → x ≡ wholeBucketOf buckets salt t
   unfolding wholeBucketOf
@@ -165,9 +147,9 @@ pub short-least : (n : ℕ) {r : Bool} → r ≡ short n → r ≡ true → 4 �
 unfolding short
 short-least n e f = leb-true 4 n (both (leb 4 n) (leb n 12) (sym e ∙ f) .0)
 
-pub scaled-is : (h buckets salt : ℕ) {x : ℕ} → x ≡ mixed h salt → x * buckets / 4294967296 ≡ scaledBy buckets salt h
+pub scaled-is : (h buckets salt : ℕ) → (h + salt * 1540483477) % 4294967296 * buckets / 4294967296 ≡ scaledBy buckets salt h
 unfolding scaledBy
-scaled-is h buckets salt e = rw e
+scaled-is h buckets salt = refl
 
 pub mixed-is : (h w : ℕ) → (h + w) * 1540483477 % 4294967296 ≡ mixed h w
 unfolding mixed
@@ -176,10 +158,13 @@ mixed-is h w = refl
 pub mixed-small : (x : ℕ) → x % 4294967296 < 4294967296
 mixed-small x = mod-lt x (omega arith)
 
-pub scaled-fits : (h buckets : ℕ) → h < 4294967296 → buckets ≤ 4096 → Fits w64 (h * buckets)
-scaled-fits h buckets l k = let m : h * buckets ≤ h * 4096 = mul-le-mul-left h k in omega arith
+pub scaled-fits : (x buckets : ℕ) → buckets ≤ 4096 → Fits w64 (x % 4294967296 * buckets)
+scaled-fits x buckets k =
+    let l = mixed-small x in
+    let m : x % 4294967296 * buckets ≤ x % 4294967296 * 4096 = mul-le-mul-left (x % 4294967296) k in
+    omega arith
 
 pub scaled : (h buckets : ℕ) → h < 4294967296 → 0 < buckets → h * buckets / 4294967296 < buckets
 scaled h buckets l k = let m : h * buckets < 4294967296 * buckets = mul-lt-mul-of-pos-right l k in omega arith
 
-pub ruleset mixing = (none-past, last-short, fours-again, fours-done, fours-none, long-is, five-is, other-five, other-long, other-short, short-is, short-least, three-is, mixed-three, mixed-other, bucket-is, mixed-is, mixed-small, scaled-fits, scaled, scaled-is, lanes-first, lanes-done, whole-is, whole-three, whole-other, whole-long, whole-bucket-is, folded-is, folded-small)
+pub ruleset mixing = (none-past, few-is, five-is, rest-few, rest-five, rest-long, short-is, short-least, three-is, mixed-three, mixed-rest, bucket-is, mixed-is, mixed-small, scaled-fits, scaled, scaled-is, lanes-first, lanes-done, long-is, whole-three, whole-rest, whole-bucket-is, folded-is, folded-small)

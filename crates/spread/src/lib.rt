@@ -3,7 +3,7 @@ ghost use mathlib.Core.Path.{_≡_};
 ghost use Prim.Native.Nat.{_+_, _*_, _-_, _≤_, _<_, _/_, min};
 ghost use lib.ListN.{length};
 ghost use Rattle.draft.specs.Bytes.{unsignedAt, byteAt};
-ghost use Rattle.spread.specs.Buckets.{mixed, fours, long, five, short, three, otherOf, mixedOf, scaledBy, bucketOf, folded, lane, whole, wholeOf, wholeBucketOf};
+ghost use Rattle.spread.specs.Buckets.{mixed, five, short, three, folded, lanes, long, rest, mixedOf, wholeOf, scaledBy, bucketOf, wholeBucketOf};
 
 // A byte as a number: the caller has no fit of the element to show.
 fn byte(x: u8) -> usize
@@ -30,13 +30,11 @@ fn byte_or_none(t: &[u8], i: usize) -> usize
     0
 }
 
-// The last four bytes, or as many as there are.
-fn last_four(t: &[u8]) -> usize
-    ensures { λ r. ⌜ (r ≡ unsignedAt (now (t .entry)) (length (now (t .entry)) - 4)) × (r < 4294967296) ⌝ }
+// The bytes of a text of fewer than four, as one number.
+fn few(t: &[u8]) -> usize
+    requires { ⌜ length (now t) < 4 ⌝ }
+    ensures { λ r. ⌜ (r ≡ unsignedAt (now (t .entry)) 0) × (r < 4294967296) ⌝ }
 {
-    if 4 <= t.len() {
-        return four(t, t.len() - 4);
-    }
     byte_or_none(t, 0) + byte_or_none(t, 1) * 256 + byte_or_none(t, 2) * 65536
 }
 
@@ -45,34 +43,6 @@ fn mix(h: usize, w: usize) -> usize
     ensures { λ r. ⌜ (r ≡ mixed h w) × (r < 4294967296) ⌝ }
 {
     (h + w) * 1540483477 % 4294967296
-}
-
-// The first n fours.
-fn mix_fours(t: &[u8], n: usize) -> usize
-    requires { ⌜ (n * 4 ≤ length (now t)) × (n ≤ 16) ⌝ }
-    ensures { λ r. ⌜ (r ≡ fours (now (t .entry)) n) × (r < 4294967296) ⌝ }
-{
-    let mut h = 0;
-    let mut i = 0;
-    while i < n {
-        h = mix(h, four(t, i * 4));
-        i += 1;
-    }
-    h
-}
-
-fn few(n: usize) -> usize
-    ensures { λ r. ⌜ (r ≡ min (n / 4) 16) × (r * 4 ≤ n) × (r ≤ 16) ⌝ }
-{
-    let q = n / 4;
-    if q < 16 { q } else { 16 }
-}
-
-// A text of other lengths: the fours within its first 64 bytes, and its last.
-fn mix_long(t: &[u8]) -> usize
-    ensures { λ r. ⌜ (r ≡ long (now (t .entry))) × (r < 4294967296) ⌝ }
-{
-    mix(mix_fours(t, few(t.len())), last_four(t))
 }
 
 // A text of 4 to 20 bytes, with no loop, since a length that varies makes a loop's end hard to foresee.
@@ -87,19 +57,6 @@ fn mix_five(t: &[u8]) -> usize
     mix(more, four(t, m))
 }
 
-// A text of other lengths than 4 to 12 bytes.
-fn mix_other(t: &[u8]) -> usize
-    ensures { λ r. ⌜ (r ≡ otherOf (now (t .entry))) × (r < 4294967296) ⌝ }
-{
-    if 4 <= t.len() {
-        if t.len() <= 20 {
-            return mix_five(t);
-        }
-        return mix_long(t);
-    }
-    mix_long(t)
-}
-
 // Whether a text of n bytes has 4 to 12, as most keys have.
 fn is_short(n: usize) -> bool
     ensures { λ r. ⌜ r ≡ short n ⌝ }
@@ -107,22 +64,13 @@ fn is_short(n: usize) -> bool
     (4 <= n) & (n <= 12)
 }
 
+// Three fours, each by a factor of its own: none waits for another.
 fn mix_three(t: &[u8]) -> usize
     requires { ⌜ 4 ≤ length (now t) ⌝ }
     ensures { λ r. ⌜ (r ≡ three (now (t .entry)) (length (now (t .entry)) - 4)) × (r < 4294967296) ⌝ }
 {
     let m = t.len() - 4;
-    let two = mix(four(t, 0), four(t, m / 2));
-    mix(two, four(t, m))
-}
-
-fn mix_text(t: &[u8]) -> usize
-    ensures { λ r. ⌜ (r ≡ mixedOf (now (t .entry))) × (r < 4294967296) ⌝ }
-{
-    if is_short(t.len()) {
-        return mix_three(t);
-    }
-    mix_other(t)
+    (four(t, 0) * 625341585 + four(t, m / 2) * 1013904243 + four(t, m) * 668265263) % 4294967296
 }
 
 // A number and a salt, scaled to so many buckets.
@@ -130,15 +78,7 @@ fn scale(h: usize, salt: usize, buckets: usize) -> usize
     requires { ⌜ (h < 4294967296) × (salt < 4294967296) × (0 < buckets) × (buckets ≤ 4096) ⌝ }
     ensures { λ r. ⌜ (r ≡ scaledBy buckets salt h) × (r < buckets) ⌝ }
 {
-    mix(h, salt) * buckets / 4294967296
-}
-
-// The bucket of a text, of so many.
-pub fn bucket(t: &[u8], salt: usize, buckets: usize) -> usize
-    requires { ⌜ (salt < 4294967296) × (0 < buckets) × (buckets ≤ 4096) ⌝ }
-    ensures { λ r. ⌜ (r ≡ bucketOf buckets salt (now (t .entry))) × (r < buckets) ⌝ }
-{
-    scale(mix_text(t), salt, buckets)
+    (h + salt * 1540483477) % 4294967296 * buckets / 4294967296
 }
 
 fn fold(h: usize, w: usize) -> usize
@@ -149,11 +89,11 @@ fn fold(h: usize, w: usize) -> usize
     p % 4294967296 + p / 4294967296
 }
 
-// The four lanes of a text's whole sixteens, side by side: none waits for another.
-fn fold_lanes(t: &[u8]) -> usize
-    ensures { λ r. ⌜ (r ≡ folded (folded (folded (lane (now (t .entry)) 0 (length (now (t .entry)) / 16)) (lane (now (t .entry)) 4 (length (now (t .entry)) / 16))) (lane (now (t .entry)) 8 (length (now (t .entry)) / 16))) (lane (now (t .entry)) 12 (length (now (t .entry)) / 16))) × (r < 8589934592) ⌝ }
+// The four lanes of a text's first n sixteens, side by side: none waits for another.
+fn fold_lanes(t: &[u8], n: usize) -> usize
+    requires { ⌜ n * 16 ≤ length (now t) ⌝ }
+    ensures { λ r. ⌜ (r ≡ lanes (now (t .entry)) n) × (r < 8589934592) ⌝ }
 {
-    let n = t.len() / 16;
     let mut a = 0;
     let mut b = 0;
     let mut c = 0;
@@ -170,31 +110,68 @@ fn fold_lanes(t: &[u8]) -> usize
     fold(fold(fold(a, b), c), d)
 }
 
-fn fold_whole(t: &[u8]) -> usize
-    requires { ⌜ 16 ≤ length (now t) ⌝ }
-    ensures { λ r. ⌜ (r ≡ whole (now (t .entry))) × (r < 8589934592) ⌝ }
+fn fold_long(t: &[u8], n: usize) -> usize
+    requires { ⌜ (16 ≤ length (now t)) × (n * 16 ≤ length (now t)) ⌝ }
+    ensures { λ r. ⌜ (r ≡ long (now (t .entry)) n) × (r < 8589934592) ⌝ }
 {
-    let n = t.len();
-    let one = fold(fold_lanes(t), four(t, n - 16));
-    let two = fold(one, four(t, n - 12));
-    let three = fold(two, four(t, n - 8));
-    fold(three, four(t, n - 4))
+    let m = t.len();
+    let one = fold(fold_lanes(t, n), four(t, m - 16));
+    let two = fold(one, four(t, m - 12));
+    let three = fold(two, four(t, m - 8));
+    fold(three, four(t, m - 4))
 }
 
-// A text by all its bytes. Few are long: what is short is found by one test.
+// A text of other lengths than 4 to 12 bytes, by its first n sixteens if it is long. Few are: what is short is found by one test.
+fn mix_rest(t: &[u8], n: usize) -> usize
+    requires { ⌜ n * 16 ≤ length (now t) ⌝ }
+    ensures { λ r. ⌜ (r ≡ rest (now (t .entry)) n) × (r < 4294967296) ⌝ }
+{
+    if t.len() < 4 {
+        return mix(0, few(t));
+    }
+    if t.len() <= 20 {
+        return mix_five(t);
+    }
+    fold_long(t, n) % 4294967296
+}
+
+// The sixteens within the first 64 of n bytes.
+fn sixteens(n: usize) -> usize
+    ensures { λ r. ⌜ (r ≡ min (n / 16) 4) × (r * 16 ≤ n) ⌝ }
+{
+    let q = n / 16;
+    if q < 4 { q } else { 4 }
+}
+
+// A text by at most its first 64 bytes and its last sixteen: a long one costs little.
+fn mix_text(t: &[u8]) -> usize
+    ensures { λ r. ⌜ (r ≡ mixedOf (now (t .entry))) × (r < 4294967296) ⌝ }
+{
+    if is_short(t.len()) {
+        return mix_three(t);
+    }
+    mix_rest(t, sixteens(t.len()))
+}
+
+// A text by all its bytes.
 fn mix_whole(t: &[u8]) -> usize
     ensures { λ r. ⌜ (r ≡ wholeOf (now (t .entry))) × (r < 4294967296) ⌝ }
 {
     if is_short(t.len()) {
         return mix_three(t);
     }
-    if t.len() <= 64 {
-        return mix_other(t);
-    }
-    fold_whole(t) % 4294967296
+    mix_rest(t, t.len() / 16)
 }
 
-// The bucket of a text, of so many, by all its bytes.
+// The bucket of a text, of so many.
+pub fn bucket(t: &[u8], salt: usize, buckets: usize) -> usize
+    requires { ⌜ (salt < 4294967296) × (0 < buckets) × (buckets ≤ 4096) ⌝ }
+    ensures { λ r. ⌜ (r ≡ bucketOf buckets salt (now (t .entry))) × (r < buckets) ⌝ }
+{
+    scale(mix_text(t), salt, buckets)
+}
+
+// The same by all its bytes.
 pub fn bucket_whole(t: &[u8], salt: usize, buckets: usize) -> usize
     requires { ⌜ (salt < 4294967296) × (0 < buckets) × (buckets ≤ 4096) ⌝ }
     ensures { λ r. ⌜ (r ≡ wholeBucketOf buckets salt (now (t .entry))) × (r < buckets) ⌝ }

@@ -1,4 +1,4 @@
-// Reading a String: regular, recorded or recalled. `book` is the codebook's 512 words.
+// Reading a String: regular, recorded or recalled. `book` is the codebook's 256 words.
 // Assumes that the place is in the message and the rows fit the table.
 use draft::Content;
 use draft::Entry;
@@ -11,7 +11,7 @@ ghost use Rattle.draft.specs.Read.{recordedItem, recalledItem, string};
 ghost use Rattle.codebook.specs.Words.{bookOf};
 ghost use Rattle.item.specs.Contract.{Ready, Did};
 
-// A String that is recorded. A refused text may be recorded too: nothing is read after a refusal.
+// A String that is recorded, once its text is taken: only then do offset and length fit a word of the codebook.
 pub fn read_recorded(
     s: &[u8],
     at: usize,
@@ -31,8 +31,12 @@ pub fn read_recorded(
     }
     let n = item::unsigned(s, at + 2);
     let o = at + 6;
+    let step = leaves::put_contents(s, at, row, Content::Text, o, n, room, table);
+    if step.number != 0 {
+        return step;
+    }
     codebook::record(book, s[at + 1], o as u32, n as u32);
-    leaves::put_contents(s, at, row, Content::Text, o, n, room, table)
+    step
 }
 
 // A String that is recalled.

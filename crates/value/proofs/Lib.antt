@@ -2,3 +2,4 @@ pub mod Turns
 pub mod Taking
 pub mod Keys
 pub mod Items
+pub mod Arrays

@@ -109,6 +109,41 @@ fn read_items(
     }
 }
 
+// The Array at `at`. Of a small message this is most of the reading, so it doesn't pass the loop over items twice, as a Value does.
+pub fn read_array(
+    s: &[u8],
+    at: usize,
+    row: usize,
+    deep: usize,
+    room: usize,
+    table: &mut [u32],
+    book: &mut [u32],
+    notes: &mut [u16],
+) -> Step
+    requires { ⌜ (at < length (now s)) × (getD (now s) at 0 ≡ 65) × Prepared (now s) at row room (now table) (now book) (now notes) ⌝ }
+    ensures { λ r. ⌜ Done (value (now (s .entry)) room deep at row (bookOf (now (book .entry)))) (now (s .entry)) room (at + 1) row (now (table .entry)) (now (table .exit)) (now (book .exit)) (now (notes .entry)) (now (notes .exit)) r ⌝ }
+{
+    let head = heads::read_head(s, at, row, deep, room);
+    if head.number != 0 {
+        return head;
+    }
+    let t = s;
+    let n = item::unsigned(s, at + 1);
+    let step = read_items(
+        t,
+        at + 5,
+        row + 1,
+        deep - 1,
+        n,
+        false,
+        room,
+        table,
+        book,
+        notes,
+    );
+    item::close(step, heads::kind_for(false), n as u32, row, room, table)
+}
+
 // The Value at `at`: one item without a key.
 pub fn read_value(
     s: &[u8],

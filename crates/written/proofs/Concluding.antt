@@ -2,25 +2,24 @@
 use mathlib.Core.Path.{_≡_, refl, sym, ap, _∙_}
 use mathlib.Core.Bool.{true}
 use mathlib.Core.Logic.{_↔_}
-use mathlib.Core.List.{List, [], _∷_, _++_}
-use Prim.Native.Nat.{ℕ, zero, suc, _+_, _*_, _≤_}
+use mathlib.Core.List.{List, [], _++_}
+use Prim.Native.Nat.{ℕ, _+_, _*_, _≤_}
 use native.Mathlib.Omega.{arith}
 use lib.Dec.{leb}
 use lib.ListN.{length, length-append}
 use lib.Seq.{take-append-seam}
-use borrow.Author.Tests.{leb-true, le-leb, eqb-true, eq-eqb}
-use Rattle.text.proofs.Comparing.{clash, both}
+use borrow.Author.Tests.{leb-true, le-leb, eq-eqb}
+use Rattle.text.proofs.Comparing.{both}
 use Rattle.draft.specs.declared.Row.{Row}
-use Rattle.draft.specs.declared.Extent.{Extent}
-use Rattle.draft.specs.declared.Extent.the-variants.{Until, Unfit}
+use Rattle.draft.specs.declared.Extent.the-variants.{Until}
 use Rattle.draft.specs.Bytes.{Below}
-use Rattle.draft.specs.Table.{roomOf, rowAt, from}
+use Rattle.draft.specs.Table.{roomOf, rowAt}
 use Rattle.draft.specs.Codebook.{Book}
 use Rattle.draft.specs.Read.{got, message}
 use Rattle.draft.specs.Grammar.{Cell, Sent, Message, call-message, response-message, call, value-response, fault-response, Derives, Begins}
 use Rattle.draft.specs.Meaning.{MeanSame, Realises}
 use Rattle.draft.specs.Strings.{repeated, textsOf, plan}
-use Rattle.draft.specs.Writable.{callOrResponse, wholly, writableWithin}
+use Rattle.draft.specs.Writable.{callOrResponse, writableWithin}
 use Rattle.draft.specs.Written.{written, rowsOf}
 use Rattle.exact.proofs.Standing.{ends}
 use Rattle.exact.proofs.Realising.{counts, same-meaning}
@@ -30,25 +29,17 @@ use Rattle.written.specs.Derivable.{DerivesRows, Within}
 use Rattle.written.proofs.Sending.{plan-texts, plan-legal}
 use Rattle.written.proofs.Forming.{strings, formed, fixed, texts-same, written-formed, formed-length}
 use Rattle.written.proofs.Limiting.{below-at}
-use Rattle.written.proofs.Standing.{stands-realises, realises-stands}
+use Rattle.written.proofs.Standing.{stands-realises, realises-stands, from-length}
 use Rattle.written.proofs.Measuring.{measured, kept}
 use Rattle.written.proofs.Planning.{plan-least}
 use Rattle.written.proofs.Bounding.{cells-below, formed-below}
+use Rattle.written.proofs.Tests.{wholly-by}
 use Rattle.written.proofs.Walking.{Writes, walked}
 use Rattle.written.proofs.Fitting.{message-fits}
-
-from-length : {A : Type 0} (f : ℕ → A) (r n : ℕ) → length (from f r n) ≡ n
-unfolding from
-from-length f r zero = refl
-from-length f r (suc n) = ap suc (from-length f (suc r) n)
 
 pub rows-length : (most : ℕ) (T : List ℕ) (rows : ℕ) → length (rowsOf most T rows) ≡ rows
 unfolding rowsOf
 rows-length most T rows = from-length (rowAt (roomOf most (length T)) T) 0 rows
-
-wholly-by : (rows : ℕ) (o : Extent) → wholly rows o ≡ true → o ≡ Until rows
-wholly-by rows (Until r) e = ap Until (eqb-true r rows e)
-wholly-by rows Unfit e = clash e refl
 
 -- a form that is derived
 formed-derives : {d : ℕ} {cs : List Cell} → Writes (CallOrResponse d) cs → Derives d (formed cs) cs

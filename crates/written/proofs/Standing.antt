@@ -1,7 +1,7 @@
 -- Rows by their numbers that have the meanings of cells, taken apart and put together. Assumes nothing.
-use mathlib.Core.Path.{_≡_, refl, _∙_}
+use mathlib.Core.Path.{_≡_, refl, ap}
 use mathlib.Core.List.{List, [], _∷_, _++_}
-use Prim.Native.Nat.{ℕ, zero, suc, _+_, _-_}
+use Prim.Native.Nat.{ℕ, zero, suc, _+_, _-_, _<_}
 use native.Mathlib.Omega.{arith}
 use native.Mathlib.Nat.{add-zero}
 use lib.ListN.{length}
@@ -65,3 +65,14 @@ module _ {row : ℕ → Row} {s : List ℕ} where
       let e : r + suc (length cs) - (r + 1) ≡ length cs = omega arith in
       let f : r + 1 ≡ suc r = omega arith in
       rw (e, f) (held-same (stands-realises t))
+
+-- what a function gives for some numbers: as many, and the same as another that agrees with it there
+pub from-length : {A : Type 0} (f : ℕ → A) (r n : ℕ) → length (from f r n) ≡ n
+unfolding from
+from-length f r zero = refl
+from-length f r (suc n) = ap suc (from-length f (suc r) n)
+
+pub from-same : {A : Type 0} (f g : ℕ → A) (r n : ℕ) → ((i : ℕ) → i < r + n → f i ≡ g i) → from f r n ≡ from g r n
+unfolding from
+from-same f g r zero h = refl
+from-same f g r (suc n) h = rw (h r (omega arith), from-same f g (suc r) n (λ i l. h i (omega arith)))

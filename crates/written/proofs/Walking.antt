@@ -1,7 +1,7 @@
 -- What a walk over rows accepts has a meaning that the grammar derives, whichever way its strings are sent: one law for each combinator of
 -- walking, then one for each production. Assumes nothing.
 use mathlib.Core.Path.{_≡_, refl, sym, ap, _∙_}
-use mathlib.Core.Bool.{Bool, true, false}
+use mathlib.Core.Bool.{true, false}
 use mathlib.Core.List.{List, [], _∷_, _++_, append-nil}
 use Prim.Native.Nat.{ℕ, zero, suc, _+_, _-_, _≤_, _<_, _%_}
 use native.Mathlib.Omega.{arith}
@@ -10,70 +10,30 @@ use lib.ListN.{length, length-append}
 use borrow.Author.Tests.{eqb-true, leb-true}
 use Rattle.draft.specs.declared.Row.{Row}
 use Rattle.draft.specs.declared.Verdict.{Verdict}
-use Rattle.draft.specs.declared.Verdict.the-variants.{Fine, Bad}
+use Rattle.draft.specs.declared.Verdict.the-variants.{Fine}
 use Rattle.draft.specs.declared.Content.{Content as ContentOf}
 use Rattle.draft.specs.declared.Content.the-variants as content
 use Rattle.draft.specs.declared.Item.{Item}
 use Rattle.draft.specs.declared.Item.the-variants as item
 use Rattle.draft.specs.declared.Extent.{Extent}
-use Rattle.draft.specs.declared.Extent.the-variants.{Until, Unfit}
+use Rattle.draft.specs.declared.Extent.the-variants.{Until}
 use Rattle.draft.specs.Bytes.{part}
 use Rattle.draft.specs.Rows.{below, kindOf, itemOf}
-use Rattle.draft.specs.Content.{contentRule, verdict, nameRule, keyRule, faultRule}
+use Rattle.draft.specs.Content.{nameRule, keyRule, faultRule}
 use Rattle.draft.specs.Table.{from}
 use Rattle.draft.specs.Read.{Texts, textOf, heldRows}
-use Rattle.draft.specs.Writable.{fit, ruled, then, Walk, pair as walk-pair, items, alike, nothing, closed, leaf, over, holding as walk-holding, integerItem, booleanItem, sized, Nest, floor, under, contentItem, counted as walk-counted, arrayItem, only, string as walk-string, stringBy, member, keeping, otherItem, structItem, item as walk-item, value, nested, faultStruct, first, callOrResponse}
+use Rattle.draft.specs.Writable.{fit, Walk, pair as walk-pair, items, alike, nothing, leaf, over, holding as walk-holding, integerItem, booleanItem, sized, Nest, floor, under, contentItem, counted as walk-counted, arrayItem, only, string as walk-string, stringBy, member, keeping, otherItem, structItem, item as walk-item, value, nested, faultStruct, first, callOrResponse}
 use Rattle.draft.specs.Written.{lsb, counted, stringBytes}
 use Rattle.draft.specs.Grammar.{holding, number, Cell, cell, content-cell, heldCells, Sent, regular, recorded, recalled, Keeps, Call, Response, value-response, fault-response, fault, Value, integer-value, boolean-value, double-value, datetime-value, array-value, struct-value, integer, boolean-true, boolean-false, double, datetime, binary, Array, array, Values, no-values, more-values, Struct, struct, Pairs, no-pairs, more-pairs, pair, String, regular-string, recorded-string, recalled-string, string-data}
 use Rattle.draft.specs.Meaning.{hasNumber, hasContent, says-holding, says-number, says-contents, Means, means}
 use Rattle.exact.proofs.Standing.{long}
 use Rattle.exact.proofs.Realising.{content-has}
-use Rattle.exact.proofs.Deriving.{Production, Joins, OneString, one-string, OneBy, one-by, Member, a-member, OneBinary, one-binary, OtherBody, CallBody, FaultStruct, CallOrResponse, of-call, of-response, there-by, other-join, call-join, member-join, other-make, call-make, binary-make, string-make}
+use Rattle.exact.proofs.Deriving.{Production, Joins, OneString, one-string, OneBy, one-by, Member, a-member, OneBinary, one-binary, OtherBody, CallBody, FaultStruct, CallOrResponse, of-call, of-response, other-join, call-join, member-join, other-make, call-make, binary-make, string-make}
 use Rattle.written.proofs.Sending.{textIn, texts, none-sent, first-sent, split}
 use Rattle.written.proofs.Forming.{strings, form, HasKind, item-kind, strings-append, form-append}
 use Rattle.written.proofs.Limiting.{lsb-is}
 use Rattle.written.proofs.Standing.{Stands, stands-none, stands-more, stands-one, stands-append, held-under}
-
--- what an accepted walk says of the tests on its way
-module _ {to : ℕ} where
-  unfit-until : {A : Type 0} → Unfit ≡ Until to → A
-  unfit-until e = let z : _≡_ {A = ℕ} 0 1 = cc in absurd (omega arith)
-
-  fit-by : (b : Bool) (o : Extent) → fit b o ≡ Until to → (b ≡ true) × (o ≡ Until to)
-  fit-by true o e = (refl, e)
-  fit-by false o e = unfit-until e
-
-  ruled-by : (v : Verdict) (o : Extent) → ruled v o ≡ Until to → (v ≡ Fine) × (o ≡ Until to)
-  ruled-by Fine o e = (refl, e)
-  ruled-by (Bad m) o e = unfit-until e
-
-  closed-by : (x : Row) (o : Extent) → closed x o ≡ Until to → (x .end ≡ to) × (o ≡ Until to)
-  closed-by x Unfit e = unfit-until e
-  closed-by x (Until r) e =
-      let f = fit-by (eqb (x .end) r) (Until r) e in
-      let i : r ≡ to = cc (f .1) in
-      (eqb-true (x .end) r (f .0) ∙ i, f .1)
-
-  over-by : (x : Row) (o : Extent) → over x o ≡ Until to → (x .a ≡ 0) × (x .end ≡ to) × (o ≡ Until to)
-  over-by x o e =
-      let f = fit-by (eqb (x .a) 0) (closed x o) e in
-      let g = closed-by x o (f .1) in
-      (eqb-true (x .a) 0 (f .0), g .0, g .1)
-
-  holding-by : (b : ℕ) (x : Row) (o : Extent) → walk-holding b x o ≡ Until to → (x .b ≡ b) × (over x o ≡ Until to)
-  holding-by b x o e = let f = fit-by (eqb (x .b) b) (over x o) e in (eqb-true (x .b) b (f .0), f .1)
-
-record Then (o : Extent) (more : ℕ → Extent) (to : ℕ) : Type 0 where
-  middle : ℕ
-  is : o ≡ Until middle
-  next : more middle ≡ Until to
-
-then-by : (o : Extent) (more : ℕ → Extent) {to : ℕ} → then o more ≡ Until to → Then o more to
-then-by Unfit more e = unfit-until e
-then-by (Until r) more e = record { middle = r; is = refl; next = e }
-
-until-same : {r to : ℕ} → Until r ≡ Until to → r ≡ to
-until-same e = cc
+use Rattle.written.proofs.Tests.{unfit-until, fit-by, ruled-by, closed-by, content-by, over-by, holding-by, only-by, then-by, until-same}
 
 -- whichever way the strings of the cells are sent, P derives their form
 pub record Writes (P : Production) (cs : List Cell) : Type 0 where
@@ -214,16 +174,12 @@ module _ (row : ℕ → Row) (rows : ℕ) (s : List ℕ) where
       (length (textOf s (row r)) < 4294967296 → sized c (length (textOf s (row r))) ≡ true → Keeps c (textOf s (row r)) → Writes P
       (content-cell c (textOf s (row r)) ∷ []))
       → row r .kind ≡ kindOf c → contentItem s c (row r) r ≡ Until to → Walked P r to
-  unfolding contentItem verdict
   content-at c r to make k e =
       let x = row r in
-      let f = fit-by (sized c (x .b)) _ e in
-      let g = ruled-by (verdict c s (x .a) (x .b)) _ (f .1) in
-      let h = there-by (leb (x .a + x .b) (length s)) (contentRule c (part s (x .a) (x .b))) (g .0) in
-      let i : x .a + x .b ≤ length s = leb-true _ _ (h .0) in
-      let l : x .b ≡ length (part s (x .a) (x .b)) = long s (x .a) (x .b) i in
-      one (g .1) (λ z. means k (omega (arith, z)) (says-contents (rw k (content-has c)) i refl))
-      (λ w. make (omega (arith, l, w r .1)) (sym (ap (sized c) l) ∙ f .0) (h .1))
+      let g = content-by s c x r e in
+      let l : x .b ≡ length (part s (x .a) (x .b)) = long s (x .a) (x .b) (g .1) in
+      one (g .3) (λ z. means k (omega (arith, z)) (says-contents (rw k (content-has c)) (g .1) refl))
+      (λ w. make (omega (arith, l, w r .1)) (sym (ap (sized c) l) ∙ g .0) (g .2))
 
   content-sound :
       (c : ContentOf) (P : Production)
@@ -231,15 +187,8 @@ module _ (row : ℕ → Row) (rows : ℕ) (s : List ℕ) where
       → SoundAt (kindOf c) (contentItem s c) P
   content-sound c P make = record { walked = λ r to k e. content-at c r to (make (textOf s (row r))) k e }
 
-  only-by : (k : ℕ) (f : Row → Walk) {r to : ℕ} → only row rows s k f r ≡ Until to → (row r .kind ≡ k) × (f (row r) r ≡ Until to)
-  unfolding only
-  only-by k f {r} e =
-      let h = fit-by (ltb r rows) _ e in
-      let i = fit-by (eqb (row r .kind) k) _ (h .1) in
-      (eqb-true _ _ (i .0), i .1)
-
   only-sound : (k : ℕ) {f : Row → Walk} {P : Production} → SoundAt k f P → Sound (only row rows s k f) P
-  only-sound k {f} g = record { walked = λ r to e. let h = only-by k f e in g .walked r to (h .0) (h .1) }
+  only-sound k {f} g = record { walked = λ r to e. let h = only-by row rows s k f e in g .walked r to (h .0) (h .1) }
 
   string-sound : Sound (walk-string row rows s) OneString
   unfolding walk-string
@@ -253,7 +202,7 @@ module _ (row : ℕ → Row) (rows : ℕ) (s : List ℕ) where
         walked = λ r to e.
             let f = then-by (walk-string row rows s r) _ e in
             let g = ruled-by (rule (textOf s (row r))) _ (f .next) in
-            let h = only-by 11 (contentItem s content.Text) (f .is ∙ g .1) in
+            let h = only-by row rows s 11 (contentItem s content.Text) (f .is ∙ g .1) in
             content-at content.Text r to (λ l z k. writes-string-by rule l k (g .0)) (h .0) (h .1);
       }
 

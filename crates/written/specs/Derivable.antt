@@ -1,4 +1,5 @@
 -- Tables whose meaning the draft derives, and tables within limits: what writable comes to. Assumes nothing.
+use mathlib.Core.Logic.{_↔_}
 use mathlib.Core.List.{List}
 use Prim.Native.Nat.{ℕ, _*_, _≤_}
 use lib.ListN.{length}
@@ -18,3 +19,7 @@ pub record Within (bytes most : ℕ) (T : List ℕ) (rows : ℕ) (s : List ℕ) 
   pub some-row : 1 ≤ rows
   pub few : rows ≤ most
   pub there : rows * 4 ≤ length T
+
+-- both tables hold the stated rows, or neither does
+abbrev pub HoldAlike : ℕ → List ℕ → List ℕ → Type 0
+HoldAlike rows T T′ = (rows * 4 ≤ length T) ↔ (rows * 4 ≤ length T′)

@@ -119,6 +119,30 @@ unsafe extern "C" {
         length: *mut usize,
     ) -> u8;
 
+    pub fn binmode_write_hyperglyph(
+        table: *const u32,
+        table_words: usize,
+        rows: usize,
+        text: *const u8,
+        text_len: usize,
+        limit: usize,
+        output: *mut u8,
+        output_len: usize,
+        length: *mut usize,
+    ) -> u8;
+
+    pub fn binmode_write_glyph(
+        table: *const u32,
+        table_words: usize,
+        rows: usize,
+        text: *const u8,
+        text_len: usize,
+        limit: usize,
+        output: *mut u8,
+        output_len: usize,
+        length: *mut usize,
+    ) -> u8;
+
     pub fn binmode_write_planned(
         table: *const u32,
         table_words: usize,
@@ -429,6 +453,34 @@ unsafe extern "C" {
     ) -> u8;
 
     pub fn binmode_station_write_within(
+        table: *const u32,
+        table_words: usize,
+        split: usize,
+        station: u8,
+        rows: usize,
+        text: *const u8,
+        text_len: usize,
+        limit: usize,
+        output: *mut u8,
+        output_len: usize,
+        length: *mut usize,
+    ) -> u8;
+
+    pub fn binmode_station_write_hyperglyph(
+        table: *const u32,
+        table_words: usize,
+        split: usize,
+        station: u8,
+        rows: usize,
+        text: *const u8,
+        text_len: usize,
+        limit: usize,
+        output: *mut u8,
+        output_len: usize,
+        length: *mut usize,
+    ) -> u8;
+
+    pub fn binmode_station_write_glyph(
         table: *const u32,
         table_words: usize,
         split: usize,

@@ -174,11 +174,21 @@ impl<'t> Table<'t> {
     /// that is not 1 to [`crate::MOST_NESTING`] is refused with
     /// [`crate::Reason::NoLimit`], before all else.
     pub fn write_within(self, limit: usize, output: &mut [u8]) -> Result<&mut [u8], Refusal> {
+        self.write_by(sys::binmode_write_within, limit, output)
+    }
+
+    /// What such a function writes of the table.
+    pub(crate) fn write_by(
+        self,
+        call: WriteCall,
+        limit: usize,
+        output: &mut [u8],
+    ) -> Result<&mut [u8], Refusal> {
         let mut length = 0;
         // SAFETY: the slices and the number are valid for the call, and those
         // that are written overlap nothing.
         let number = unsafe {
-            sys::binmode_write_within(
+            call(
                 self.words.as_ptr(),
                 self.words.len(),
                 self.rows,
@@ -196,6 +206,19 @@ impl<'t> Table<'t> {
         }
     }
 }
+
+/// A function of the library that writes a table, at a limit of nesting.
+type WriteCall = unsafe extern "C" fn(
+    *const u32,
+    usize,
+    usize,
+    *const u8,
+    usize,
+    usize,
+    *mut u8,
+    usize,
+    *mut usize,
+) -> u8;
 
 impl<'m> From<Message<'m>> for Table<'m> {
     fn from(message: Message<'m>) -> Self {
@@ -281,11 +304,11 @@ impl<'t> Item<'t> {
         }
     }
 
-    /// The members of a Struct, each its key and its value; none of another
-    /// item.
+    /// The members of a Struct, or of an ordered dict, each its key and its
+    /// value; none of another item.
     pub fn members(self) -> Members<'t> {
         let mut children = self.children();
-        if self.kind != Kind::Struct {
+        if !matches!(self.kind, Kind::Struct | Kind::OrderedDict) {
             children.end = 0;
         }
         Members { children }

@@ -438,12 +438,13 @@ pub fn key_again(random: &mut Random, table: &mut Table) {
     (*a, *b) = (offset, length);
 }
 
-/// The rows of a Struct's keys, as far as they go.
+/// The rows of the keys of a Struct, or of either dict, as far as they go.
 fn keys_of(rows: &[[u32; ROW_WORDS]], row: usize) -> Vec<usize> {
     let mut keys = Vec::new();
     let [kind, _, pairs, _] = rows[row];
     let mut key = row + 1;
-    while kind == kind::STRUCT && keys.len() < pairs as usize {
+    let has_keys = [kind::STRUCT, kind::ORDERED_DICT].contains(&kind);
+    while has_keys && keys.len() < pairs as usize {
         let Some([_, _, _, end]) = rows.get(key + 1) else {
             break;
         };

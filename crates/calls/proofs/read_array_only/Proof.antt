@@ -8,7 +8,7 @@ read-array-only-spec = tie.close (tie.spec
     (λ c κs. search needs)  -- refuse-requires
     (λ c. search calling)  -- returns
     (λ c. search needs)  -- shared-slice-read-if2
-    (λ c κs. search calling)  -- read-value-requires
+    (λ c κs. (search needs, search needs, search calling))  -- read-array-requires
     (λ c κs. search needs)  -- refuse-requires-2
     (λ c. search needs)  -- same-length
     (λ c. search needs)  -- same-length-2

@@ -1,5 +1,3 @@
-use lib.ListN.{length-set}
-use native.Mathlib.Omega.{arith}
 use Rattle.codebook.proofs.Recording.{recording}
 use borrow.Author.Needs.{needs}
 use Rattle.codebook.proofs.record.Statement.{statement}
@@ -8,12 +6,10 @@ use Rattle.codebook.proofs.record.Tie as tie
 pub record-spec : {M : Type 1} → statement M
 record-spec = tie.close (tie.spec
     (λ c κs. search needs)  -- wide-requires
+    (λ c. search needs)  -- sub-book
     (λ c. search needs)  -- mul-book
+    (λ c. search needs)  -- add-book
     (λ c. search needs)  -- mul-book-2
     (λ c. search needs)  -- slice-write-book
-    (λ c. search needs)  -- mul-book-3
-    (λ c. search needs)  -- add-book
-    (λ c. search needs)  -- mul-book-4
-    (λ c. simp length-set (omega arith))  -- slice-write-book-2
     (λ c. search needs)  -- same-length
     (λ c. search recording))  -- returns

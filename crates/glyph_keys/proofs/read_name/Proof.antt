@@ -10,6 +10,6 @@ read-name-spec = tie.close (tie.spec
     (λ c. search needs)  -- shared-slice-read-if2
     (λ c κs. search needs)  -- refuse-requires-2
     (λ c. search keying)  -- returns-2
-    (λ c κs. search needs)  -- read-leaf-requires
+    (λ c κs. search needs)  -- read-unicode-requires
     (λ c. search needs)  -- same-length
     (λ c. search keying))  -- returns-3

@@ -5,6 +5,6 @@ use Rattle.glyph_leaves.proofs.is_good.Tie as tie
 
 pub is-good-spec : {M : Type 1} → statement M
 is-good-spec = tie.close (tie.spec
-    (λ c κs. search needs)  -- is-utf8-requires
+    (λ c κs. search needs)  -- is-text-requires
     (λ c. search leaves)  -- returns
     (λ c. search leaves))  -- returns-2

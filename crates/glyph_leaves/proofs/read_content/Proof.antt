@@ -11,7 +11,6 @@ read-content-spec = tie.close (tie.spec
     (λ c. search needs)  -- shared-slice-read-if2
     (λ c κs. search needs)  -- refuse-requires-2
     (λ c. search leaves)  -- returns-2
-    (λ c κs. search needs)  -- part-requires
     (λ c κs. search needs)  -- is-good-requires
     (λ c. search needs)  -- add-put-leaf
     (λ c κs. search needs)  -- text-kind-requires

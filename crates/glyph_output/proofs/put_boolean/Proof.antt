@@ -1,4 +1,4 @@
-use Rattle.glyph_output.proofs.Spelling.{leaves}
+use Rattle.glyph_output.proofs.Leaves.{leaves}
 use borrow.Author.Needs.{needs}
 use Rattle.glyph_output.proofs.put_boolean.Statement.{statement}
 use Rattle.glyph_output.proofs.put_boolean.Tie as tie

@@ -31,7 +31,7 @@ use Rattle.glyph_bytes.proofs.is_keyed.Reads as is-keyed-reads
 use Rattle.glyph_bytes.proofs.name_want.Reads as name-want-reads
 use Rattle.glyph_rows.proofs.meets.Reads as meets-reads
 use Rattle.glyph_rows.proofs.sort_of.Reads as sort-of-reads
-use Rattle.key_rows.proofs.walk_key_if.Reads as walk-key-if-reads
+use Rattle.key_rows.proofs.dict_key_if.Reads as dict-key-if-reads
 use Rattle.table.proofs.get_row.Reads as get-row-reads
 use Rattle.glyph_walks.proofs.+walk_entries+walk_many+walk_object+walk_three.{statement}
 use Rattle.glyph_walks.proofs.+walk_entries+walk_many+walk_object+walk_three.Tie.{close}
@@ -93,8 +93,8 @@ walk-entries-μ-loop edition table room rows text good deep n keyed first notes�
 pub +walk-entries+walk-many+walk-object+walk-three-spec : {M : Type 1} → statement M
 +walk-entries+walk-many+walk-object+walk-three-spec =
     close μ-walk-entries μ-walk-many μ-walk-object μ-walk-three (λ t. walk-entries-lts.spec (
-      walk-key-if-reads.Asked,
-      walk-key-if-reads.Learnt,
+      dict-key-if-reads.Asked,
+      dict-key-if-reads.Learnt,
       walk-object-below t,
       walk-object.Post,
     )

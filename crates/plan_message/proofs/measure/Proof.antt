@@ -1,6 +1,6 @@
 use Prim.Native.Nat.{_-_}
 use Rattle.draft.specs.Table.{rowAt}
-use Rattle.plan_message.proofs.Writing.{Measuring, measure-first, measure-done, measure-short, measure-through, measure-count, measure-plan, measure-fits, measure-string, measure-item-fits, measure-other}
+use Rattle.plan_message.proofs.Writing.{Measuring, measure-first, measure-done, measure-short, measure-through, measure-plan, measure-fits, measure-string, measure-item-fits, measure-other}
 use borrow.Author.Needs.{needs}
 use Rattle.plan_message.proofs.measure.Statement.{statement}
 use Rattle.plan_message.proofs.measure.Tie as tie

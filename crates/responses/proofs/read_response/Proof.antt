@@ -16,8 +16,8 @@ read-response-spec = tie.close (tie.spec
     (λ c. search needs)  -- add-read-fault-struct-2
     (λ c κs. (search needs, search needs, search needs))  -- read-fault-struct-requires
     (λ c κs. (search responding, search needs, search needs, search needs))  -- close-requires
-    (λ c. search needs)  -- add-read-value
-    (λ c κs. prepared-blank (search needs) (search needs) (search needs))  -- read-value-requires
+    (λ c. search needs)  -- add-read-result
+    (λ c κs. (search needs, prepared-blank (search needs) (search needs) (search needs)))  -- read-result-requires
     (λ c κs. (search responding, search needs, search needs, search needs))  -- close-requires-2
     (λ c. search needs)  -- same-length
     (λ c. search needs)  -- same-length-2

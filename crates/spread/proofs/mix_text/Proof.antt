@@ -8,5 +8,6 @@ mix-text-spec = tie.close (tie.spec
     (λ c κs. search needs)  -- is-short-requires
     (λ c κs. search mixing)  -- mix-three-requires
     (λ c. (search mixing, search needs))  -- returns
-    (λ c κs. search needs)  -- mix-other-requires
+    (λ c κs. search needs)  -- sixteens-requires
+    (λ c κs. search needs)  -- mix-rest-requires
     (λ c. (search mixing, search needs)))  -- returns-2

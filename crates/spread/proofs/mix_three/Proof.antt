@@ -7,8 +7,11 @@ pub mix-three-spec : {M : Type 1} → statement M
 mix-three-spec = tie.close (tie.spec
     (λ c. search needs)  -- sub-m
     (λ c κs. search needs)  -- four-requires
+    (λ c. search needs)  -- mul-result
     (λ c κs. search needs)  -- four-requires-2
-    (λ c κs. search needs)  -- mix-requires
+    (λ c. search needs)  -- mul-result-2
+    (λ c. search needs)  -- add-result
     (λ c κs. search needs)  -- four-requires-3
-    (λ c κs. search needs)  -- mix-requires-2
-    (λ c. (search mixing, search needs)))  -- returns
+    (λ c. search needs)  -- mul-result-3
+    (λ c. search needs)  -- add-result-2
+    (λ c. (search mixing, search mixing)))  -- returns

@@ -8,7 +8,5 @@ mix-whole-spec = tie.close (tie.spec
     (λ c κs. search needs)  -- is-short-requires
     (λ c κs. search mixing)  -- mix-three-requires
     (λ c. (search mixing, search needs))  -- returns
-    (λ c κs. search needs)  -- mix-other-requires
-    (λ c. (search mixing, search needs))  -- returns-2
-    (λ c κs. search needs)  -- fold-whole-requires
-    (λ c. (search mixing, search mixing)))  -- returns-3
+    (λ c κs. search needs)  -- mix-rest-requires
+    (λ c. (search mixing, search needs)))  -- returns-2

@@ -1,0 +1,36 @@
+-- The bytes that begin an object without children. Assumes nothing.
+use mathlib.Core.Path.{_≡_}
+use mathlib.Core.Bool.{Bool, true, false}
+use mathlib.Core.List.{List}
+use Prim.Native.Nat.{ℕ, _<_}
+use Prim.Native.Char.{code}
+use lib.Dec.{eqb}
+use lib.ListN.{length, getD}
+use Rattle.glyph.specs.declared.Edition.{Edition}
+use Rattle.glyph.specs.declared.Leaf.{Leaf as LeafLetter}
+use Rattle.glyph.specs.declared.Leaf.the-variants.{Integer, Unicode, Bytes, True, False, Nil}
+use Rattle.glyph.specs.declared.Letter.the-variants.{Leaf}
+use Rattle.glyph.specs.Letters.{letterOf}
+
+abbrev pub pickLeaf : Bool → LeafLetter → LeafLetter → LeafLetter
+pickLeaf true x y = x
+pickLeaf false x y = y
+
+-- the object without children that a byte begins; nil for a byte that begins none
+unfoldable pub leafBy : ℕ → LeafLetter
+leafBy b =
+    pickLeaf (eqb b (code "i")) Integer
+    (pickLeaf (eqb b (code "u")) Unicode
+    (pickLeaf (eqb b (code "b")) Bytes
+    (pickLeaf (eqb b (code "T")) True
+    (pickLeaf (eqb b (code "F")) False
+    Nil))))
+
+-- a byte of which this is said begins that object, in either edition
+pub record Leafy (b : ℕ) (r : Bool) : Type 0 where
+  pub letter : r ≡ true → (e : Edition) → letterOf e b ≡ Leaf (leafBy b)
+
+-- the same of the byte at a place, which is there then
+pub record LeafAt (s : List ℕ) (at : ℕ) (r : Bool) : Type 0 where
+  pub there : r ≡ true → at < length s
+  pub letter : r ≡ true → (e : Edition) → letterOf e (getD s at 0) ≡ Leaf (leafBy (getD s at 0))
