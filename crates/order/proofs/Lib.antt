@@ -1,4 +1,3 @@
 -- The laws of `order`.
 pub mod Comparing
-pub mod Eights
 pub mod Ordering

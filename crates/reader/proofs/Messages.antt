@@ -2,49 +2,27 @@
 use mathlib.Core.Path.{_≡_, refl, ap, _∙_}
 use mathlib.Core.Bool.{Bool, true, false}
 use mathlib.Core.List.{List}
-use Prim.Native.Nat.{ℕ, _+_, _/_, _≤_, _<_, min}
-use native.Mathlib.Omega.{arith}
+use Prim.Native.Nat.{ℕ, _≤_, _<_}
 use native.Mathlib.Nat.{zero-add}
-use lib.ListN.{length, getD, replicate}
-use borrow.Author.Tests.{lt-ltb, le-ltb, le-leb, lt-leb, eq-eqb, ne-eqb}
+use lib.ListN.{length, replicate}
+use borrow.Author.Tests.{le-leb, lt-leb}
 use Rattle.draft.specs.declared.Refusal.{Refusal}
-use Rattle.draft.specs.declared.Refusal.the-variants.{Ended, WrongPrefix, UnexpectedByte, TooLong, NoLimit}
+use Rattle.draft.specs.declared.Refusal.the-variants.{Ended, WrongPrefix, TooLong, NoLimit}
 use Rattle.draft.specs.Refusals.{refusalOf}
 use Rattle.draft.specs.Limits.{allowed}
-use Rattle.draft.specs.Codebook.{Book, clear}
+use Rattle.draft.specs.Codebook.{clear}
 use Rattle.draft.specs.Table.{roomOf}
-use Rattle.draft.specs.Read.{Reading, callItem, responseItem, callOrResponse, prefix, agree, message, messageWithin}
+use Rattle.draft.specs.Read.{callOrResponse, prefix, agree, message, messageWithin}
 use Rattle.draft.proofs.Limiting.{limit-is}
 use Rattle.draft.proofs.Naming.{number-own}
 use Rattle.codebook.specs.Words.{bookOf}
 use Rattle.codebook.proofs.Recording.{clear-holds}
 use Rattle.item.specs.declared.Step.{Step}
-use Rattle.item.specs.Contract.{refusedAt, Did}
-use Rattle.item.proofs.Readings.{Got, Not, did-next, did-not, done, did-no}
+use Rattle.item.specs.Contract.{Did}
+use Rattle.item.proofs.Readings.{Got, Not, did-next, did-not}
 use Rattle.reader.specs.declared.Answer.{Answer}
 use Rattle.reader.specs.declared.Answer.the-variants as answer
 use Rattle.reader.specs.Answers.{reading, answerOf, tableOf, Answers}
-
--- the first item
-module _ (s : List ℕ) (deep at : ℕ) (book : Book) {bytes room from r : ℕ} {T T′ W′ : List ℕ} where
-  pub first-short : {step : Step} → length s ≤ at → step ≡ refusedAt Ended at → Did (callOrResponse s room deep at r book) bytes room from r T T′ W′ step
-  unfolding callOrResponse
-  first-short h e = did-no Ended e (simp (le-ltb _ _ h))
-
-  pub first-call : {step : Step} → at < length s → getD s at 0 ≡ 67 → Did (callItem s room deep at r book) bytes room from r T T′ W′ step → Did (callOrResponse s room deep at r book) bytes room from r T T′ W′ step
-  unfolding callOrResponse
-  first-call h e d = done (simp (lt-ltb _ _ h, eq-eqb _ _ e)) d
-
-  module _ (h : at < length s) (n : getD s at 0 ≡ 67 → ⊥) where
-    pub first-response : {step : Step} → getD s at 0 ≡ 82 → Did (responseItem s room deep at r book) bytes room from r T T′ W′ step → Did (callOrResponse s room deep at r book) bytes room from r T T′ W′ step
-    unfolding callOrResponse
-    first-response e d = done (simp (lt-ltb _ _ h, ne-eqb _ _ n, eq-eqb _ _ e)) d
-
-    pub first-neither : {step : Step} → (getD s at 0 ≡ 82 → ⊥) → step ≡ refusedAt UnexpectedByte at → Did (callOrResponse s room deep at r book) bytes room from r T T′ W′ step
-    unfolding callOrResponse
-    first-neither m e = did-no UnexpectedByte e (simp (lt-ltb _ _ h, ne-eqb _ _ n, ne-eqb _ _ m))
-
-pub ruleset messages = (first-short, first-call, first-response, first-neither)
 
 -- what follows the first bytes, read into zeros with an empty codebook
 module _ (s : List ℕ) (deep words : ℕ) {room from : ℕ} {T T₁ W W₁ : List ℕ} {step : Step} (f : room ≡ roomOf 4096 words) (w : W ≡ replicate 256 0) (d : Did (callOrResponse s room deep 12 0 (bookOf W)) (length s) room from 0 T T₁ W₁ step) where
@@ -101,8 +79,4 @@ module _ (s : List ℕ) (words limit : ℕ) (stated : allowed limit ≡ true) wh
 pub zeros : (words words₁ : ℕ) {T : List ℕ} → T ≡ replicate words 0 → words₁ ≡ words → T ≡ replicate words₁ 0
 zeros words words₁ e k = rw k e
 
--- notes for as many rows as a table may have are enough
-pub many-enough : (room bytes : ℕ) → room ≤ 4096 → min room bytes ≤ 12288 / 3
-many-enough room bytes h = omega arith
-
-pub ruleset whole = (many-enough, body-no, body-got, limit-is, read-unlimited, read-stated, read-long, read-wrong, read-short, read-on, zeros)
+pub ruleset whole = (body-no, body-got, limit-is, read-unlimited, read-stated, read-long, read-wrong, read-short, read-on, zeros)

@@ -1,2 +1,1 @@
 pub mod Responding
-pub mod Faults

@@ -10,10 +10,9 @@ use Rattle.draft.specs.Codebook.{Book}
 use Rattle.draft.specs.Read.{over, value, faultStruct, responseItem}
 use Rattle.item.specs.declared.Step.{Step}
 use Rattle.item.specs.Contract.{refusedAt, Did}
-use Rattle.item.proofs.Readings.{done, did-no, did-ends, opened-full, opened-on, only-short, only-no, only-on, over-closed}
+use Rattle.item.proofs.Readings.{done, did-no, did-ends, opened-full, opened-on, over-closed}
 use Rattle.item.proofs.Items.{ahead-next, one-in}
 use Rattle.member_keys.proofs.Keying.{prepared-blank, done-did}
-use Rattle.heads.proofs.Values.{struct-read}
 
 -- what follows `R`
 module _ (s : List ℕ) (deep at : ℕ) (book : Book) {bytes room from r : ℕ} {T T′ W′ : List ℕ} (h : r < room) (k : at < length s) where
@@ -29,4 +28,4 @@ module _ (s : List ℕ) (deep at : ℕ) (book : Book) {bytes room from r : ℕ} 
 pub ahead-two : (n : ℕ) → n + 1 ≤ n + 2 + 1
 ahead-two n = omega arith
 
-pub ruleset responding = (only-short, only-no, only-on, did-ends, opened-full, opened-on, over-closed, response-short, response-fault, response-value, ahead-next, ahead-two, one-in, prepared-blank, done-did, struct-read)
+pub ruleset responding = (did-ends, opened-full, opened-on, over-closed, response-short, response-fault, response-value, ahead-next, ahead-two, one-in, prepared-blank, done-did)

@@ -1,7 +1,7 @@
-use Rattle.responses.proofs.Faults.{faults, fault-judged}
+use Rattle.fault_struct.proofs.Faults.{faults, fault-judged}
 use borrow.Author.Needs.{needs}
-use Rattle.responses.proofs.read_fault_struct.Statement.{statement}
-use Rattle.responses.proofs.read_fault_struct.Tie as tie
+use Rattle.fault_struct.proofs.read_fault_struct.Statement.{statement}
+use Rattle.fault_struct.proofs.read_fault_struct.Tie as tie
 
 returns-2 : tie.Need-returns-2
 returns-2 c = fault-judged _ _ _ _ (c .before .before .before .before .before .before .before .before .before .before .before .read-struct-only .ensures) (c .before .before .before .if1 .left) (c .before .before .before .before .before .before .before .before .before .before .before .before .before .before .before .before .before .before .before .pre .0 .fitting .table) (c .before .judge .ensures) (c .judged .ensures)

@@ -1,4 +1,4 @@
--- What answers each return of the function that reads a fault's Struct. Assumes nothing.
+-- What answers each return of the functions that read a fault's Struct. Assumes nothing.
 use mathlib.Core.Path.{_≡_, ap, _∙_}
 use mathlib.Core.List.{List, [], _∷_}
 use Prim.Native.Nat.{ℕ, suc, _+_, _*_, _-_, _≤_}
@@ -16,8 +16,10 @@ use Rattle.codebook.specs.Words.{bookOf}
 use Rattle.table.proofs.Stored.{rows-there}
 use Rattle.item.specs.declared.Step.{Step}
 use Rattle.item.specs.Contract.{judgedAt, Did}
-use Rattle.item.proofs.Readings.{did-next, did-not, done, did-no, judged-did, row-in}
+use Rattle.item.proofs.Readings.{did-next, did-not, done, did-no, judged-did, row-in, only-short, only-no, only-on}
 use Rattle.item.proofs.Items.{got-did}
+use Rattle.member_keys.proofs.Keying.{prepared-blank, done-did}
+use Rattle.heads.proofs.Values.{struct-read}
 
 -- the rows below the first, in the table that they were stored in
 below-there : (s : List ℕ) (room r n : ℕ) (T : List ℕ) {T₁ : List ℕ} (rows : List Row) → T₁ ≡ putRows room T r rows → n ≡ r + length rows → n ≤ room → room * 4 ≤ length T → heldRows s (rowsAt room T₁ (r + 1) (n - (r + 1))) ≡ heldRows s (below rows)
@@ -53,3 +55,5 @@ module _ (s : List ℕ) (deep at : ℕ) (book : Book) {bytes room from r : ℕ} 
     fault-judged i = done fault-is (judged-did v at (got-did e (did-next d e)) i)
 
 pub ruleset faults = (row-in, fault-refused, fault-judged)
+
+pub ruleset structs = (only-short, only-no, only-on, prepared-blank, done-did, struct-read)
