@@ -5,7 +5,7 @@ use mathlib.Core.List.{List, [], _∷_, _++_, append-assoc, append-nil}
 use Prim.Native.Nat.{ℕ, zero, suc, _+_, _-_, _≤_, _<_}
 use native.Mathlib.Omega.{arith}
 use native.Mathlib.Numerals.{add-one}
-use native.Mathlib.Nat.{add-zero}
+use native.Mathlib.Nat.{add-zero, suc-add}
 use lib.ListN.{length, set, take, drop, length-set, length-append, length-drop, drop-of-length-le}
 use lib.Seq.{take-all, drop-drop, take-at, drop-at, length-take-le}
 use lib.Dec.{leb}
@@ -68,6 +68,18 @@ set-two (x ∷ []) at b c h = absurd (omega arith)
 set-two (x ∷ y ∷ o) zero b c h = refl
 set-two (x ∷ y ∷ o) (suc at) b c h = ap (λ (w : List ℕ). x ∷ w) (set-two (y ∷ o) at b c (omega arith))
 
+set-four : (o : List ℕ) (at b c d e : ℕ) → at + 3 < length o → set (set (set (set o at b) (at + 1) c) (at + 2) d) (at + 3) e ≡ take at o ++ (b ∷ c ∷ d ∷ e ∷ drop (at + 4) o)
+set-four o zero b c d e h = four o h
+  where
+    four : (o : List ℕ) → 3 < length o → set (set (set (set o 0 b) 1 c) 2 d) 3 e ≡ b ∷ c ∷ d ∷ e ∷ drop 4 o
+    four [] h = absurd (omega arith)
+    four (x ∷ []) h = absurd (omega arith)
+    four (x ∷ y ∷ []) h = absurd (omega arith)
+    four (x ∷ y ∷ z ∷ []) h = absurd (omega arith)
+    four (x ∷ y ∷ z ∷ w ∷ o) h = refl
+set-four [] (suc at) b c d e h = absurd (omega arith)
+set-four (x ∷ o) (suc at) b c d e h = rw (suc-add, suc-add, suc-add, suc-add) (ap (λ (w : List ℕ). x ∷ w) (set-four o at b c d e (omega arith)))
+
 pub second-in : (o : List ℕ) {most at : ℕ} (b : ℕ) → Open most (length o) at → at + 2 ≤ most → at + 1 < length (set o at b)
 second-in o {at = at} b p h = rw (length-set o at b) (omega (arith, p .within))
 
@@ -82,6 +94,16 @@ module _ {o : List ℕ} {most at : ℕ} (p : Open most (length o) at) where
 
   pub adds-not-two : (b c : ℕ) {r : ℕ} → most < at + 2 → r ≡ reached (at + 2) → Adds (b ∷ c ∷ []) most o at o r
   adds-not-two b c h e = record { stops = e; stands = λ k. absurd (omega arith) }
+
+  pub adds-four : (b c d e : ℕ) → at + 4 ≤ most → Adds (b ∷ c ∷ d ∷ e ∷ []) most o at (set (set (set (set o at b) (at + 1) c) (at + 2) d) (at + 3) e) (at + 4)
+  adds-four b c d e h =
+      record {
+        stops = reached-same (at + 4) (omega (arith, p .few));
+        stands = λ _. set-four o at b c d e (omega (arith, p .within));
+      }
+
+  pub adds-not-four : (b c d e : ℕ) {r : ℕ} → most < at + 4 → r ≡ reached (at + 4) → Adds (b ∷ c ∷ d ∷ e ∷ []) most o at o r
+  adds-not-four b c d e h q = record { stops = q; stands = λ k. absurd (omega arith) }
 
   pub adds-byte : (b : ℕ) → at < most → Adds (b ∷ []) most o at (set o at b) (at + 1)
   adds-byte b h =
@@ -134,4 +156,4 @@ module _ {o : List ℕ} {most at : ℕ} (p : Open most (length o) at) where
             let n : at + length (xs ++ ys) ≡ at + length xs + length ys = omega (arith, l) in
             g .stands (omega (arith, l, q)) ∙ rw (v, x, n) (append-assoc (take at o) xs (ys ++ drop (at + length xs + length ys) o) ∙ ap (λ (w : List ℕ). take at o ++ w) (sym (append-assoc xs ys (drop (at + length xs + length ys) o))))
 
-pub ruleset adding = (reached-over, reached-same, adds-two, second-in, adds-not-two, adds-byte, adds-no-byte, adds-no-text, adds-nothing, adds-text, open-next)
+pub ruleset adding = (reached-over, reached-same, adds-two, second-in, adds-not-two, adds-four, adds-not-four, adds-byte, adds-no-byte, adds-no-text, adds-nothing, adds-text, open-next)

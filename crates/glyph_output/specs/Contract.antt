@@ -1,8 +1,9 @@
 -- What stands in a lent output after a call that was to put bytes behind those that stand there. Assumes nothing.
-use Prim.Native.Nat.{ℕ, _+_, _≤_}
+use Prim.Native.Nat.{ℕ, _+_, _/_, _%_, _≤_}
+use Prim.Native.Char.{code}
 use mathlib.Core.Path.{_≡_}
 use mathlib.Core.Bool.{cond}
-use mathlib.Core.List.{List, _++_}
+use mathlib.Core.List.{List, [], _∷_, _++_}
 use lib.ListN.{length, take, drop}
 use lib.Dec.{leb}
 
@@ -20,3 +21,7 @@ pub record Open (most bytes at : ℕ) : Type 0 where
 pub record Adds (xs : List ℕ) (most : ℕ) (out : List ℕ) (at : ℕ) (out′ : List ℕ) (stop : ℕ) : Type 0 where
   pub stops : stop ≡ reached (at + length xs)
   pub stands : at + length xs ≤ most → out′ ≡ take at out ++ (xs ++ drop (at + length xs) out)
+
+-- the digits of a number below 10,000, the first of which may be zeros
+abbrev pub fourDigits : ℕ → List ℕ
+fourDigits n = (code "0" + n / 1000) ∷ (code "0" + n / 100 % 10) ∷ (code "0" + n / 10 % 10) ∷ (code "0" + n % 10) ∷ []

@@ -2,10 +2,10 @@
 // where they end, also where they were not put; all places past 65,536 are told as 65,537.
 ghost use mathlib.Core.Path.{_≡_};
 ghost use mathlib.Core.List.{[], _∷_, _++_};
-ghost use Prim.Native.Nat.{_-_, _*_, _≤_};
+ghost use Prim.Native.Nat.{_-_, _≤_, _<_};
 ghost use lib.ListN.{length};
 ghost use Rattle.glyph_form.specs.Form.{digitsBefore, numberBefore, integerBytes, booleanBytes, contentBytes};
-ghost use Rattle.glyph_output.specs.Contract.{reached as reachedBy, Open, Adds};
+ghost use Rattle.glyph_output.specs.Contract.{reached as reachedBy, Open, Adds, fourDigits};
 
 // The most bytes that a message may have.
 pub const MOST_BYTES: usize = 65536;
@@ -58,24 +58,67 @@ fn put_two(out: &mut [u8], most: usize, at: usize, b: u8, c: u8) -> usize
     reached(at + 2)
 }
 
-// A number's digits, two at a time; the last of them if it has more than twice `pairs`.
-fn put_digits(out: &mut [u8], most: usize, at: usize, n: u32, pairs: usize) -> usize
-    requires { ⌜ Open most (length (now out)) at ⌝ }
-    ensures { λ r. ⌜ Adds (digitsBefore (2 * pairs) n []) most (now (out .entry)) at (now (out .exit)) r ⌝ }
+// Four digits of a number below 10,000.
+fn put_four(out: &mut [u8], most: usize, at: usize, n: u32) -> usize
+    requires { ⌜ Open most (length (now out)) at × (n < 10000) ⌝ }
+    ensures { λ r. ⌜ Adds (fourDigits n) most (now (out .entry)) at (now (out .exit)) r ⌝ }
 {
-    if pairs == 0 {
-        return reached(at);
+    if at + 4 <= most {
+        out[at] = 48 + (n / 1000) as u8;
+        out[at + 1] = 48 + (n / 100 % 10) as u8;
+        out[at + 2] = 48 + (n / 10 % 10) as u8;
+        out[at + 3] = 48 + (n % 10) as u8;
+        return at + 4;
     }
+    reached(at + 4)
+}
+
+// A number below 10,000 without leading zeros.
+fn put_few(out: &mut [u8], most: usize, at: usize, n: u32) -> usize
+    requires { ⌜ Open most (length (now out)) at × (n < 10000) ⌝ }
+    ensures { λ r. ⌜ Adds (digitsBefore 10 n []) most (now (out .entry)) at (now (out .exit)) r ⌝ }
+{
     if n < 10 {
         return put_byte(out, most, at, 48 + n as u8);
     }
-    let tens = n / 10;
-    let last = 48 + (n % 10) as u8;
-    if tens < 10 {
-        return put_two(out, most, at, 48 + tens as u8, last);
+    if n < 100 {
+        return put_two(out, most, at, 48 + (n / 10) as u8, 48 + (n % 10) as u8);
     }
-    let next = put_digits(out, most, at, tens / 10, pairs - 1);
-    put_two(out, most, next, 48 + (tens % 10) as u8, last)
+    if n < 1000 {
+        let next = put_byte(out, most, at, 48 + (n / 100) as u8);
+        return put_two(
+            out,
+            most,
+            next,
+            48 + (n / 10 % 10) as u8,
+            48 + (n % 10) as u8,
+        );
+    }
+    put_four(out, most, at, n)
+}
+
+// One below 100,000,000.
+fn put_some(out: &mut [u8], most: usize, at: usize, n: u32) -> usize
+    requires { ⌜ Open most (length (now out)) at × (n < 100000000) ⌝ }
+    ensures { λ r. ⌜ Adds (digitsBefore 10 n []) most (now (out .entry)) at (now (out .exit)) r ⌝ }
+{
+    if n < 10000 {
+        return put_few(out, most, at, n);
+    }
+    let next = put_few(out, most, at, n / 10000);
+    put_four(out, most, next, n % 10000)
+}
+
+// Any number, four digits at a time.
+fn put_digits(out: &mut [u8], most: usize, at: usize, n: u32) -> usize
+    requires { ⌜ Open most (length (now out)) at ⌝ }
+    ensures { λ r. ⌜ Adds (digitsBefore 10 n []) most (now (out .entry)) at (now (out .exit)) r ⌝ }
+{
+    if n < 10000 {
+        return put_few(out, most, at, n);
+    }
+    let next = put_some(out, most, at, n / 10000);
+    put_four(out, most, next, n % 10000)
 }
 
 // A number without leading zeros, and the byte behind it.
@@ -83,7 +126,7 @@ fn put_number(out: &mut [u8], most: usize, at: usize, n: u32, b: u8) -> usize
     requires { ⌜ Open most (length (now out)) at ⌝ }
     ensures { λ r. ⌜ Adds (numberBefore n (b ∷ [])) most (now (out .entry)) at (now (out .exit)) r ⌝ }
 {
-    let last = put_digits(out, most, at, n, 5);
+    let last = put_digits(out, most, at, n);
     put_byte(out, most, last, b)
 }
 

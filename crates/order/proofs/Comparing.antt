@@ -27,7 +27,7 @@ none : (n : ℕ) (s : List ℕ) → rankFrom n (take 0 s) ≡ n
 unfolding rankFrom
 none n s = refl
 
-rank-is : (s : List ℕ) (at : ℕ) {a b c d e f g h : ℕ} → at + 8 ≤ length s → a ≡ getD s at 0 → b ≡ getD s (at + 1) 0 → c ≡ getD s (at + 2) 0 → d ≡ getD s (at + 3) 0 → e ≡ getD s (at + 4) 0 → f ≡ getD s (at + 5) 0 → g ≡ getD s (at + 6) 0 → h ≡ getD s (at + 7) 0 → a * 0x100000000000000 + b * 0x1000000000000 + c * 0x10000000000 + d * 0x100000000 + e * 0x1000000 + f * 0x10000 + g * 0x100 + h ≡ rank (take 8 (drop at s))
+rank-is : (s : List ℕ) (at : ℕ) {a b c d e f g h : ℕ} → at + 8 ≤ length s → a ≡ getD s at 0 → b ≡ getD s (at + 1) 0 → c ≡ getD s (at + 2) 0 → d ≡ getD s (at + 3) 0 → e ≡ getD s (at + 4) 0 → f ≡ getD s (at + 5) 0 → g ≡ getD s (at + 6) 0 → h ≡ getD s (at + 7) 0 → h + g * 0x100 + f * 0x10000 + e * 0x1000000 + d * 0x100000000 + c * 0x10000000000 + b * 0x1000000000000 + a * 0x100000000000000 ≡ rank (take 8 (drop at s))
 rank-is s at {a} {b} {c} {d} {e} {f} {g} {h} l ea eb ec ed ee ef eg eh =
     sym (
     first 7 0 s at (at + 1) (omega arith) refl
@@ -42,7 +42,7 @@ rank-is s at {a} {b} {c} {d} {e} {f} {g} {h} l ea eb ec ed ee ef eg eh =
     ∙ omega arith
     )
 
-pub rank-of : (s : List ℕ) (at : ℕ) {a b c d e f g h : ℕ} → at + 8 ≤ length s → a ≡ getD s at 0 → b ≡ getD s (at + 1) 0 → c ≡ getD s (at + 2) 0 → d ≡ getD s (at + 3) 0 → e ≡ getD s (at + 4) 0 → f ≡ getD s (at + 5) 0 → g ≡ getD s (at + 6) 0 → h ≡ getD s (at + 7) 0 → Bytes s → Ranked s at (a * 0x100000000000000 + b * 0x1000000000000 + c * 0x10000000000 + d * 0x100000000 + e * 0x1000000 + f * 0x10000 + g * 0x100 + h)
+pub rank-of : (s : List ℕ) (at : ℕ) {a b c d e f g h : ℕ} → at + 8 ≤ length s → a ≡ getD s at 0 → b ≡ getD s (at + 1) 0 → c ≡ getD s (at + 2) 0 → d ≡ getD s (at + 3) 0 → e ≡ getD s (at + 4) 0 → f ≡ getD s (at + 5) 0 → g ≡ getD s (at + 6) 0 → h ≡ getD s (at + 7) 0 → Bytes s → Ranked s at (h + g * 0x100 + f * 0x10000 + e * 0x1000000 + d * 0x100000000 + c * 0x10000000000 + b * 0x1000000000000 + a * 0x100000000000000)
 rank-of s at l ea eb ec ed ee ef eg eh bytes = record { is = rank-is s at l ea eb ec ed ee ef eg eh; bytes = byte s bytes }
 
 -- what a slice of bytes holds

@@ -24,14 +24,14 @@ fn rank_at(s: &[u8], at: usize) -> u64
     requires { ⌜ at + 8 ≤ length (now s) ⌝ }
     ensures { λ r. ⌜ Ranked (now (s .entry)) at r ⌝ }
 {
-    wide(s[at]) * 0x100_0000_0000_0000
-        + wide(s[at + 1]) * 0x1_0000_0000_0000
-        + wide(s[at + 2]) * 0x100_0000_0000
-        + wide(s[at + 3]) * 0x1_0000_0000
-        + wide(s[at + 4]) * 0x100_0000
-        + wide(s[at + 5]) * 0x1_0000
+    wide(s[at + 7])
         + wide(s[at + 6]) * 0x100
-        + wide(s[at + 7])
+        + wide(s[at + 5]) * 0x1_0000
+        + wide(s[at + 4]) * 0x100_0000
+        + wide(s[at + 3]) * 0x1_0000_0000
+        + wide(s[at + 2]) * 0x100_0000_0000
+        + wide(s[at + 1]) * 0x1_0000_0000_0000
+        + wide(s[at]) * 0x100_0000_0000_0000
 }
 
 fn fewer(a: usize, b: usize) -> usize

@@ -53,7 +53,16 @@ pub fn read_response(
         return item::refuse(Refusal::Ended, next);
     }
     if s[next] == b'F' {
-        let step = fault_struct::read_fault_struct(s, at + 2, row + 1, deep, room, table, book, notes);
+        let step = fault_struct::read_fault_struct(
+            s,
+            at + 2,
+            row + 1,
+            deep,
+            room,
+            table,
+            book,
+            notes,
+        );
         item::close(step, 3, 1, row, room, table)
     } else {
         let step = read_result(s, next, row + 1, deep, room, table, book, notes);
