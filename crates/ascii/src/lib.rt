@@ -1,4 +1,4 @@
-// Bytes below 128: whether all are, and runs of them, passed eight at a time. Each function that passes some gives the place after
+// Bytes below 128: whether all are, and runs of them, passed many at a time. Each function that passes some gives the place after
 // them. Those that begin at a place assume that it is none past the end.
 use eights::eight_below;
 ghost use mathlib.Core.Path.{_≡_};
@@ -46,7 +46,31 @@ fn many_below(s: &[u8], at: usize) -> bool
     four_below(s, at) & four_below(s, at + 32)
 }
 
-// Past eights below 128, eight a turn.
+// And four times as many.
+fn most_below(s: &[u8], at: usize) -> bool
+    requires { ⌜ at + 256 ≤ length (now s) ⌝ }
+    ensures { λ r. ⌜ r ≡ ascii (take 256 (drop at (now (s .entry)))) ⌝ }
+{
+    many_below(s, at) & many_below(s, at + 64) & many_below(s, at + 128) & many_below(s, at + 192)
+}
+
+// Past bytes below 128, 256 a turn.
+fn past_most(s: &[u8], from: usize) -> usize
+    requires { ⌜ from ≤ length (now s) ⌝ }
+    ensures { λ r. ⌜ Run (now (s .entry)) from r ⌝ }
+{
+    let mut at = from;
+    while 256 <= s.len() - at {
+        if most_below(s, at) {
+            at += 256;
+        } else {
+            return at;
+        }
+    }
+    at
+}
+
+// 64 a turn.
 fn past_many(s: &[u8], from: usize) -> usize
     requires { ⌜ from ≤ length (now s) ⌝ }
     ensures { λ r. ⌜ Run (now (s .entry)) from r ⌝ }
@@ -62,7 +86,7 @@ fn past_many(s: &[u8], from: usize) -> usize
     at
 }
 
-// Past eights below 128, one a turn.
+// Eight a turn.
 fn past_eights(s: &[u8], from: usize) -> usize
     requires { ⌜ from ≤ length (now s) ⌝ }
     ensures { λ r. ⌜ Run (now (s .entry)) from r ⌝ }
@@ -78,14 +102,14 @@ fn past_eights(s: &[u8], from: usize) -> usize
     at
 }
 
-// Past eights below 128, if there is one at `from`.
+// Past bytes below 128, if eight stand at `from`.
 fn past_run(s: &[u8], from: usize) -> usize
     requires { ⌜ from ≤ length (now s) ⌝ }
     ensures { λ r. ⌜ Run (now (s .entry)) from r ⌝ }
 {
     if 8 <= s.len() - from {
         if eight_below(s, from) {
-            return past_eights(s, past_many(s, from + 8));
+            return past_eights(s, past_many(s, past_most(s, from + 8)));
         }
     }
     from

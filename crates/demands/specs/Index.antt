@@ -118,7 +118,7 @@ module _ (T : List ℕ) (rows : ℕ) (s : List ℕ) (e : writable T rows s ≡ t
     -- IN BYTE ORDER: the key of each is before the key of every later one, so none is named twice;
     pub filled-sorted : (i j : ℕ) → i < j → j < length its → compared (textOf s (row (getD es i unused .key))) (textOf s (row (getD es j unused .key))) ≡ Before
     filled-sorted i j h l =
-        let c = index.ordered-count (roomOf 4096 (length T)) row rows s its stand (omega arith) most within in
+        let c = index.sorted-count (roomOf 4096 (length T)) row rows s its stand (omega arith) most within in
         rw (
           is,
           index.entry-used (roomOf 4096 (length T)) row rows s its stand (omega arith) most within n i (omega (arith, filled-room)) (omega (arith, c)),
@@ -132,7 +132,7 @@ module _ (T : List ℕ) (rows : ℕ) (s : List ℕ) (e : writable T rows s ≡ t
     -- and the rest are unused.
     pub filled-rest : (i : ℕ) → length its ≤ i → i < n → getD es i unused ≡ unused
     filled-rest i h l =
-        rw is (index.entries-past (index.itsOrder T rows s r) n i l (omega (arith, index.ordered-count (roomOf 4096 (length T)) row rows s its stand (omega arith) most within)))
+        rw is (index.entries-past (index.itsOrder T rows s r) n i l (omega (arith, index.sorted-count (roomOf 4096 (length T)) row rows s its stand (omega arith) most within)))
 
     -- EVERY KEY, present or not, is answered through it as by the lookup from the front, decimals and refusals included.
     pub filled-finds : n < 2 ^ 64 → (key : List ℕ) → through T rows s r es key ≡ lookup T rows s r key

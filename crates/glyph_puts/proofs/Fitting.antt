@@ -2,7 +2,7 @@
 use mathlib.Core.Path.{_≡_, refl, sym, _∙_}
 use mathlib.Core.Bool.{Bool, true, false}
 use mathlib.Core.List.{List, []}
-use Prim.Native.Nat.{ℕ, zero, suc, _+_, _-_, _*_, _≤_, _<_}
+use Prim.Native.Nat.{ℕ, zero, suc, _+_, _-_, _*_, _/_, _≤_, _<_}
 use native.Mathlib.Omega.{arith}
 use native.Mathlib.Numerals.{sub-one}
 use mir.Syntax.{w64}
@@ -149,13 +149,13 @@ module _ (row : ℕ → Row) (rows : ℕ) (s : List ℕ) where
 
     -- what is below it
     module _ (deep : ℕ) (room : ℕ) (stated : rows ≤ room) (spare : ℕ) where
-      fit-at : (w : Want) (r : ℕ) {n : ℕ} → object row rows s e deep w r ≡ Until n → n ≤ r + 1 + 2 * spare → Fit row room s e deep spare r
+      fit-at : (w : Want) (r : ℕ) {n : ℕ} → object row rows s e deep w r ≡ Until n → 3 * n ≤ 3 * (r + 1) + 4 * spare → Fit row room s e deep spare r
       fit-at w r {n} h l = record { rows = rows; stated = stated; want = w; stop = n; walk = h; span = l }
 
       abbrev below : Walk
       below = object row rows s e deep Any
 
-      children-at : (m : ℕ) (seen : Texts) (r : ℕ) {n : ℕ} → items (alike below) nothing m seen r ≡ Until n → n ≤ r + 2 * spare → Children row room s e deep spare m r
+      children-at : (m : ℕ) (seen : Texts) (r : ℕ) {n : ℕ} → items (alike below) nothing m seen r ≡ Until n → 3 * n ≤ 3 * r + 4 * spare → Children row room s e deep spare m r
       unfolding items alike
       children-at zero seen r h l = no-child
       children-at (suc m) seen r h l =
@@ -164,7 +164,7 @@ module _ (row : ℕ → Row) (rows : ℕ) (s : List ℕ) where
           let b = objects-on below (λ k i g. object-ended deep Any k g .on) m (nothing seen r) (z .0) (z .2) in
           child {n = m} (fit-at Any r (z .1) (omega (arith, b))) (rw (a .is) (children-at m (nothing seen r) (z .0) (z .2) (omega (arith, a .on))))
 
-      members-at : (m : ℕ) (seen : Texts) (r : ℕ) {n : ℕ} → items (member row rows s below) (keeping row rows s) m seen r ≡ Until n → n ≤ r + 2 * m + 2 * spare → Members row room s e deep spare m r
+      members-at : (m : ℕ) (seen : Texts) (r : ℕ) {n : ℕ} → items (member row rows s below) (keeping row rows s) m seen r ≡ Until n → 3 * n ≤ 3 * r + 4 * m + 4 * spare → Members row room s e deep spare m r
       unfolding items
       members-at zero seen r h l = no-member
       members-at (suc m) seen r h l =
@@ -174,7 +174,7 @@ module _ (row : ℕ → Row) (rows : ℕ) (s : List ℕ) where
           let b = members-on below (λ k i g. object-ended deep Any k g .on) m (keeping row rows s seen r) (z .0) (z .2) in
           one-member {n = m} (fit-at Any (r + 1) v (omega (arith, b))) (rw (a .is) (members-at m (keeping row rows s seen r) (z .0) (z .2) (omega (arith, a .on))))
 
-      three-at : (u v : Want) (r : ℕ) {n : ℕ} → pair (object row rows s e deep u) (pair (object row rows s e deep v) below) r ≡ Until n → n ≤ r + 2 * spare → Children row room s e deep spare 3 r
+      three-at : (u v : Want) (r : ℕ) {n : ℕ} → pair (object row rows s e deep u) (pair (object row rows s e deep v) below) r ≡ Until n → 3 * n ≤ 3 * r + 4 * spare → Children row room s e deep spare 3 r
       unfolding pair
       three-at u v r h l =
           let z = then-end (object row rows s e deep u r) (pair (object row rows s e deep v) below) h in
@@ -219,7 +219,7 @@ module _ {row : ℕ → Row} {room : ℕ} {s : List ℕ} {e : Edition} {deep spa
   unfolding entries entry kept
   ordered-below d = members-at row (a .rows) s e deep room (a .stated) spare (row r .b) [] (r + 1) (many-end d) (omega (arith, a .span))
 
-  dict-few : Stands row e r (Many Dict) → row r .b ≤ spare
+  dict-few : Stands row e r (Many Dict) → row r .b + row r .b / 2 ≤ spare
   unfolding entries entry kept
   dict-few d = omega (arith, a .span, members-on row (a .rows) s (object row (a .rows) s e deep Any) (λ k i g. object-ended row (a .rows) s e deep Any k g .on) (row r .b) [] (r + 1) (many-end d))
 
@@ -245,7 +245,7 @@ module _ {row : ℕ → Row} {room : ℕ} {s : List ℕ} {e : Edition} {deep spa
     pub ordered-members : l ≡ Ordered → Members row room s e (deep - 1) spare n (r + 1)
     ordered-members t = rw q (ordered-below (less a z) (rw t at d))
 
-    pub dict-spare : l ≡ Dict → n ≤ spare
+    pub dict-spare : l ≡ Dict → n + n / 2 ≤ spare
     dict-spare t = rw q (dict-few (less a z) (rw t at d))
 
     pub dict-members : l ≡ Dict → Members row room s e (deep - 1) (spare - n) n (r + 1)

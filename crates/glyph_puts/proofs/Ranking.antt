@@ -12,8 +12,8 @@ use Rattle.order.specs.declared.Relation.the-variants.{Before, Equal, After}
 use Rattle.order.specs.ByteOrder.{compared}
 use Rattle.draft.specs.declared.Row.{Row}
 use Rattle.draft.specs.Read.{textOf}
-use Rattle.sorting.specs.Sorting.{keyText, isBefore, before, spot, insertAt, inserted}
-use Rattle.key_order.specs.Arranged.{keyRows, sorted, over, arranged}
+use Rattle.sorting.specs.Sorting.{keyText, isBefore, before, spot, insertAt, inserted, sorted}
+use Rattle.key_order.specs.Arranged.{keyRows, over, arranged}
 use Rattle.glyph.specs.declared.Edition.{Edition}
 use Rattle.glyph.specs.Tree.{Tree, Pairs, pair}
 use Rattle.glyph_form.specs.Told.{pairs, treeAt}

@@ -26,14 +26,14 @@ pub record Ready (room words bytes : ℕ) : Type 0 where
   pub table : room * 4 ≤ words
   pub short : bytes ≤ 65536
 
--- the object at row r is writable among the rows that there are, and two words of `order` are left for each two of its rows below the first
+-- the object at row r is writable among the rows that there are, and three words of `order` are left for each four of its rows below the first
 pub record Fit (row : ℕ → Row) (room : ℕ) (s : List ℕ) (e : Edition) (deep spare r : ℕ) : Type 0 where
   pub rows : ℕ
   pub stated : rows ≤ room
   pub want : Want
   pub stop : ℕ
   pub walk : object row rows s e deep want r ≡ Until stop
-  pub span : stop ≤ r + 1 + 2 * spare
+  pub span : 3 * stop ≤ 3 * (r + 1) + 4 * spare
 
 module _ (row : ℕ → Row) (room : ℕ) (s : List ℕ) (e : Edition) (deep spare : ℕ) where
   -- n of them, one after the other

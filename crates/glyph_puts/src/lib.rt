@@ -10,7 +10,7 @@ use glyph_form::Sort;
 ghost use mathlib.Core.Path.{_≡_};
 ghost use mathlib.Core.Bool.{cond};
 ghost use mathlib.Core.List.{[], _∷_, _++_};
-ghost use Prim.Native.Nat.{_+_, _-_, _*_, _≤_, _<_};
+ghost use Prim.Native.Nat.{_+_, _-_, _*_, _/_, _≤_, _<_};
 ghost use lib.Dec.{eqb};
 ghost use lib.ListN.{length, take};
 ghost use Rattle.draft.specs.Read.{textOf};
@@ -299,10 +299,10 @@ fn put_dict(
     at: usize,
     out: &mut [u8],
 ) -> usize
-    requires { ⌜ Ready room (length (now table)) (length (now text)) × Open most (length (now out)) at × (n ≤ length (now order)) × Members (rowAt room (now table)) room (now text) edition deep (length (now order) - n) n first ⌝ }
+    requires { ⌜ Ready room (length (now table)) (length (now text)) × Open most (length (now out)) at × (n + n / 2 ≤ length (now order)) × Members (rowAt room (now table)) room (now text) edition deep (length (now order) - n) n first ⌝ }
     ensures { λ stop. ⌜ Adds (68 ∷ (dictBytes (rowAt room (now (table .entry))) (now (text .entry)) edition deep n first ++ (59 ∷ []))) most (now (out .entry)) at (now (out .exit)) stop ⌝ }
 {
-    key_order::arrange_front(table, room, text, n, first, most, order);
+    key_order::arrange(table, room, text, n, first, most, order);
     let start = glyph_output::put_byte(out, most, at, b'D');
     put_ranked(edition, table, room, text, deep, n, order, most, start, out)
 }

@@ -1,6 +1,5 @@
 -- What each kind names. Assumes nothing.
 use mathlib.Core.Path.{_≡_}
-use mathlib.Core.Bool.{Bool, true}
 use Prim.Native.Nat.{ℕ}
 use lib.Dec.{eqb}
 use borrow.Author.Tests.{ne-eqb}
@@ -9,10 +8,8 @@ use Rattle.glyph.specs.declared.Edition.{Edition}
 use Rattle.glyph.specs.declared.Edition.the-variants.{New, Old}
 use Rattle.glyph.specs.declared.Many.the-variants.{List, Dict, Ordered}
 use Rattle.glyph.specs.declared.Three.the-variants.{Extension, Node}
-use Rattle.glyph.specs.declared.Want.{Want}
-use Rattle.glyph.specs.declared.Want.the-variants.{Any, Text as Unicode, EitherDict}
 use Rattle.glyph_form.specs.declared.Sort.the-variants.{Integer, Boolean, Content, Nil, Many, Three, Unknown}
-use Rattle.glyph_form.specs.Sorts.{sortOf, meets}
+use Rattle.glyph_form.specs.Sorts.{sortOf}
 
 module _ (e : Edition) (k : ℕ) where
   pub sort-integer : k ≡ 4 → Integer ≡ sortOf e k
@@ -63,24 +60,4 @@ module _ (e : Edition) (k : ℕ) where
   unfolding sortOf
   sort-unknown h₀ h₁ h₂ h₃ h₄ h₅ h₆ h₇ h₈ h₉ = rw (ne-eqb _ _ h₀, ne-eqb _ _ h₁, ne-eqb _ _ h₂, ne-eqb _ _ h₃, ne-eqb _ _ h₄, ne-eqb _ _ h₅, ne-eqb _ _ h₆, ne-eqb _ _ h₇, ne-eqb _ _ h₈, ne-eqb _ _ h₉)
 
--- which kinds may stand at a place
-pub meets-any : {w : Want} (k : ℕ) → w ≡ Any → true ≡ meets w k
-unfolding meets
-meets-any k e = rw e
-
-pub meets-unicode : {w : Want} (k : ℕ) → w ≡ Unicode → eqb k 11 ≡ meets w k
-unfolding meets
-meets-unicode k e = rw e
-
-pub meets-either : {w : Want} (k : ℕ) {b : Bool} → w ≡ EitherDict → b ≡ meets EitherDict k → b ≡ meets w k
-meets-either k e h = rw e h
-
-pub meets-dict : (k : ℕ) → k ≡ 10 → true ≡ meets EitherDict k
-unfolding meets
-meets-dict k e = rw e
-
-pub meets-ordered : (k : ℕ) → (k ≡ 10 → ⊥) → eqb k 14 ≡ meets EitherDict k
-unfolding meets
-meets-ordered k n = rw (ne-eqb k 10 n)
-
-pub ruleset kinds = (sort-integer, sort-boolean, sort-bytes, sort-list, sort-dict, sort-unicode, sort-nil, sort-ordered, sort-extension, sort-new-node, sort-old-node, sort-unknown, meets-any, meets-unicode, meets-either, meets-dict, meets-ordered)
+pub ruleset kinds = (sort-integer, sort-boolean, sort-bytes, sort-list, sort-dict, sort-unicode, sort-nil, sort-ordered, sort-extension, sort-new-node, sort-old-node, sort-unknown)

@@ -1,13 +1,18 @@
-// What a row's kind names in an edition, and whether such an object may stand at a place.
+// What a row's kind names in an edition, whether it is an object with children, and whether such a row may hold what it says.
 use draft::Content;
+use draft::Row;
 use glyph::Edition;
 use glyph::Many;
 use glyph::Three;
-use glyph::Want;
 use glyph_form::Sort;
 ghost use mathlib.Core.Path.{_≡_};
-ghost use Rattle.glyph_form.specs.Sorts.{sortOf, meets as meetsBy};
+ghost use Prim.Native.Nat.{_*_, _≤_, _<_};
+ghost use lib.ListN.{length};
+ghost use Rattle.draft.specs.Table.{rowAt};
+ghost use Rattle.glyph_form.specs.Sorts.{sortOf};
+ghost use Rattle.glyph_rows.specs.Holding.{holds as holdsBy, isDict, named, mayHold};
 
+// What a kind names.
 pub fn sort_of(edition: Edition, kind: u32) -> Sort
     ensures { λ r. ⌜ r ≡ sortOf edition kind ⌝ }
 {
@@ -29,9 +34,23 @@ pub fn sort_of(edition: Edition, kind: u32) -> Sort
     }
 }
 
+// Whether a kind is that of an object with children.
+pub fn holds(kind: u32) -> bool
+    ensures { λ b. ⌜ b ≡ holdsBy kind ⌝ }
+{
+    match kind {
+        9 => true,
+        10 => true,
+        14 => true,
+        15 => true,
+        16 => true,
+        _ => false,
+    }
+}
+
 // Whether a kind is a dict's or an ordered_dict's.
-fn is_dict(kind: u32) -> bool
-    ensures { λ b. ⌜ b ≡ meetsBy Want.EitherDict kind ⌝ }
+pub fn is_dict(kind: u32) -> bool
+    ensures { λ b. ⌜ b ≡ isDict kind ⌝ }
 {
     if kind == 10 {
         return true;
@@ -39,13 +58,49 @@ fn is_dict(kind: u32) -> bool
     kind == 14
 }
 
-// Whether an object of this kind may stand at a place.
-pub fn meets(want: Want, kind: u32) -> bool
-    ensures { λ b. ⌜ b ≡ meetsBy want kind ⌝ }
+// Whether a unicode and either dict stand below row r, as an extension's name and attributes.
+fn is_named(table: &[u32], room: usize, rows: usize, r: usize) -> bool
+    requires { ⌜ (r < rows) × (rows ≤ room) × (room ≤ 4096) × (room * 4 ≤ length (now table)) ⌝ }
+    ensures { λ b. ⌜ b ≡ named (rowAt room (now (table .entry))) rows r ⌝ }
 {
-    match want {
-        Want::Any => true,
-        Want::Text => kind == 11,
-        Want::EitherDict => is_dict(kind),
+    if rows <= r + 2 {
+        return false;
+    }
+    let name = table::get_row(table, room, r + 1);
+    if name.kind == 11 {
+        let attributes = table::get_row(table, room, r + 2);
+        return is_dict(attributes.kind);
+    }
+    false
+}
+
+// Whether row r may hold what it says: any number of objects or pairs, but an extension a name, attributes and a content, and a node three objects.
+pub fn may_hold(
+    edition: Edition,
+    table: &[u32],
+    room: usize,
+    rows: usize,
+    row: Row,
+    r: usize,
+) -> bool
+    requires { ⌜ (r < rows) × (rows ≤ room) × (room ≤ 4096) × (room * 4 ≤ length (now table)) ⌝ }
+    ensures { λ b. ⌜ b ≡ mayHold (rowAt room (now (table .entry))) rows edition row r ⌝ }
+{
+    let kind = row.kind;
+    match kind {
+        9 => true,
+        10 => true,
+        14 => true,
+        15 => {
+            if row.b == 3 {
+                return is_named(table, room, rows, r);
+            }
+            false
+        }
+        16 => match edition {
+            Edition::New => false,
+            Edition::Old => row.b == 3,
+        },
+        _ => false,
     }
 }

@@ -30,18 +30,7 @@ fn walk_root(
     requires { ⌜ Walkable (now text) room rows (now table) good × Entries rows (length (now notes)) × (now notes ≡ replicate (length (now notes)) 0) ⌝ }
     ensures { λ e. ⌜ extentOf e ≡ object (rowAt room (now (table .entry))) rows (now (text .entry)) edition deep Want.Any 0 ⌝ }
 {
-    glyph_walks::walk_object(
-        edition,
-        Want::Any,
-        table,
-        room,
-        rows,
-        text,
-        good,
-        deep,
-        0,
-        notes,
-    )
+    glyph_walks::walk_object(edition, table, room, rows, text, good, deep, 0, notes)
 }
 
 // Notes on keys for up to 64 rows. Laying out the largest takes longer than walking a small table, so a small one gets small ones; the

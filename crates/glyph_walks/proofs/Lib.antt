@@ -1,1 +1,3 @@
+pub mod Childless
+pub mod Holding
 pub mod Walks

@@ -1,27 +1,53 @@
-// The rows of objects, as the writer of an edition walks them. `walk_object` walks one, `walk_entries` the objects of a list or the pairs of a
-// dict; they call one another in a cycle, in which `deep`, the nesting left, falls at each object with children. The keys of all dicts are
-// noted in the lent words `notes`.
+// The rows of objects, as the writer of an edition walks them. `walk_object` walks one. `walk_entries` walks the objects of a list or the pairs
+// of a dict, and `walk_container` an object with children; they call one another in a cycle, in which `deep`, the nesting left, falls at
+// each. The keys of all dicts are noted in the lent words `notes`. Objects without children are walked in the loop: a function of a
+// cycle is never inlined.
+use draft::Content;
 use draft::Row;
 use glyph::Edition;
-use glyph::Many;
-use glyph::Three;
 use glyph::Want;
-use glyph_form::Sort;
 ghost use mathlib.Core.Path.{_≡_};
+ghost use mathlib.Core.Bool.{true};
 ghost use Prim.Native.Nat.{_+_, _<_};
 ghost use lib.ListN.{length};
 ghost use Rattle.draft.specs.Table.{rowAt};
+ghost use Rattle.extents.specs.Asked.{Walkable};
 ghost use Rattle.extents.specs.Ends.{extentOf};
 ghost use Rattle.keys.specs.Notes.{named};
 ghost use Rattle.key_rows.specs.Contract.{Prepared, Done};
 ghost use Rattle.containers.specs.Items.{entries};
-ghost use Rattle.glyph_form.specs.Writable.{manyItem, threeItem, object};
-ghost use Rattle.glyph_walks.specs.Contract.{Met, nested};
+ghost use Rattle.glyph_rows.specs.Holding.{holds as holdsBy};
+ghost use Rattle.glyph_form.specs.Sorts.{sortOf};
+ghost use Rattle.glyph_form.specs.Writable.{item, object};
+ghost use Rattle.glyph_walks.specs.Contract.{Met, Here, nested, childless};
 
-// The list or the dict of row r.
-fn walk_many(
+// An object without children, by its row. It is the same in both editions.
+fn walk_leaf(
+    table: &[u32],
+    room: usize,
+    rows: usize,
+    text: &[u8],
+    good: usize,
+    row: Row,
+    r: usize,
+) -> usize
+    requires { ⌜ Walkable (now text) room rows (now table) good × Here (rowAt room (now table)) rows row r ⌝ }
+    ensures { λ e. ⌜ extentOf e ≡ childless (rowAt room (now (table .entry))) rows (now (text .entry)) row r ⌝ }
+{
+    let kind = row.kind;
+    match kind {
+        4 => extents::walk_integer(row, r),
+        5 => extents::walk_boolean(row, r),
+        8 => extents::walk_content(text, Content::Binary, row, r, good),
+        11 => extents::walk_content(text, Content::Text, row, r, good),
+        13 => extents::close_holding(0, row, r + 1),
+        _ => 0,
+    }
+}
+
+// The object with children of row r.
+fn walk_container(
     edition: Edition,
-    many: Many,
     table: &[u32],
     room: usize,
     rows: usize,
@@ -32,155 +58,31 @@ fn walk_many(
     r: usize,
     notes: &mut [u16],
 ) -> usize
-    requires { ⌜ (r < 4096) × Met (now text) room rows (now table) good r (now notes) ⌝ }
-    ensures { λ e. ⌜ Done (manyItem (rowAt room (now (table .entry))) rows (now (text .entry)) many (nested (rowAt room (now (table .entry))) rows (now (text .entry)) edition deep) row r) (named (now (text .entry)) room (now (table .entry))) (now (notes .entry)) (now (notes .exit)) r e ⌝ }
+    requires { ⌜ (holdsBy (row .kind) ≡ true) × Here (rowAt room (now table)) rows row r × Met (now text) room rows (now table) good r (now notes) ⌝ }
+    ensures { λ e. ⌜ Done (item (rowAt room (now (table .entry))) rows (now (text .entry)) (sortOf edition (row .kind)) (nested (rowAt room (now (table .entry))) rows (now (text .entry)) edition deep) row r) (named (now (text .entry)) room (now (table .entry))) (now (notes .entry)) (now (notes .exit)) r e ⌝ }
 {
     if deep == 0 {
         return 0;
     }
-    let keyed = glyph_bytes::is_keyed(many);
-    let n = row.b as usize;
-    let next = walk_entries(
-        edition,
-        table,
-        room,
-        rows,
-        text,
-        good,
-        deep - 1,
-        n,
-        keyed,
-        r + 1,
-        notes,
-    );
-    extents::close_over(row, next)
-}
-
-// The extension or the node of row r: its name, its attributes and its content.
-fn walk_three(
-    edition: Edition,
-    three: Three,
-    table: &[u32],
-    room: usize,
-    rows: usize,
-    text: &[u8],
-    good: usize,
-    deep: usize,
-    row: Row,
-    r: usize,
-    notes: &mut [u16],
-) -> usize
-    requires { ⌜ (r < 4096) × Met (now text) room rows (now table) good r (now notes) ⌝ }
-    ensures { λ e. ⌜ Done (threeItem (rowAt room (now (table .entry))) rows (now (text .entry)) three (nested (rowAt room (now (table .entry))) rows (now (text .entry)) edition deep) row r) (named (now (text .entry)) room (now (table .entry))) (now (notes .entry)) (now (notes .exit)) r e ⌝ }
-{
-    if deep == 0 {
-        return 0;
+    if glyph_rows::may_hold(edition, table, room, rows, row, r) {
+        let keyed = glyph_rows::is_dict(row.kind);
+        let n = row.b as usize;
+        let next = walk_entries(
+            edition,
+            table,
+            room,
+            rows,
+            text,
+            good,
+            deep - 1,
+            n,
+            keyed,
+            r + 1,
+            notes,
+        );
+        return extents::close_over(row, next);
     }
-    let name = glyph_bytes::name_want(three);
-    let second = walk_object(
-        edition,
-        name,
-        table,
-        room,
-        rows,
-        text,
-        good,
-        deep - 1,
-        r + 1,
-        notes,
-    );
-    if second == 0 {
-        return 0;
-    }
-    let either = glyph_bytes::attributes_want(three);
-    let third = walk_object(
-        edition,
-        either,
-        table,
-        room,
-        rows,
-        text,
-        good,
-        deep - 1,
-        second,
-        notes,
-    );
-    if third == 0 {
-        return 0;
-    }
-    let next = walk_object(
-        edition,
-        Want::Any,
-        table,
-        room,
-        rows,
-        text,
-        good,
-        deep - 1,
-        third,
-        notes,
-    );
-    extents::close_holding(3, row, next)
-}
-
-// The object of row r, where only such a one may stand.
-pub fn walk_object(
-    edition: Edition,
-    want: Want,
-    table: &[u32],
-    room: usize,
-    rows: usize,
-    text: &[u8],
-    good: usize,
-    deep: usize,
-    r: usize,
-    notes: &mut [u16],
-) -> usize
-    requires { ⌜ Met (now text) room rows (now table) good r (now notes) ⌝ }
-    ensures { λ e. ⌜ Done (object (rowAt room (now (table .entry))) rows (now (text .entry)) edition deep want r) (named (now (text .entry)) room (now (table .entry))) (now (notes .entry)) (now (notes .exit)) r e ⌝ }
-{
-    if rows <= r {
-        return 0;
-    }
-    let row = table::get_row(table, room, r);
-    if glyph_rows::meets(want, row.kind) {
-        let sort = glyph_rows::sort_of(edition, row.kind);
-        match sort {
-            Sort::Integer => extents::walk_integer(row, r),
-            Sort::Boolean => extents::walk_boolean(row, r),
-            Sort::Content(content) => extents::walk_content(text, content, row, r, good),
-            Sort::Nil => extents::close_holding(0, row, r + 1),
-            Sort::Many(many) => walk_many(
-                edition,
-                many,
-                table,
-                room,
-                rows,
-                text,
-                good,
-                deep,
-                row,
-                r,
-                notes,
-            ),
-            Sort::Three(three) => walk_three(
-                edition,
-                three,
-                table,
-                room,
-                rows,
-                text,
-                good,
-                deep,
-                row,
-                r,
-                notes,
-            ),
-            Sort::Unknown => 0,
-        }
-    } else {
-        0
-    }
+    0
 }
 
 // n objects, one after the other, each behind its key if they have keys. Their dict is known to the notes by the row where they begin.
@@ -207,23 +109,50 @@ fn walk_entries(
         if at == 0 {
             return 0;
         }
-        let next = walk_object(
-            edition,
-            Want::Any,
-            table,
-            room,
-            rows,
-            text,
-            good,
-            deep,
-            at,
-            notes,
-        );
-        if next == 0 {
+        if rows <= at {
             return 0;
         }
-        here = next;
-        left -= 1;
+        let row = table::get_row(table, room, at);
+        if glyph_rows::holds(row.kind) {
+            let next = walk_container(edition, table, room, rows, text, good, deep, row, at, notes);
+            if next == 0 {
+                return 0;
+            }
+            here = next;
+            left -= 1;
+        } else {
+            let next = walk_leaf(table, room, rows, text, good, row, at);
+            if next == 0 {
+                return 0;
+            }
+            here = next;
+            left -= 1;
+        }
     }
     here
+}
+
+// The object of row r.
+pub fn walk_object(
+    edition: Edition,
+    table: &[u32],
+    room: usize,
+    rows: usize,
+    text: &[u8],
+    good: usize,
+    deep: usize,
+    r: usize,
+    notes: &mut [u16],
+) -> usize
+    requires { ⌜ Met (now text) room rows (now table) good r (now notes) ⌝ }
+    ensures { λ e. ⌜ extentOf e ≡ object (rowAt room (now (table .entry))) rows (now (text .entry)) edition deep Want.Any r ⌝ }
+{
+    if rows <= r {
+        return 0;
+    }
+    let row = table::get_row(table, room, r);
+    if glyph_rows::holds(row.kind) {
+        return walk_container(edition, table, room, rows, text, good, deep, row, r, notes);
+    }
+    walk_leaf(table, room, rows, text, good, row, r)
 }

@@ -57,7 +57,7 @@ module _ (e : Edition) (limit : ℕ) (T : List ℕ) (rows : ℕ) (s : List ℕ) 
       let p = both (leb (length s) 65536) _ w in
       record { most = omega (arith, g); table = omega (arith, g); short = leb-true (length s) 65536 (p .0) }
 
-  pub root-fit : (spare : ℕ) → rows ≤ 1 + 2 * spare → Fit (rowAt room T) room s e limit spare 0
+  pub root-fit : (spare : ℕ) → 3 * rows ≤ 3 + 4 * spare → Fit (rowAt room T) room s e limit spare 0
   unfolding writable writableWithin
   root-fit spare h =
       let p = both (leb (length s) 65536) _ w in
@@ -75,15 +75,15 @@ module _ (e : Edition) (limit : ℕ) (T : List ℕ) (rows : ℕ) (s : List ℕ) 
         span = omega arith;
       }
 
-  pub root-few : rows ≤ 65 → Fit (rowAt room T) room s e limit 32 0
-  root-few h = root-fit 32 (omega arith)
+  pub root-few : rows ≤ 65 → Fit (rowAt room T) room s e limit 48 0
+  root-few h = root-fit 48 (omega arith)
 
   most-rows : rows ≤ 4096
   unfolding writable writableWithin
   most-rows = leb-true rows 4096 (both (leb rows 4096) _ (both (leb 1 rows) _ (both (leb (length s) 65536) _ w .1) .1) .0)
 
-  pub root-many : Fit (rowAt room T) room s e limit 2048 0
-  root-many = root-fit 2048 (omega (arith, most-rows))
+  pub root-many : Fit (rowAt room T) room s e limit 3072 0
+  root-many = root-fit 3072 (omega (arith, most-rows))
 
 pub form-put : (e : Edition) (limit : ℕ) (T s : List ℕ) {room most : ℕ} {o : List ℕ} {at : ℕ} {o′ : List ℕ} {n : ℕ} → room ≡ roomOf 4096 (length T) → Adds (objectBytes (rowAt room T) s e limit 0) most o at o′ n → Adds (formOf e limit T s) most o at o′ n
 unfolding formOf formWithin objectBytes

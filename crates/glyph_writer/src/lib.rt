@@ -58,10 +58,10 @@ fn put_few(
     most: usize,
     output: &mut [u8],
 ) -> usize
-    requires { ⌜ Ready room (length (now table)) (length (now text)) × Open most (length (now output)) 0 × Fit (rowAt room (now table)) room (now text) edition limit 32 0 ⌝ }
+    requires { ⌜ Ready room (length (now table)) (length (now text)) × Open most (length (now output)) 0 × Fit (rowAt room (now table)) room (now text) edition limit 48 0 ⌝ }
     ensures { λ n. ⌜ Adds (objectBytes (rowAt room (now (table .entry))) (now (text .entry)) edition limit 0) most (now (output .entry)) 0 (now (output .exit)) n ⌝ }
 {
-    let mut words = [0u32; 32];
+    let mut words = [0u32; 48];
     let order: &mut [u32] = &mut words;
     glyph_puts::put_object(edition, table, room, text, limit, 0, order, most, 0, output)
 }
@@ -76,10 +76,10 @@ fn put_many(
     most: usize,
     output: &mut [u8],
 ) -> usize
-    requires { ⌜ Ready room (length (now table)) (length (now text)) × Open most (length (now output)) 0 × Fit (rowAt room (now table)) room (now text) edition limit 2048 0 ⌝ }
+    requires { ⌜ Ready room (length (now table)) (length (now text)) × Open most (length (now output)) 0 × Fit (rowAt room (now table)) room (now text) edition limit 3072 0 ⌝ }
     ensures { λ n. ⌜ Adds (objectBytes (rowAt room (now (table .entry))) (now (text .entry)) edition limit 0) most (now (output .entry)) 0 (now (output .exit)) n ⌝ }
 {
-    let mut words = [0u32; 2048];
+    let mut words = [0u32; 3072];
     let order: &mut [u32] = &mut words;
     glyph_puts::put_object(edition, table, room, text, limit, 0, order, most, 0, output)
 }

@@ -1,20 +1,21 @@
 -- What answers the needs of the functions that put a Struct's key rows in order. Assumes nothing.
 use mathlib.Core.Path.{_≡_, refl, sym, ap, _∙_}
 use mathlib.Core.Bool.{Bool, true, false}
-use mathlib.Core.List.{List, [], _++_}
-use Prim.Native.Nat.{ℕ, zero, suc, _+_, _-_, _≤_, _<_}
+use mathlib.Core.List.{List, [], _∷_, _++_, append-assoc, append-nil}
+use Prim.Native.Nat.{ℕ, zero, suc, _+_, _-_, _/_, _≤_, _<_}
 use native.Mathlib.Omega.{arith}
-use lib.ListN.{length, take, drop, replicate, length-append, length-replicate}
-use lib.Seq.{take-at, drop-append-add}
+use lib.ListN.{length, set, take, drop, replicate, length-append, length-drop, length-replicate, drop-of-length-le}
+use lib.Seq.{take-at, set-at, length-take-le}
 use borrow.Author.Tests.{lt-ltb, le-ltb}
 use Rattle.draft.specs.declared.Row.{Row}
 use Rattle.draft.specs.Table.{roomOf, rowAt}
 use Rattle.draft.specs.Writable.{writable}
 use Rattle.member.specs.Members.{membersFrom, isStruct, members}
 use Rattle.member.proofs.Counting.{from-none, from-past, from-more}
-use Rattle.sorting.specs.Sorting.{keyText, inserted, ordered, Rising}
-use Rattle.sorting.proofs.Inserting.{length-inserted, rising-none, rising-inserted}
-use Rattle.index.specs.Filling.{keyRows, padded, refusalIn, orderIn, Arranged, refusalOf, orderOf, Listed}
+use Rattle.sorting.specs.Sorting.{keyText, sorted}
+use Rattle.sorting.proofs.Inserting.{sorted-length}
+use Rattle.index.proofs.Members.{rows-length}
+use Rattle.index.specs.Filling.{keyRows, padded, Gathered, refusalIn, orderIn, Arranged, refusalOf, orderOf, Listed}
 
 -- ---- the loop over the members
 
@@ -22,87 +23,99 @@ drop-one : (n : ℕ) → drop {A = ℕ} 1 (replicate n 0) ≡ replicate (n - 1) 
 drop-one zero = refl
 drop-one (suc n) = let e : suc n - 1 ≡ n = omega arith in rw e refl
 
-module _ (room : ℕ) (row : ℕ → Row) (rows : ℕ) (s : List ℕ) where
-  abbrev text : ℕ → List ℕ
-  text = keyText room row s
+-- key rows, and zeros behind them
+padded-front : (ks : List ℕ) → take (length ks) (padded ks) ≡ ks
+unfolding padded
+padded-front ks = take-at ks (replicate (3071 - length ks) 0) (length ks) refl
 
-  -- c members are in order, and the others are still to come
-  pub record Sorting (n first left here c : ℕ) (order : List ℕ) : Type 0 where
+module _ (ks : List ℕ) (few : length ks ≤ 2047) where
+  padded-length : length (padded ks) ≡ 3071
+  unfolding padded
+  padded-length = simp (length-append, length-replicate) (omega arith)
+
+  -- one more
+  padded-more : (k : ℕ) → set (padded ks) (length ks) k ≡ padded (ks ++ (k ∷ []))
+  unfolding padded
+  padded-more k =
+      let e : 3071 - length ks ≡ suc (3070 - length ks) = omega arith in
+      let f : 3071 - length (ks ++ (k ∷ [])) ≡ 3070 - length ks = rw length-append (omega arith) in
+      rw e (set-at ks 0 (replicate (3070 - length ks) 0) k (length ks) refl ∙ sym (rw (f, append-assoc)))
+
+module _ (row : ℕ → Row) (rows : ℕ) where
+  -- c members are noted, and the others are still to come
+  pub record Gathering (n first left here c : ℕ) (order : List ℕ) : Type 0 where
     pub done : List ℕ
-    pub few : c + length (membersFrom row rows left here) ≡ length (membersFrom row rows n first)
     pub most : length (membersFrom row rows n first) ≤ 2047
+    pub few : c ≤ 2047
     pub count : c ≡ length done
-    pub rising : Rising text done
     pub holds : order ≡ padded done
-    pub comes : ordered text done (keyRows (membersFrom row rows left here)) ≡ ordered text [] (keyRows (membersFrom row rows n first))
+    pub comes : done ++ keyRows (membersFrom row rows left here) ≡ keyRows (membersFrom row rows n first)
 
-  pub sort-first : {n first : ℕ} {order : List ℕ} → length (membersFrom row rows n first) ≤ 2047 → order ≡ padded [] → Sorting n first n first 0 order
-  sort-first h e = record { done = []; few = omega arith; most = h; count = refl; rising = rising-none text; holds = e; comes = refl }
+  pub gather-first : {n first : ℕ} {order : List ℕ} → length (membersFrom row rows n first) ≤ 2047 → order ≡ padded [] → Gathering n first n first 0 order
+  gather-first h e = record { done = []; most = h; few = omega arith; count = refl; holds = e; comes = refl }
 
-  module _ {n first left here c : ℕ} {order : List ℕ} (w : Sorting n first left here c order) where
-    taken : take c order ≡ w .done
-    unfolding padded
-    taken = ap (take c) (w .holds) ∙ take-at (w .done) (replicate (2047 - length (w .done)) 0) c (sym (w .count))
+  module _ {n first left here c : ℕ} {order : List ℕ} (w : Gathering n first left here c order) where
+    all : c + length (membersFrom row rows left here) ≡ length (membersFrom row rows n first)
+    all =
+        let e : length (w .done) + length (keyRows (membersFrom row rows left here)) ≡ length (keyRows (membersFrom row rows n first)) = sym (length-append (w .done) (keyRows (membersFrom row rows left here))) ∙ ap length (w .comes) in
+        omega (arith, e, w .count, rows-length (membersFrom row rows left here), rows-length (membersFrom row rows n first))
 
-    dropped : drop (c + 1) order ≡ replicate (2047 - length (w .done) - 1) 0
-    unfolding padded
-    dropped =
-        ap (drop (c + 1)) (w .holds) ∙ ap (λ (m : ℕ). drop (m + 1) (padded (w .done))) (w .count)
-        ∙ drop-append-add (w .done) (replicate (2047 - length (w .done)) 0) 1 ∙ drop-one (2047 - length (w .done))
+    long : length order ≡ 3071
+    long = ap length (w .holds) ∙ padded-length (w .done) (omega (arith, w .few, w .count))
 
-    fewer : c ≤ 2047
-    fewer = omega (arith, w .few, w .most)
+    pub gather-kept : {order₀ : List ℕ} → order₀ ≡ padded [] → length order ≡ length order₀
+    gather-kept e = long ∙ sym (ap length e ∙ padded-length [] (omega arith))
 
-    long : length order ≡ 2047
-    unfolding padded
-    long =
-        let e : length (padded (w .done)) ≡ 2047 = simp (length-append, length-replicate) (omega (arith, w .count, fewer)) in
-        ap length (w .holds) ∙ e
+    gathered : keyRows (membersFrom row rows left here) ≡ [] → Gathered (keyRows (membersFrom row rows n first)) c order
+    gathered e =
+        let f : w .done ≡ keyRows (membersFrom row rows n first) = sym (append-nil (w .done)) ∙ rw e at (w .comes) in
+        record { count = w .count ∙ ap length f; room = omega (arith, w .few, long); holds = w .holds ∙ ap padded f }
 
-    pub sort-rising : Rising text (take c order)
-    sort-rising = rw taken (w .rising)
+    pub gather-none : left ≤ 0 → Gathered (keyRows (membersFrom row rows n first)) c order
+    unfolding keyRows
+    gather-none h = gathered (rw (from-none row rows left here h))
 
-    pub sort-kept : {order₀ : List ℕ} → order₀ ≡ padded [] → length order ≡ length order₀
-    unfolding padded
-    sort-kept e = long ∙ sym (ap length e)
+    pub gather-past : rows ≤ here + 1 → Gathered (keyRows (membersFrom row rows n first)) c order
+    unfolding keyRows
+    gather-past h = gathered (rw (from-past row rows left here h))
 
-    pub sort-none : left ≤ 0 → order ≡ padded (ordered text [] (keyRows (membersFrom row rows n first)))
-    unfolding ordered keyRows
-    sort-none h = w .holds ∙ ap padded (rw (from-none row rows left here h) at (w .comes))
+    pub gather-past-key : rows ≤ here → Gathered (keyRows (membersFrom row rows n first)) c order
+    gather-past-key h = gather-past (omega arith)
 
-    pub sort-past : rows ≤ here + 1 → order ≡ padded (ordered text [] (keyRows (membersFrom row rows n first)))
-    unfolding ordered keyRows
-    sort-past h = w .holds ∙ ap padded (rw (from-past row rows left here h) at (w .comes))
-
-    pub sort-past-key : rows ≤ here → order ≡ padded (ordered text [] (keyRows (membersFrom row rows n first)))
-    sort-past-key h = sort-past (omega arith)
+    pub gather-room : c < length order
+    gather-room = omega (arith, w .few, long)
 
     module _ (p : 0 < left) (h : here + 1 < rows) where
-      more : c + 1 + length (membersFrom row rows (left - 1) (row (here + 1) .end)) ≡ length (membersFrom row rows n first)
-      more = omega (arith, w .few, ap length (from-more row rows left here p h))
-
-      pub sort-room : c < length order
-      sort-room = omega (arith, more, w .most, long)
-
-      pub sort-again : {next : ℕ} {order′ : List ℕ} → order′ ≡ inserted text here (take c order) ++ drop (c + 1) order → next ≡ row (here + 1) .end → Sorting n first (left - 1) next (c + 1) order′
-      unfolding ordered keyRows padded
-      sort-again {order′ = order′} o e =
+      pub gather-again : {next : ℕ} → next ≡ row (here + 1) .end → Gathering n first (left - 1) next (c + 1) (set order c here)
+      unfolding keyRows
+      gather-again e =
           let d : List ℕ = w .done in
-          let k : ordered text (inserted text here d) (keyRows (membersFrom row rows (left - 1) (row (here + 1) .end))) ≡ ordered text [] (keyRows (membersFrom row rows n first)) =
-          rw (from-more row rows left here p h) at (w .comes) in
-          let m : length (inserted text here d) ≡ suc (length d) = length-inserted text here d in
-          let z : 2047 - length d - 1 ≡ 2047 - length (inserted text here d) = omega (arith, m) in
+          let k : d ++ (here ∷ keyRows (membersFrom row rows (left - 1) (row (here + 1) .end))) ≡ keyRows (membersFrom row rows n first) = rw (from-more row rows left here p h) at (w .comes) in
           record {
-            done = inserted text here d;
-            few = rw e more;
+            done = d ++ (here ∷ []);
             most = w .most;
-            count = omega (arith, m, w .count);
-            rising = rising-inserted text here d (w .rising);
-            holds = o ∙ rw (taken, dropped, z);
-            comes = rw e k;
+            few = omega (arith, all, w .most, ap length (from-more row rows left here p h));
+            count = rw length-append (omega (arith, w .count));
+            holds = rw (w .holds, w .count) (padded-more d (omega (arith, w .few, w .count)) here);
+            comes = rw (e, append-assoc) k;
           }
 
-pub ruleset sorting = (sort-first, sort-rising, sort-kept, sort-none, sort-past, sort-past-key, sort-room, sort-again)
+pub ruleset gathering = (gather-first, gather-kept, gather-none, gather-past, gather-past-key, gather-room, gather-again)
+
+-- ---- put in order
+
+-- zeros again behind key rows that were put in order
+pub sort-done :
+    (text : ℕ → List ℕ) {ks : List ℕ} {c : ℕ} {order : List ℕ} (w : List ℕ) {z : List ℕ} → Gathered ks c order → take c w ≡ sorted text (take c order) → length w ≡ length order
+    → z ≡ replicate (length (take (length w - c) (drop c w))) 0 → take c w ++ (z ++ drop (length w - c) (drop c w)) ≡ padded (sorted text ks)
+unfolding padded
+sort-done text {ks} {c} {order} w g e l f =
+    let u : length (padded ks) ≡ length ks + (3071 - length ks) = simp (length-append, length-replicate) in
+    let m : length order ≡ length ks + (3071 - length ks) = ap length (g .holds) ∙ u in
+    let a : take c order ≡ ks = rw (g .holds, g .count) (padded-front ks) in
+    let b : drop (length w - c) (drop c w) ≡ [] = drop-of-length-le (drop c w) {i = length w - c} (rw length-drop (omega arith)) in
+    let d : length (take (length w - c) (drop c w)) ≡ 3071 - length (sorted text ks) = rw (length-take-le (length w - c) (drop c w) (rw length-drop (omega arith)), sorted-length) (omega (arith, m, l, g .count)) in
+    rw (b, append-nil, f, d, e, a)
 
 -- ---- the Struct's row, and the count
 
@@ -131,7 +144,7 @@ module _ (room : ℕ) (row : ℕ → Row) (rows : ℕ) (s : List ℕ) (r n : ℕ
       pub few-members : c ≤ 2047 → length (membersFrom row rows (x .b) (r + 1)) ≤ 2047
       few-members h = rw (← its, ← i) h
 
-      pub arranged-all : {order : List ℕ} → c ≤ n → c ≤ 2047 → order ≡ padded (ordered (keyText room row s) [] (keyRows (membersFrom row rows (x .b) (r + 1)))) → Arranged room row rows s r n 0 order
+      pub arranged-all : {order : List ℕ} → c ≤ n → c ≤ 2047 → order ≡ padded (sorted (keyText room row s) (keyRows (membersFrom row rows (x .b) (r + 1)))) → Arranged room row rows s r n 0 order
       unfolding orderIn refusalIn
       arranged-all g h o =
           let j = le-ltb n (length (members row rows r)) (rw i at g) in

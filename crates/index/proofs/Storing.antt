@@ -103,7 +103,7 @@ same-from {A} f g e r (suc n) = rw (e r, same-from f g e (suc r) n)
 
 pub entries-padded : (ks : List ℕ) (n : ℕ) → from (λ i. entryOf (getD (padded ks) i 0)) 0 n ≡ entries ks n
 unfolding padded entries
-entries-padded ks n = same-from (λ i. entryOf (getD (padded ks) i 0)) (λ i. entryOf (getD ks i 0)) (λ i. ap entryOf (before-zeros (2047 - length ks) ks i)) 0 n
+entries-padded ks n = same-from (λ i. entryOf (getD (padded ks) i 0)) (λ i. entryOf (getD ks i 0)) (λ i. ap entryOf (before-zeros (3071 - length ks) ks i)) 0 n
 
 -- the entries of what sorting left are the index
 pub listed-entries :

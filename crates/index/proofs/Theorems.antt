@@ -26,8 +26,8 @@ use Rattle.lookup.specs.declared.Answer.the-variants.{Refused}
 use Rattle.lookup.specs.Answers.{answerAt, foundAnswer, pick, look, lookup}
 use Rattle.seeking.specs.Seeking.{over, begun, unused, searched}
 use Rattle.seeking.proofs.Finding.{Outcome, nothing, found, any-list, InOrder, Sought, none, hit, in-order-finds}
-use Rattle.sorting.specs.Sorting.{keyText, ordered, Rising}
-use Rattle.sorting.proofs.Inserting.{before-not, rising-none, ordered-rising, ordered-length, times, times-ordered, Stands, stands, times-at}
+use Rattle.sorting.specs.Sorting.{keyText, sorted, Rising}
+use Rattle.sorting.proofs.Inserting.{before-not, sorted-rising, sorted-length, times, times-sorted, Stands, stands, times-at}
 use Rattle.index.specs.Filling.{keyRows, refusalIn, orderIn, refusalOf, orderOf, entryOf, entries}
 use Rattle.index.specs.Through.{relationTo, isMember, foundRow, rowAnswer, throughIf, through}
 use Rattle.index.proofs.Storing.{getD-past, entry-here}
@@ -66,21 +66,21 @@ module _ (room : ℕ) (row : ℕ → Row) (rows : ℕ) (s : List ℕ) (ms : List
 
   -- the key rows in order
   abbrev ks : List ℕ
-  ks = ordered text [] (keyRows ms)
+  ks = sorted text (keyRows ms)
 
   is-text : (k : ℕ) → k < room → text k ≡ textOf s (row k)
   unfolding keyText
   is-text k h = rw (lt-ltb k room h)
 
   rises : Rising text ks
-  rises = ordered-rising text [] (keyRows ms) (rising-none text)
+  rises = sorted-rising text (keyRows ms)
 
   kept : (k : ℕ) → times k ks ≡ times k (keyRows ms)
   unfolding times
-  kept k = omega (arith, times-ordered text k [] (keyRows ms))
+  kept k = times-sorted text k (keyRows ms)
 
-  pub ordered-count : length ks ≡ length ms
-  ordered-count = omega (arith, ordered-length text [] (keyRows ms), rows-length ms)
+  pub sorted-count : length ks ≡ length ms
+  sorted-count = sorted-length text (keyRows ms) ∙ rows-length ms
 
   known : (i : ℕ) → i < length ks → KeyRow rows ms (getD ks i 0)
   known i h = key-row apart low (getD ks i 0) (rw (kept (getD ks i 0)) at (times-at ks i h))
@@ -121,11 +121,11 @@ module _ (room : ℕ) (row : ℕ → Row) (rows : ℕ) (s : List ℕ) (ms : List
     member-placed all m h =
         let u = of-key-row apart m h in
         let w = stands (m .key) ks (rw (kept (m .key)) (u .there)) in
-        let l : w .place < length ms = omega (arith, w .inside, ordered-count) in
+        let l : w .place < length ms = omega (arith, w .inside, sorted-count) in
         (w .place, l, entry-used (w .place) (omega arith) (w .inside) ∙ ap (λ (k : ℕ). memberOf k (k + 1)) (w .is) ∙ sym (u .is))
 
     pub entry-member : (i : ℕ) → i < n → i < length ms → isAmong (getD es i unused) ms ≡ true
-    entry-member i h l = let z : i < length ks = omega (arith, ordered-count) in rw (entry-used i h z) (known i z .among)
+    entry-member i h l = let z : i < length ks = omega (arith, sorted-count) in rw (entry-used i h z) (known i z .among)
 
     module _ (r : ℕ) (its : ms ≡ members row rows r) (key : List ℕ) where
       abbrev relation : Member → Relation
@@ -201,7 +201,7 @@ module _ (room : ℕ) (row : ℕ → Row) (rows : ℕ) (s : List ℕ) (ms : List
             absent : (k : ℕ) → 0 < times k (keyRows ms) → textOf s (row k) ≡ key → ⊥
             absent k h i =
                 let w = stood k h in
-                let l : w .place < n = omega (arith, w .inside, all, ordered-count) in
+                let l : w .place < n = omega (arith, w .inside, all, sorted-count) in
                 f (w .place) (rw (entries-length ks n) l)
                 (used-is (w .place) l (w .inside) ∙ ap (λ (x : ℕ). compared (textOf s (row x)) key) (w .is) ∙ ap (λ (x : List ℕ). compared x key) i ∙ compared-self key)
 
@@ -261,7 +261,7 @@ module _ (T : List ℕ) (rows : ℕ) (s : List ℕ) (r : ℕ) where
   itsMembers = members itsRow rows r
 
   abbrev pub itsOrder : List ℕ
-  itsOrder = ordered (keyText itsRoom itsRow s) [] (keyRows itsMembers)
+  itsOrder = sorted (keyText itsRoom itsRow s) (keyRows itsMembers)
 
   -- what the table's own rules give: it has room for its rows, and its members stand apart with distinct keys
   pub record Sound : Type 0 where

@@ -3,7 +3,7 @@
 use mathlib.Core.Path.{_≡_}
 use mathlib.Core.Bool.{cond, _||_}
 use mathlib.Core.List.{List, [], _∷_, _++_}
-use Prim.Native.Nat.{ℕ, _+_, _-_}
+use Prim.Native.Nat.{ℕ, _+_, _-_, _/_, _≤_}
 use lib.Dec.{ltb, eqb}
 use lib.ListN.{length, getD, replicate}
 use Rattle.draft.specs.declared.Row.{Row}
@@ -12,16 +12,22 @@ use Rattle.draft.specs.Writable.{writable}
 use Rattle.member.specs.declared.Member.{Member}
 use Rattle.member.specs.Members.{memberOf, isStruct, members}
 use Rattle.seeking.specs.Seeking.{unused}
-use Rattle.sorting.specs.Sorting.{keyText, ordered}
+use Rattle.sorting.specs.Sorting.{keyText, sorted}
 
 -- the key rows of members
 unfoldable pub keyRows : List Member → List ℕ
 keyRows [] = []
 keyRows (m ∷ ms) = m .key ∷ keyRows ms
 
--- key rows, and zeros behind them
+-- key rows, and zeros behind them: those of 2,047 members, and half as many words
 unfoldable pub padded : List ℕ → List ℕ
-padded xs = xs ++ replicate (2047 - length xs) 0
+padded xs = xs ++ replicate (3071 - length xs) 0
+
+-- c key rows, as they stand, and half as many words
+pub record Gathered (ks : List ℕ) (c : ℕ) (order : List ℕ) : Type 0 where
+  pub count : c ≡ length ks
+  pub room : c + c / 2 ≤ length order
+  pub holds : order ≡ padded ks
 
 -- the rows by their numbers, of a table with so much room
 module _ (room : ℕ) (row : ℕ → Row) (rows : ℕ) (s : List ℕ) (r n : ℕ) where
@@ -31,7 +37,7 @@ module _ (room : ℕ) (row : ℕ → Row) (rows : ℕ) (s : List ℕ) (r n : ℕ
 
   -- the key rows of the members in byte order of their texts; none if the call is refused
   unfoldable pub orderIn : List ℕ
-  orderIn = cond (eqb refusalIn 0) (ordered (keyText room row s) [] (keyRows (members row rows r))) []
+  orderIn = cond (eqb refusalIn 0) (sorted (keyText room row s) (keyRows (members row rows r))) []
 
   pub record Arranged (answer : ℕ) (order : List ℕ) : Type 0 where
     pub answers : answer ≡ refusalIn

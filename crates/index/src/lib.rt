@@ -16,8 +16,8 @@ ghost use Rattle.draft.specs.Writable.{writable as writableIn};
 ghost use Rattle.member.specs.Members.{membersFrom, members};
 ghost use Rattle.lookup.specs.Reports.{reportOf};
 ghost use Rattle.seeking.specs.Seeking.{over, begun, turned};
-ghost use Rattle.sorting.specs.Sorting.{keyText, ordered};
-ghost use Rattle.index.specs.Filling.{keyRows, padded, Arranged, Listed, entryOf};
+ghost use Rattle.sorting.specs.Sorting.{keyText, sorted};
+ghost use Rattle.index.specs.Filling.{keyRows, padded, Gathered, Arranged, Listed, entryOf};
 ghost use Rattle.index.specs.Through.{relationTo, isMember, verified, judgedOf, startOf, questionAt, asks, Rightly, stepFor, answerFor};
 
 // The most members that a Struct of a writable table has.
@@ -25,7 +25,7 @@ const MOST: usize = 2047;
 
 // The key rows of a Struct's members in byte order of their texts, zeros behind them; and 0, or why there are none.
 pub struct Order {
-    pub rows: [u32; 2047],
+    pub rows: [u32; 3071],
     pub answer: u8,
 }
 
@@ -38,7 +38,38 @@ pub struct Question {
     pub length: usize,
 }
 
-// The key rows of n members put in order, of which the first is row `first`.
+// The key rows of n members, of which the first is row `first`, as they stand; and how many there are.
+fn gather(
+    table: &[u32],
+    room: usize,
+    rows: usize,
+    n: usize,
+    first: usize,
+    order: &mut [u32],
+) -> usize
+    requires { ⌜ (rows ≤ room) × (room ≤ 4096) × (room * 4 ≤ length (now table)) × (length (membersFrom (rowAt room (now table)) rows n first) ≤ 2047) × (now order ≡ padded []) ⌝ }
+    ensures { λ c. ⌜ Gathered (keyRows (membersFrom (rowAt room (now (table .entry))) rows n first)) c (now (order .exit)) ⌝ }
+{
+    let mut left = n;
+    let mut here = first;
+    let mut c = 0;
+    while 0 < left {
+        if rows <= here {
+            return c;
+        }
+        let value = here + 1;
+        if rows <= value {
+            return c;
+        }
+        order[c] = here as u32;
+        here = member::end_of(table, room, value);
+        left -= 1;
+        c += 1;
+    }
+    c
+}
+
+// The same, put in order. The words behind them are used, and zeros again then.
 fn sort(
     table: &[u32],
     room: usize,
@@ -49,24 +80,11 @@ fn sort(
     order: &mut [u32],
 )
     requires { ⌜ (rows ≤ room) × (room ≤ 4096) × (room * 4 ≤ length (now table)) × (length (membersFrom (rowAt room (now table)) rows n first) ≤ 2047) × (now order ≡ padded []) ⌝ }
-    ensures { λ _. ⌜ now (order .exit) ≡ padded (ordered (keyText room (rowAt room (now (table .entry))) (now (text .entry))) [] (keyRows (membersFrom (rowAt room (now (table .entry))) rows n first))) ⌝ }
+    ensures { λ _. ⌜ now (order .exit) ≡ padded (sorted (keyText room (rowAt room (now (table .entry))) (now (text .entry))) (keyRows (membersFrom (rowAt room (now (table .entry))) rows n first))) ⌝ }
 {
-    let mut left = n;
-    let mut here = first;
-    let mut c = 0;
-    while 0 < left {
-        if rows <= here {
-            return;
-        }
-        let value = here + 1;
-        if rows <= value {
-            return;
-        }
-        sorting::insert(table, room, text, order, c, here);
-        here = member::end_of(table, room, value);
-        left -= 1;
-        c += 1;
-    }
+    let c = gather(table, room, rows, n, first, order);
+    merging::sort_front(table, room, text, order, c);
+    table::clear(&mut order[c..]);
 }
 
 // The key rows of the Struct of row r in order, for a list of n entries, in a table that was judged before: 0, 18 or 21.
@@ -120,7 +138,7 @@ fn judged_order(
 pub fn order_of<'a>(table: &'a [u32], rows: usize, text: &'a [u8], r: usize, n: usize) -> Order
     ensures { λ o. ⌜ Listed (now (table .entry)) rows (now (text .entry)) r n (o .answer) (o .rows) ⌝ }
 {
-    let mut order = [0; 2047];
+    let mut order = [0; 3071];
     let answer = judged_order(table, rows, text, r, n, &mut order);
     Order {
         rows: order,

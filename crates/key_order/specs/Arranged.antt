@@ -1,4 +1,4 @@
--- The rows of a dict's keys, and rows in byte order of their texts: insertion from the last to the first. Assumes nothing.
+-- The rows of a dict's keys, put in byte order of their texts. Assumes nothing.
 use mathlib.Core.Path.{_≡_}
 use mathlib.Core.Bool.{Bool, true, false, cond}
 use mathlib.Core.List.{List, [], _∷_}
@@ -6,7 +6,7 @@ use Prim.Native.Nat.{ℕ, zero, suc, _+_, _-_, _<_}
 use lib.ListN.{length, take}
 use lib.Dec.{ltb}
 use Rattle.draft.specs.declared.Row.{Row}
-use Rattle.sorting.specs.Sorting.{inserted}
+use Rattle.sorting.specs.Sorting.{sorted}
 
 -- n keys from row r on, behind each of which stands its value
 unfoldable pub keyRows : (ℕ → Row) → ℕ → ℕ → List ℕ
@@ -20,15 +20,6 @@ pub data Keys (row : ℕ → Row) (room : ℕ) : ℕ → ℕ → Type 0 where
 
 -- the texts of rows by their numbers
 module _ (text : ℕ → List ℕ) where
-  -- the first at its place among the others
-  unfoldable pub settled : List ℕ → List ℕ
-  settled [] = []
-  settled (k ∷ ks) = inserted text k ks
-
-  unfoldable pub sorted : List ℕ → List ℕ
-  sorted [] = []
-  sorted (k ∷ ks) = inserted text k (sorted ks)
-
   -- their texts have more bytes together than so many
   unfoldable pub over : ℕ → List ℕ → Bool
   over left [] = false
@@ -36,7 +27,7 @@ module _ (text : ℕ → List ℕ) where
 
   -- put in order, unless they are too long to be written
   unfoldable pub arranged : ℕ → List ℕ → List ℕ
-  arranged most ks = cond (over most ks) ks (sorted ks)
+  arranged most ks = cond (over most ks) ks (sorted text ks)
 
 -- the first n of rows are ks, arranged
 pub record Laid (text : ℕ → List ℕ) (most : ℕ) (ks : List ℕ) (n : ℕ) (rows : List ℕ) : Type 0 where

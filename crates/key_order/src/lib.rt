@@ -1,55 +1,10 @@
-// The rows of a dict's keys, put in byte order of their texts: from the last to the first, each at its place among those behind it, which is
-// found by halves. Rows that are in order are compared once each and not moved.
+// The rows of a dict's keys, put in byte order of their texts.
 ghost use mathlib.Core.Path.{_≡_};
-ghost use Prim.Native.Nat.{_+_, _*_, _≤_, _<_};
-ghost use lib.ListN.{length, drop};
+ghost use Prim.Native.Nat.{_+_, _*_, _/_, _≤_};
+ghost use lib.ListN.{length};
 ghost use Rattle.draft.specs.Table.{rowAt};
-ghost use Rattle.sorting.specs.Sorting.{keyText, Rising, insertAt};
-ghost use Rattle.key_order.specs.Arranged.{settled, sorted, keyRows, Keys, over, arranged, Laid};
-
-// Those behind the first moved one to the front, up to place p, and k put behind them.
-fn shift(rows: &mut [u32], p: usize, k: u32)
-    requires { ⌜ p < length (now rows) ⌝ }
-    ensures { λ _. ⌜ now (rows .exit) ≡ insertAt p k (drop 1 (now (rows .entry))) ⌝ }
-{
-    let mut i = 0;
-    while i < p {
-        rows[i] = rows[i + 1];
-        i += 1;
-    }
-    rows[p] = k;
-}
-
-// The first row put at its place among the others, which are in order.
-fn settle(table: &[u32], room: usize, text: &[u8], rows: &mut [u32])
-    requires { ⌜ (room ≤ 4096) × (room * 4 ≤ length (now table)) × (0 < length (now rows)) × Rising (keyText room (rowAt room (now table)) (now text)) (drop 1 (now rows)) ⌝ }
-    ensures { λ _. ⌜ now (rows .exit) ≡ settled (keyText room (rowAt room (now (table .entry))) (now (text .entry))) (now (rows .entry)) ⌝ }
-{
-    let first = rows[0];
-    let k = sorting::wide(first);
-    let n = rows.len() - 1;
-    if n < 1 {
-        return;
-    }
-    let next = sorting::wide(rows[1]);
-    if sorting::precedes(table, room, text, k, next) {
-        return;
-    }
-    let p = sorting::place(table, room, text, &rows[1..], n, k);
-    shift(rows, p, first);
-}
-
-// Rows put in order.
-fn sort(table: &[u32], room: usize, text: &[u8], rows: &mut [u32])
-    requires { ⌜ (room ≤ 4096) × (room * 4 ≤ length (now table)) ⌝ }
-    ensures { λ _. ⌜ now (rows .exit) ≡ sorted (keyText room (rowAt room (now (table .entry))) (now (text .entry))) (now (rows .entry)) ⌝ }
-{
-    let mut i = rows.len();
-    while 0 < i {
-        i -= 1;
-        settle(table, room, text, &mut rows[i..]);
-    }
-}
+ghost use Rattle.sorting.specs.Sorting.{keyText};
+ghost use Rattle.key_order.specs.Arranged.{keyRows, Keys, over, Laid};
 
 // The rows of as many keys as there is room for, the first of them known: behind a key stands its value.
 fn gather(table: &[u32], room: usize, first: usize, rows: &mut [u32])
@@ -85,21 +40,9 @@ fn is_over(table: &[u32], room: usize, text: &[u8], most: usize, rows: &[u32]) -
     false
 }
 
-// The rows of a dict's keys, in order. Keys that have over `most` bytes are left as they stand: so long a dict is measured and not put, and to
-// compare them would take long.
-fn arrange(table: &[u32], room: usize, text: &[u8], first: usize, most: usize, rows: &mut [u32])
-    requires { ⌜ (room ≤ 4096) × (room * 4 ≤ length (now table)) × Keys (rowAt room (now table)) room (length (now rows)) first ⌝ }
-    ensures { λ _. ⌜ now (rows .exit) ≡ arranged (keyText room (rowAt room (now (table .entry))) (now (text .entry))) most (keyRows (rowAt room (now (table .entry))) (length (now (rows .entry))) first) ⌝ }
-{
-    gather(table, room, first, rows);
-    if is_over(table, room, text, most, rows) {
-        return;
-    }
-    sort(table, room, text, rows);
-}
-
-// The rows of a dict's n keys, in order, to the front of `rows`.
-pub fn arrange_front(
+// The rows of a dict's n keys, in order, to the front of `rows`; half as many words behind them are used. Keys that have over `most` bytes are
+// left as they stand: so long a dict is measured and not put, and to compare them would take long.
+pub fn arrange(
     table: &[u32],
     room: usize,
     text: &[u8],
@@ -108,8 +51,12 @@ pub fn arrange_front(
     most: usize,
     rows: &mut [u32],
 )
-    requires { ⌜ (room ≤ 4096) × (room * 4 ≤ length (now table)) × (n ≤ length (now rows)) × Keys (rowAt room (now table)) room n first ⌝ }
+    requires { ⌜ (room ≤ 4096) × (room * 4 ≤ length (now table)) × (n + n / 2 ≤ length (now rows)) × Keys (rowAt room (now table)) room n first ⌝ }
     ensures { λ _. ⌜ Laid (keyText room (rowAt room (now (table .entry))) (now (text .entry))) most (keyRows (rowAt room (now (table .entry))) n first) n (now (rows .exit)) ⌝ }
 {
-    arrange(table, room, text, first, most, &mut rows[0..n]);
+    gather(table, room, first, &mut rows[0..n]);
+    if is_over(table, room, text, most, &rows[0..n]) {
+        return;
+    }
+    merging::sort_front(table, room, text, rows, n);
 }

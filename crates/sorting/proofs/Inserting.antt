@@ -11,7 +11,7 @@ use Rattle.order.specs.declared.Relation.{Relation}
 use Rattle.order.specs.declared.Relation.the-variants as relation
 use Rattle.order.specs.ByteOrder.{compared}
 use Rattle.order.proofs.Ordering.{Less, compared-self, less-not, less-le, before-equal}
-use Rattle.sorting.specs.Sorting.{isBefore, insertAt, before, spot, inserted, ordered, Rising}
+use Rattle.sorting.specs.Sorting.{isBefore, insertAt, before, spot, inserted, sorted, Rising}
 
 -- ---- what is where after an insertion
 
@@ -172,15 +172,28 @@ module _ (text : ℕ → List ℕ) where
   unfolding inserted
   length-inserted k xs = length-insert (spot text k xs) k xs
 
-  pub ordered-rising : (xs ks : List ℕ) → Rising text xs → Rising text (ordered text xs ks)
-  unfolding ordered
-  ordered-rising xs [] r = r
-  ordered-rising xs (k ∷ ks) r = ordered-rising (inserted text k xs) ks (rising-inserted k xs r)
+  pub sorted-rising : (xs : List ℕ) → Rising text (sorted text xs)
+  unfolding sorted
+  sorted-rising [] = rising-none
+  sorted-rising (x ∷ xs) = rising-inserted x (sorted text xs) (sorted-rising xs)
 
-  pub ordered-length : (xs ks : List ℕ) → length (ordered text xs ks) ≡ length xs + length ks
-  unfolding ordered
-  ordered-length xs [] = omega arith
-  ordered-length xs (k ∷ ks) = omega (arith, ordered-length (inserted text k xs) ks, length-inserted k xs)
+  pub sorted-length : (xs : List ℕ) → length (sorted text xs) ≡ length xs
+  unfolding sorted
+  sorted-length [] = refl
+  sorted-length (x ∷ xs) = length-inserted x (sorted text xs) ∙ ap suc (sorted-length xs)
+
+  -- step by step
+  pub inserted-front : (k x : ℕ) (xs : List ℕ) → before text k x ≡ true → inserted text k (x ∷ xs) ≡ k ∷ (x ∷ xs)
+  unfolding inserted spot insertAt
+  inserted-front k x xs e = rw e
+
+  pub inserted-behind : (k x : ℕ) (xs : List ℕ) → before text k x ≡ false → inserted text k (x ∷ xs) ≡ x ∷ inserted text k xs
+  unfolding inserted spot insertAt
+  inserted-behind k x xs e = rw e
+
+  pub inserted-last : (k : ℕ) → inserted text k [] ≡ k ∷ []
+  unfolding inserted spot insertAt
+  inserted-last k = refl
 
 -- ---- the rows are kept: each as often as it was there
 
@@ -194,10 +207,10 @@ times-insert y zero k xs = refl
 times-insert y (suc p) k [] = refl
 times-insert y (suc p) k (x ∷ xs) = omega (arith, times-insert y p k xs)
 
-pub times-ordered : (text : ℕ → List ℕ) (y : ℕ) (xs ks : List ℕ) → times y (ordered text xs ks) ≡ times y xs + times y ks
-unfolding ordered inserted times
-times-ordered text y xs [] = omega arith
-times-ordered text y xs (k ∷ ks) = omega (arith, times-ordered text y (inserted text k xs) ks, times-insert y (spot text k xs) k xs)
+pub times-sorted : (text : ℕ → List ℕ) (y : ℕ) (ks : List ℕ) → times y (sorted text ks) ≡ times y ks
+unfolding sorted inserted times
+times-sorted text y [] = refl
+times-sorted text y (k ∷ ks) = omega (arith, times-sorted text y ks, times-insert y (spot text k (sorted text ks)) k (sorted text ks))
 
 -- a row that is there stands somewhere, and what stands somewhere is there
 pub record Stands (y : ℕ) (xs : List ℕ) : Type 0 where

@@ -1,4 +1,4 @@
 -- The laws of `sorting`.
 pub mod Inserting
-pub mod Placing
-pub mod Sliding
+pub mod Preceding
+pub mod Settling

@@ -1,10 +1,10 @@
--- Rows in byte order of their texts: insertion, one row after the other, each behind those that it is not before. Assumes nothing.
+-- Rows in byte order of their texts, by insertion from the last to the first: each behind those that it is not before. Assumes nothing.
 use mathlib.Core.Path.{_≡_}
 use mathlib.Core.Bool.{Bool, true, false, cond}
 use mathlib.Core.List.{List, [], _∷_}
-use Prim.Native.Nat.{ℕ, zero, suc, _+_, _≤_, _<_}
+use Prim.Native.Nat.{ℕ, zero, suc, _≤_, _<_}
 use lib.Dec.{ltb}
-use lib.ListN.{length, getD, set, take}
+use lib.ListN.{length, getD}
 use Rattle.order.specs.declared.Relation.{Relation}
 use Rattle.order.specs.declared.Relation.the-variants as relation
 use Rattle.order.specs.ByteOrder.{compared}
@@ -40,21 +40,16 @@ module _ (text : ℕ → List ℕ) where
   unfoldable pub inserted : ℕ → List ℕ → List ℕ
   inserted k xs = insertAt (spot k xs) k xs
 
-  -- rows inserted one after the other into rows that are in order
-  unfoldable pub ordered : List ℕ → List ℕ → List ℕ
-  ordered xs [] = xs
-  ordered xs (k ∷ ks) = ordered (inserted k xs) ks
+  -- the first of some rows inserted among the others
+  unfoldable pub settled : List ℕ → List ℕ
+  settled [] = []
+  settled (k ∷ ks) = inserted k ks
+
+  -- IN ORDER: each inserted among those behind it
+  unfoldable pub sorted : List ℕ → List ℕ
+  sorted [] = []
+  sorted (k ∷ ks) = inserted k (sorted ks)
 
   -- no text is before an earlier one
   pub record Rising (xs : List ℕ) : Type 0 where
     pub up : (i j : ℕ) → i ≤ j → j < length xs → before (getD xs j 0) (getD xs i 0) ≡ false
-
-  -- p is the place of k among the first n of xs
-  pub record Placed (k n : ℕ) (xs : List ℕ) (p : ℕ) : Type 0 where
-    pub place : p ≡ spot k (take n xs)
-    pub within : p ≤ n
-
--- n elements from place i on, each moved one on, and c put at i: the loop's own form
-unfoldable pub slid : ℕ → ℕ → ℕ → List ℕ → List ℕ
-slid zero i c xs = xs
-slid (suc n) i c xs = slid n (i + 1) (getD xs i 0) (set xs i c)

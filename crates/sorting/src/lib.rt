@@ -1,12 +1,11 @@
-// Rows put in byte order of their texts, one after the other: each at its place among those before it, which are in order. The place is found by
-// halves, so n rows take n log n comparisons; numbers are moved, no text is.
+// Rows by the byte order of their texts: the text of a row, whether it is before another's, and few rows put in order by insertion. Many are
+// put in order by `merging`. Numbers are moved, no text is.
 use order::Relation;
 ghost use mathlib.Core.Path.{_≡_};
-ghost use mathlib.Core.List.{_++_};
-ghost use Prim.Native.Nat.{_+_, _*_, _≤_, _<_};
-ghost use lib.ListN.{length, take, drop};
+ghost use Prim.Native.Nat.{_*_, _≤_, _<_};
+ghost use lib.ListN.{length, getD};
 ghost use Rattle.draft.specs.Table.{rowAt};
-ghost use Rattle.sorting.specs.Sorting.{keyText, before, Rising, insertAt, inserted, Placed};
+ghost use Rattle.sorting.specs.Sorting.{keyText, before, settled, sorted};
 
 // The text of row r; a row that the table has no room for has an empty one.
 pub fn key_text<'a>(table: &[u32], room: usize, text: &'a [u8], r: usize) -> &'a [u8]
@@ -43,45 +42,48 @@ pub fn wide(x: u32) -> usize
     x as usize
 }
 
-// Where row k goes among the first n of `rows`, which are in order.
-pub fn place(table: &[u32], room: usize, text: &[u8], rows: &[u32], n: usize, k: usize) -> usize
-    requires { ⌜ (room ≤ 4096) × (room * 4 ≤ length (now table)) × (n ≤ length (now rows)) × Rising (keyText room (rowAt room (now table)) (now text)) (take n (now rows)) ⌝ }
-    ensures { λ p. ⌜ Placed (keyText room (rowAt room (now (table .entry))) (now (text .entry))) k n (now (rows .entry)) p ⌝ }
+// Whether the text of row k is before that of the row at place j.
+pub fn precedes_at(
+    table: &[u32],
+    room: usize,
+    text: &[u8],
+    k: usize,
+    rows: &[u32],
+    j: usize,
+) -> bool
+    requires { ⌜ (room ≤ 4096) × (room * 4 ≤ length (now table)) × (j < length (now rows)) ⌝ }
+    ensures { λ b. ⌜ b ≡ before (keyText room (rowAt room (now (table .entry))) (now (text .entry))) k (getD (now (rows .entry)) j 0) ⌝ }
 {
-    let mut low = 0;
-    let mut high = n;
-    while low < high {
-        let middle = low + (high - low) / 2;
-        let j = wide(rows[middle]);
-        if precedes(table, room, text, k, j) {
-            high = middle;
-        } else {
-            low = middle + 1;
-        }
-    }
-    low
+    precedes(table, room, text, k, wide(rows[j]))
 }
 
-// Row k put at place p among the first n of `rows`: those from p on move one on.
-fn slide(rows: &mut [u32], p: usize, n: usize, k: u32)
-    requires { ⌜ (p ≤ n) × (n < length (now rows)) ⌝ }
-    ensures { λ _. ⌜ now (rows .exit) ≡ insertAt p k (take n (now (rows .entry))) ++ drop (n + 1) (now (rows .entry)) ⌝ }
+// The first row moved behind those that it is not before, up to the first that it is before.
+fn settle(table: &[u32], room: usize, text: &[u8], rows: &mut [u32])
+    requires { ⌜ (room ≤ 4096) × (room * 4 ≤ length (now table)) × (0 < length (now rows)) ⌝ }
+    ensures { λ _. ⌜ now (rows .exit) ≡ settled (keyText room (rowAt room (now (table .entry))) (now (text .entry))) (now (rows .entry)) ⌝ }
 {
-    let mut i = p;
-    let mut carried = k;
-    while i <= n {
-        let x = rows[i];
-        rows[i] = carried;
-        carried = x;
+    let first = rows[0];
+    let k = wide(first);
+    let mut i = 0;
+    while i + 1 < rows.len() {
+        if precedes_at(table, room, text, k, rows, i + 1) {
+            rows[i] = first;
+            return;
+        }
+        rows[i] = rows[i + 1];
         i += 1;
     }
+    rows[i] = first;
 }
 
-// Row k put at its place among the first n of `rows`, which are in order.
-pub fn insert(table: &[u32], room: usize, text: &[u8], rows: &mut [u32], n: usize, k: usize)
-    requires { ⌜ (room ≤ 4096) × (room * 4 ≤ length (now table)) × (k < 4294967296) × (n < length (now rows)) × Rising (keyText room (rowAt room (now table)) (now text)) (take n (now rows)) ⌝ }
-    ensures { λ _. ⌜ now (rows .exit) ≡ inserted (keyText room (rowAt room (now (table .entry))) (now (text .entry))) k (take n (now (rows .entry))) ++ drop (n + 1) (now (rows .entry)) ⌝ }
+// Few rows put in order: from the last to the first, each among those behind it. Rows that are in order are compared once each.
+pub fn sort_few(table: &[u32], room: usize, text: &[u8], rows: &mut [u32])
+    requires { ⌜ (room ≤ 4096) × (room * 4 ≤ length (now table)) ⌝ }
+    ensures { λ _. ⌜ now (rows .exit) ≡ sorted (keyText room (rowAt room (now (table .entry))) (now (text .entry))) (now (rows .entry)) ⌝ }
 {
-    let p = place(table, room, text, rows, n, k);
-    slide(rows, p, n, k as u32);
+    let mut i = rows.len();
+    while 0 < i {
+        i -= 1;
+        settle(table, room, text, &mut rows[i..]);
+    }
 }

@@ -86,6 +86,10 @@ more-on m n s at = ascii-on m n (drop at s) ∙ rw drop-drop
 pub four : (s : List ℕ) (at : ℕ) {a b c d : Bool} → a ≡ ascii (take 8 (drop at s)) → b ≡ ascii (take 8 (drop (at + 8) s)) → c ≡ ascii (take 8 (drop (at + 16) s)) → d ≡ ascii (take 8 (drop (at + 24) s)) → (a && b && c && d) ≡ ascii (take 32 (drop at s))
 four s at ea eb ec ed = sym (more-on 24 8 s at ∙ rw (more-on 16 8 s at, more-on 8 8 s at, ← ea, ← eb, ← ec, ← ed))
 
+-- four times 64 are 256
+pub four-many : (s : List ℕ) (at : ℕ) {a b c d : Bool} → a ≡ ascii (take 64 (drop at s)) → b ≡ ascii (take 64 (drop (at + 64) s)) → c ≡ ascii (take 64 (drop (at + 128) s)) → d ≡ ascii (take 64 (drop (at + 192) s)) → (a && b && c && d) ≡ ascii (take 256 (drop at s))
+four-many s at ea eb ec ed = sym (more-on 192 64 s at ∙ rw (more-on 128 64 s at, more-on 64 64 s at, ← ea, ← eb, ← ec, ← ed))
+
 -- and twice four are 64
 pub twice-four : (s : List ℕ) (at : ℕ) {a b : Bool} → a ≡ ascii (take 32 (drop at s)) → b ≡ ascii (take 32 (drop (at + 32) s)) → (a && b) ≡ ascii (take 64 (drop at s))
 twice-four s at ea eb = sym (more-on 32 32 s at ∙ rw (← ea, ← eb))
@@ -166,6 +170,6 @@ alike true false e f = clash (sym e) (sym f)
 alike false true e f = clash (sym f) (sym e)
 alike false false e f = refl
 
-pub ruleset passing = (word, eight-bits, four, twice-four, run-none, run-on, run-after, run-more, run-single, run-last)
+pub ruleset passing = (word, eight-bits, four, twice-four, four-many, run-none, run-on, run-after, run-more, run-single, run-last)
 
 pub ruleset running = (run-first, run-whole, walk-run, alike)

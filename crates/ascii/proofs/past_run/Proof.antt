@@ -8,7 +8,8 @@ pub past-run-spec : {M : Type 1} → statement M
 past-run-spec = tie.close (tie.spec
     (λ c. search needs)  -- sub-if1
     (λ c κs. search needs)  -- eight-below-requires
-    (λ c. search needs)  -- add-past-many
+    (λ c. search needs)  -- add-past-most
+    (λ c κs. search needs)  -- past-most-requires
     (λ c κs. search needs)  -- past-many-requires
     (λ c κs. search needs)  -- past-eights-requires
     (λ c. search passing)  -- returns

@@ -45,7 +45,7 @@ use Rattle.glyph_puts.proofs.next_row.Reads as next-row-reads
 use Rattle.glyph_puts.proofs.put_text.Reads as put-text-reads
 use Rattle.glyph_puts.proofs.three_letter.Reads as three-letter-reads
 use Rattle.glyph_rows.proofs.sort_of.Reads as sort-of-reads
-use Rattle.key_order.proofs.arrange_front.Reads as arrange-front-reads
+use Rattle.key_order.proofs.arrange.Reads as arrange-reads
 use Rattle.sorting.proofs.key_text.Reads as key-text-reads
 use Rattle.sorting.proofs.wide.Reads as wide-reads
 use Rattle.table.proofs.get_row.Reads as get-row-reads
@@ -161,7 +161,7 @@ put-three-below t =
     and 4 put-three-kinds.ps (falls 4 put-three-kinds.ps _<_ μ-put-three t) put-three.Pre
 
 abbrev put-dict-calls : ℕ → put-dict-lts.Claims
-put-dict-calls t = (arrange-front-reads.Asked, arrange-front-reads.Learnt, put-byte-reads.Asked, put-byte-reads.Learnt, put-ranked-below t, put-ranked.Post)
+put-dict-calls t = (arrange-reads.Asked, arrange-reads.Learnt, put-byte-reads.Asked, put-byte-reads.Learnt, put-ranked-below t, put-ranked.Post)
 
 abbrev put-entries-calls : ℕ → put-entries-lts.Claims
 put-entries-calls t = (put-object-below t, put-object.Post, next-row-reads.Asked, next-row-reads.Learnt, put-byte-reads.Asked, put-byte-reads.Learnt)
@@ -236,9 +236,9 @@ pub +put-dict+put-entries+put-list+put-many+put-object+put-ordered+put-pair+put-
     (λ t. put-dict-lts.spec (put-dict-calls t)
     (put-dict-at t)
     put-dict.Post
-    (λ c κs. (search needs, search needs, search needs, search fitting))  -- put-dict-arrange-front-requires
+    (λ c κs. (search needs, search needs, search needs, search fitting))  -- put-dict-arrange-requires
     (λ c κs. search needs)  -- put-dict-put-byte-requires
-    (λ c κs. (search needs, (search needs, search adding, search needs, dict-values-ready (c .before .before .before .before .before .before .before .before .before .before .before .before .before .before .pre .1 .3) (c .before .before .before .before .before .before .before .before .arrange-front .ensures) (search needs))))  -- put-dict-put-ranked-requires
+    (λ c κs. (search needs, (search needs, search adding, search needs, dict-values-ready (c .before .before .before .before .before .before .before .before .before .before .before .before .before .before .pre .1 .3) (c .before .before .before .before .before .before .before .before .arrange .ensures) (search needs))))  -- put-dict-put-ranked-requires
     (λ c. search needs)  -- put-dict-same-length
     (λ c. search needs)  -- put-dict-same-length-2
     (λ c. search puts))  -- put-dict-returns

@@ -1,4 +1,4 @@
-use Rattle.glyph_rows.proofs.Sorting.{kinds}
+use Rattle.glyph_rows.proofs.Rows.{kinds}
 use Rattle.glyph_rows.proofs.is_dict.Statement.{statement}
 use Rattle.glyph_rows.proofs.is_dict.Tie as tie
 
