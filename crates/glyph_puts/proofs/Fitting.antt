@@ -17,18 +17,26 @@ use Rattle.draft.specs.Read.{Texts, textOf}
 use Rattle.draft.specs.Writable.{fit, ruled, then, Walk, pair, items, alike, nothing, closed, leaf, over, integerItem, contentItem, sized, string, stringBy, member, keeping}
 use Rattle.key_rows.proofs.Keying.{until-one, no-end, fit-end, ruled-end, closed-end, string-end}
 use Rattle.glyph.specs.declared.Edition.{Edition}
+use Rattle.glyph.specs.declared.Edition.the-variants.{New, Old}
 use Rattle.glyph.specs.declared.Many.{Many as ManyLetter}
 use Rattle.glyph.specs.declared.Many.the-variants.{List as ListOf, Dict, Ordered}
 use Rattle.glyph.specs.declared.Three.{Three as ThreeLetter}
+use Rattle.glyph.specs.declared.Three.the-variants.{Extension, Node}
 use Rattle.glyph.specs.declared.Want.{Want}
 use Rattle.glyph.specs.declared.Want.the-variants.{Any}
 use Rattle.glyph.specs.Letters.{keyedBy, nameWant, attributesWant}
 use Rattle.glyph_form.specs.declared.Sort.{Sort}
 use Rattle.glyph_form.specs.declared.Sort.the-variants.{Integer, Boolean, Content, Nil, Many, Three, Unknown}
-use Rattle.glyph_form.specs.Sorts.{sortOf, meets}
+use Rattle.glyph_form.specs.Sorts.{nodeSort, sortOf, meets}
 use Rattle.glyph_form.specs.Writable.{Nest, floor, under, entry, kept, entries, item, object}
+use Rattle.glyph_rows.specs.Holding.{holds}
+use Rattle.glyph_rows.proofs.Containers.{floor-none}
 use Rattle.key_order.specs.Arranged.{Keys, no-key, key}
-use Rattle.glyph_puts.specs.Contract.{Stands, Fit, Children, no-child, child, Members, no-member, member as one-member}
+use Rattle.glyph_puts.specs.Contract.{Fit, Children, no-child, child, Members, no-member, member as one-member}
+
+-- what the kind of row r names
+pub record Stands (row : ℕ → Row) (e : Edition) (r : ℕ) (i : Sort) : Type 0 where
+  pub is : sortOf e (row r .kind) ≡ i
 
 fit-true : (b : Bool) (o : Extent) {n : ℕ} → fit b o ≡ Until n → b ≡ true
 fit-true true o e = refl
@@ -194,14 +202,12 @@ module _ {row : ℕ → Row} {room : ℕ} {s : List ℕ} {e : Edition} {deep spa
   stands-item : {i : Sort} → Stands row e r i → item row (a .rows) s i (nest row (a .rows) s e deep) (row r) r ≡ Until (a .stop)
   stands-item d = rw (d .is) at (object-item row (a .rows) s e deep (a .want) r (a .walk))
 
-  pub nothing-known : Stands row e r Unknown → ⊥
+  nothing-known : Stands row e r Unknown → ⊥
   nothing-known d = no-end (stands-item d)
 
-  pub many-nested : {l : ManyLetter} → Stands row e r (Many l) → deep ≡ 0 → ⊥
-  many-nested {l} d z = no-end (rw z at (stands-item d))
-
-  pub three-nested : {l : ThreeLetter} → Stands row e r (Three l) → deep ≡ 0 → ⊥
-  three-nested {l} d z = no-end (rw z at (stands-item d))
+  -- an object with children has a nesting left
+  pub container-nested : {x : Row} → x ≡ row r → holds (x .kind) ≡ true → deep ≡ 0 → ⊥
+  container-nested f h z = no-end (floor-none row (a .rows) s e (row r) r (rw f at h) ∙ rw z at (object-item row (a .rows) s e deep (a .want) r (a .walk)))
 
 less : {row : ℕ → Row} {room : ℕ} {s : List ℕ} {e : Edition} {deep spare r : ℕ} → Fit row room s e deep spare r → (deep ≡ 0 → ⊥) → Fit row room s e (suc (deep - 1)) spare r
 less {deep = zero} a z = absurd (z refl)
@@ -233,23 +239,58 @@ module _ {row : ℕ → Row} {room : ℕ} {s : List ℕ} {e : Edition} {deep spa
   three-below : {l : ThreeLetter} → Stands row e r (Three l) → Children row room s e deep spare 3 (r + 1)
   three-below {l} d = three-at row (a .rows) s e deep room (a .stated) spare (nameWant l) (attributesWant l) (r + 1) (three-end d) (omega (arith, a .span))
 
--- the children of what is fit
-module _ {row : ℕ → Row} {room : ℕ} {s : List ℕ} {e : Edition} {deep spare r : ℕ} (a : Fit row room s e deep spare r) (z : deep ≡ 0 → ⊥) where
-  pub three-children : {l : ThreeLetter} → Stands row e r (Three l) → Children row room s e (deep - 1) spare 3 (r + 1)
-  three-children d = three-below (less a z) d
+-- the children of what is fit, by its kind
+module _ {row : ℕ → Row} {e : Edition} {r : ℕ} {x : Row} (f : x ≡ row r) where
+  pub stands-list : x .kind ≡ 9 → Stands row e r (Many ListOf)
+  unfolding sortOf
+  stands-list k = record { is = rw (← f, k) }
 
-  module _ {l : ManyLetter} (d : Stands row e r (Many l)) {n : ℕ} (q : n ≡ row r .b) where
-    pub list-children : l ≡ ListOf → Children row room s e (deep - 1) spare n (r + 1)
-    list-children t = rw q (list-below (less a z) (rw t at d))
+  pub stands-dict : x .kind ≡ 10 → Stands row e r (Many Dict)
+  unfolding sortOf
+  stands-dict k = record { is = rw (← f, k) }
 
-    pub ordered-members : l ≡ Ordered → Members row room s e (deep - 1) spare n (r + 1)
-    ordered-members t = rw q (ordered-below (less a z) (rw t at d))
+  pub stands-ordered : x .kind ≡ 14 → Stands row e r (Many Ordered)
+  unfolding sortOf
+  stands-ordered k = record { is = rw (← f, k) }
 
-    pub dict-spare : l ≡ Dict → n + n / 2 ≤ spare
-    dict-spare t = rw q (dict-few (less a z) (rw t at d))
+  pub stands-extension : x .kind ≡ 15 → Stands row e r (Three Extension)
+  unfolding sortOf
+  stands-extension k = record { is = rw (← f, k) }
 
-    pub dict-members : l ≡ Dict → Members row room s e (deep - 1) (spare - n) n (r + 1)
-    dict-members t = rw q (dict-below (less a z) (rw t at d))
+  -- a node is in 0.5 alone
+  pub stands-node : {room : ℕ} {s : List ℕ} {deep spare : ℕ} → Fit row room s e deep spare r → x .kind ≡ 16 → Stands row e r (Three Node)
+  unfolding sortOf
+  stands-node a k = go e refl
+    where
+      is-node : sortOf e (row r .kind) ≡ nodeSort e
+      is-node = rw (← f, k)
+
+      go : (d : Edition) → d ≡ e → Stands row e r (Three Node)
+      go New q = absurd (nothing-known a (record { is = is-node ∙ rw (← q) }))
+      go Old q = record { is = is-node ∙ rw (← q) }
+
+module _ {row : ℕ → Row} {room : ℕ} {s : List ℕ} {e : Edition} {deep spare r : ℕ} (a : Fit row room s e deep spare r) (z : deep ≡ 0 → ⊥) {x : Row} (f : x ≡ row r) where
+  pub extension-children : x .kind ≡ 15 → Children row room s e (deep - 1) spare 3 (r + 1)
+  extension-children k = three-below (less a z) (stands-extension f k)
+
+  pub node-children : x .kind ≡ 16 → Children row room s e (deep - 1) spare 3 (r + 1)
+  node-children k = three-below (less a z) (stands-node f a k)
+
+  module _ {n : ℕ} (q : n ≡ x .b) where
+    count : n ≡ row r .b
+    count = q ∙ rw f
+
+    pub list-children : x .kind ≡ 9 → Children row room s e (deep - 1) spare n (r + 1)
+    list-children k = rw count (list-below (less a z) (stands-list f k))
+
+    pub ordered-members : x .kind ≡ 14 → Members row room s e (deep - 1) spare n (r + 1)
+    ordered-members k = rw count (ordered-below (less a z) (stands-ordered f k))
+
+    pub dict-spare : x .kind ≡ 10 → n + n / 2 ≤ spare
+    dict-spare k = rw count (dict-few (less a z) (stands-dict f k))
+
+    pub dict-members : x .kind ≡ 10 → Members row room s e (deep - 1) (spare - n) n (r + 1)
+    dict-members k = rw count (dict-below (less a z) (stands-dict f k))
 
 -- the row behind it is a number, and so is the row of a value
 pub next-fits : {row : ℕ → Row} {room : ℕ} {s : List ℕ} {e : Edition} {deep spare r : ℕ} → Fit row room s e deep spare r → room ≤ 4096 → Fits w64 (r + 1)
@@ -280,8 +321,8 @@ module _ {row : ℕ → Row} {room : ℕ} {s : List ℕ} {e : Edition} {deep spa
   member-keys no-member = no-key
   member-keys (one-member a c) = key (fit-in a) (member-keys c)
 
--- what a kind names
-pub stands-is : (row : ℕ → Row) (e : Edition) (r : ℕ) {x : Row} {i j : Sort} → x ≡ row r → i ≡ sortOf e (x .kind) → i ≡ j → Stands row e r j
-stands-is row e r q h t = record { is = rw (← q) (sym h ∙ t) }
+  -- one alone
+  pub only-child : {r : ℕ} → Fit row room s e deep spare r → Children row room s e deep spare 1 r
+  only-child a = child {n = 0} a no-child
 
-pub ruleset fitting = (fit-in, next-fits, value-fits, nothing-known, many-nested, three-nested, three-children, list-children, ordered-members, dict-spare, dict-members, first-child, other-children, first-member, other-members, member-keys, stands-is)
+pub ruleset fitting = (fit-in, next-fits, value-fits, extension-children, node-children, list-children, ordered-members, dict-spare, dict-members, first-child, other-children, first-member, other-members, member-keys, only-child)

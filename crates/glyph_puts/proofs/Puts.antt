@@ -10,69 +10,51 @@ use mir.Val.{Fits}
 use lib.ListN.{length, getD, take, drop, length-take, length-drop, length-append, drop-of-length-le}
 use lib.Seq.{take-at, drop-cons, length-take-le, getD-take}
 use lib.Dec.{eqb, ltb}
-use borrow.Author.Tests.{eqb-true, eqb-false}
-use Rattle.draft.specs.declared.Content.{Content as ContentOf}
-use Rattle.draft.specs.declared.Content.the-variants.{Double, DateTime, Binary, Text}
+use borrow.Author.Tests.{eqb-true, eqb-false, ne-eqb}
+use Rattle.text.proofs.Comparing.{clash}
+use Rattle.draft.specs.declared.Content.the-variants.{Binary, Text}
 use Rattle.draft.specs.declared.Row.{Row}
-use Rattle.draft.specs.Rows.{kindOf}
 use Rattle.draft.specs.Read.{textOf}
+use Rattle.draft.specs.Grammar.{holding}
 use Rattle.sorting.specs.Sorting.{keyText}
 use Rattle.key_order.specs.Arranged.{keyRows, Laid}
 use Rattle.glyph.specs.declared.Edition.{Edition}
 use Rattle.glyph.specs.declared.Edition.the-variants.{New, Old}
-use Rattle.glyph.specs.declared.Many.{Many as ManyLetter}
 use Rattle.glyph.specs.declared.Many.the-variants.{List as ListOf, Dict, Ordered}
 use Rattle.glyph.specs.declared.Three.{Three as ThreeLetter}
 use Rattle.glyph.specs.declared.Three.the-variants.{Extension, Node}
 use Rattle.glyph.specs.Letters.{threeKind}
-use Rattle.glyph_form.specs.declared.Sort.{Sort}
+use Rattle.glyph.specs.Tree.{Tree, leaf}
 use Rattle.glyph_form.specs.declared.Sort.the-variants.{Integer, Boolean, Content, Nil, Many, Three, Unknown}
-use Rattle.glyph_form.specs.Sorts.{sortOf}
-use Rattle.glyph_form.specs.Told.{trees, pairs, treeAt}
+use Rattle.glyph_form.specs.Sorts.{pickSort, sortOf}
+use Rattle.glyph_form.specs.Told.{trees, pairs, told, treeAt}
 use Rattle.glyph_form.specs.Form.{canon, canonAll, canonPairs, leafBytes, integerBytes, booleanBytes, contentBytes, letterFor, bytesOf, bytesOfAll, bytesOfPairs, written}
 use Rattle.glyph_output.specs.Contract.{reached, Open, Adds}
-use Rattle.glyph_output.proofs.Adding.{reached-same, reached-over, reached-most, adds-nothing, adds-both}
-use Rattle.glyph_puts.specs.Contract.{Stands, Fit, Children, Members, Ranked, no-key, key, pairsBy, objectBytes, entriesBytes, pairBytes, pairsBytes, dictBytes, rankedBytes, Paired}
-use Rattle.glyph_puts.proofs.Fitting.{fit-in, nothing-known, many-nested, three-nested, stands-is, first-child, other-children, first-member, other-members}
+use Rattle.glyph_output.proofs.Adding.{reached-same, reached-over, reached-most, adds-nothing, open-next, adds-both}
+use Rattle.glyph_rows.specs.Holding.{holds}
+use Rattle.glyph_rows.proofs.Rows.{holds-none}
+use Rattle.glyph_rows.proofs.Containers.{alone}
+use Rattle.glyph_puts.specs.Contract.{Fit, Children, Members, Ranked, no-key, key, pairsBy, leafForm, objectBytes, entriesBytes, pairBytes, pairsBytes, dictBytes, rankedBytes, Paired}
+use Rattle.glyph_puts.proofs.Fitting.{Stands, fit-in, container-nested, stands-list, stands-dict, stands-ordered, stands-extension, stands-node, first-child, other-children, first-member, other-members}
 use Rattle.glyph_puts.proofs.Ranking.{key-is, Like, dict-arranged, arranged-values}
 
 -- ---- letters
 
-module _ {l : ThreeLetter} where
-  pub extension-new : {e : Edition} → l ≡ Extension → e ≡ New → 88 ≡ letterFor e (threeKind l)
-  unfolding letterFor
-  extension-new f g = rw (f, g)
+pub extension-new : {e : Edition} → e ≡ New → 88 ≡ letterFor e 15
+unfolding letterFor
+extension-new g = rw g
 
-  pub extension-old : {e : Edition} → l ≡ Extension → e ≡ Old → 72 ≡ letterFor e (threeKind l)
-  unfolding letterFor
-  extension-old f g = rw (f, g)
+pub extension-old : {e : Edition} → e ≡ Old → 72 ≡ letterFor e 15
+unfolding letterFor
+extension-old g = rw g
 
-  pub node-letter : (e : Edition) → l ≡ Node → 88 ≡ letterFor e (threeKind l)
-  unfolding letterFor
-  node-letter e f = rw f
-
-module _ {c : ContentOf} where
-  pub double-letter : c ≡ Double → _≡_ {A = ℕ} 98 (cond (eqb (kindOf c) 11) 117 98)
-  double-letter f = rw f
-
-  pub date-letter : c ≡ DateTime → _≡_ {A = ℕ} 98 (cond (eqb (kindOf c) 11) 117 98)
-  date-letter f = rw f
-
-  pub binary-letter : c ≡ Binary → _≡_ {A = ℕ} 98 (cond (eqb (kindOf c) 11) 117 98)
-  binary-letter f = rw f
-
-  pub text-letter : c ≡ Text → _≡_ {A = ℕ} 117 (cond (eqb (kindOf c) 11) 117 98)
-  text-letter f = rw f
-
-pub ruleset content-letters = (double-letter, date-letter, binary-letter, text-letter)
-
-pub row-count : {x y : Row} → x ≡ y → x .b ≡ y .b
+row-count : {x y : Row} → x ≡ y → x .b ≡ y .b
 row-count q = rw q
 
 pub row-end : {x y : Row} → x ≡ y → x .end ≡ y .end
 row-end q = rw q
 
-pub ruleset letters = (extension-new, extension-old, node-letter)
+pub ruleset letters = (extension-new, extension-old)
 
 -- ---- texts are short
 
@@ -90,31 +72,54 @@ key-short room row s k q h = rw q (go (ltb k room))
     go true = omega (arith, h, part-most s (row k .a) (row k .b))
     go false = omega arith
 
-pub content-put : (s : List ℕ) (x : Row) (c : ContentOf) {b : ℕ} {t : List ℕ} {most : ℕ} {o : List ℕ} {at : ℕ} {o′ : List ℕ} {z : ℕ} → b ≡ cond (eqb (kindOf c) 11) 117 98 → t ≡ take (x .b) (drop (x .a) s) → Adds (b ∷ contentBytes t) most o at o′ z → Adds (cond (eqb (kindOf c) 11) 117 98 ∷ contentBytes (textOf s x)) most o at o′ z
-content-put s x c f g a = rw (f, g) at a
+pub content-put : (s : List ℕ) (x : Row) (b : ℕ) {t : List ℕ} {most : ℕ} {o : List ℕ} {at : ℕ} {o′ : List ℕ} {z : ℕ} → t ≡ take (x .b) (drop (x .a) s) → Adds (b ∷ contentBytes t) most o at o′ z → Adds (b ∷ contentBytes (textOf s x)) most o at o′ z
+content-put s x b g a = rw g at a
+
+-- ---- an object without children, by its kind
+
+module _ (s : List ℕ) (x : Row) {most : ℕ} {o : List ℕ} {at : ℕ} {o′ : List ℕ} {z : ℕ} where
+  pub leaf-integer : x .kind ≡ 4 → Adds (integerBytes (x .a)) most o at o′ z → Adds (leafForm s x) most o at o′ z
+  unfolding leafForm
+  leaf-integer k a = rw k a
+
+  pub leaf-boolean : x .kind ≡ 5 → Adds (booleanBytes (x .a)) most o at o′ z → Adds (leafForm s x) most o at o′ z
+  unfolding leafForm
+  leaf-boolean k a = rw k a
+
+  pub leaf-bytes : x .kind ≡ 8 → Adds (98 ∷ contentBytes (textOf s x)) most o at o′ z → Adds (leafForm s x) most o at o′ z
+  unfolding leafForm
+  leaf-bytes k a = rw k a
+
+  pub leaf-unicode : x .kind ≡ 11 → Adds (117 ∷ contentBytes (textOf s x)) most o at o′ z → Adds (leafForm s x) most o at o′ z
+  unfolding leafForm
+  leaf-unicode k a = rw k a
+
+  pub leaf-nil : (x .kind ≡ 4 → ⊥) → (x .kind ≡ 5 → ⊥) → (x .kind ≡ 8 → ⊥) → (x .kind ≡ 11 → ⊥) → Adds (78 ∷ 59 ∷ []) most o at o′ z → Adds (leafForm s x) most o at o′ z
+  unfolding leafForm
+  leaf-nil a b c d p = rw (ne-eqb _ _ a, ne-eqb _ _ b, ne-eqb _ _ c, ne-eqb _ _ d) p
+
+pub ruleset leafs = (leaf-integer, leaf-boolean, leaf-bytes, leaf-unicode, leaf-nil)
 
 -- ---- the bytes of the object at a row, by what its kind names
 
 module _ (row : ℕ → Row) (s : List ℕ) (e : Edition) (r : ℕ) where
-  integer-bytes : (deep : ℕ) → Stands row e r Integer → objectBytes row s e deep r ≡ integerBytes (row r .a)
-  unfolding objectBytes treeAt written canon bytesOf leafBytes
-  integer-bytes zero d = rw (d .is)
-  integer-bytes (suc deep) d = rw (d .is)
+  -- no edition and no depth changes what has no children
+  leaf-told : (f : ℕ → Tree) → holds (row r .kind) ≡ false → bytesOf e (canon (told row s (sortOf e (row r .kind)) f (row r) r)) ≡ leafForm s (row r)
+  unfolding canon bytesOf leafBytes leafForm sortOf
+  leaf-told f h = let a = alone (row r .kind) h in rw (a .0, a .1, a .2, a .3, a .4) (go (eqb (row r .kind) 4) (eqb (row r .kind) 5) (eqb (row r .kind) 8) (eqb (row r .kind) 11) (eqb (row r .kind) 13))
+    where
+      go : (p q u v w : Bool) → bytesOf e (canon (told row s (pickSort p Integer (pickSort q Boolean (pickSort u (Content Binary) (pickSort v (Content Text) (pickSort w Nil Unknown))))) f (row r) r)) ≡ cond p (integerBytes (row r .a)) (cond q (booleanBytes (row r .a)) (cond u (98 ∷ contentBytes (textOf s (row r))) (cond v (117 ∷ contentBytes (textOf s (row r))) (78 ∷ 59 ∷ []))))
+      go true q u v w = refl
+      go false true u v w = refl
+      go false false true v w = refl
+      go false false false true w = refl
+      go false false false false true = refl
+      go false false false false false = refl
 
-  boolean-bytes : (deep : ℕ) → Stands row e r Boolean → objectBytes row s e deep r ≡ booleanBytes (row r .a)
-  unfolding objectBytes treeAt written canon bytesOf leafBytes
-  boolean-bytes zero d = rw (d .is)
-  boolean-bytes (suc deep) d = rw (d .is)
-
-  content-bytes : (deep : ℕ) (c : ContentOf) → Stands row e r (Content c) → objectBytes row s e deep r ≡ cond (eqb (kindOf c) 11) 117 98 ∷ contentBytes (textOf s (row r))
-  unfolding objectBytes treeAt written canon bytesOf leafBytes
-  content-bytes zero c d = rw (d .is)
-  content-bytes (suc deep) c d = rw (d .is)
-
-  nil-bytes : (deep : ℕ) → Stands row e r Nil → objectBytes row s e deep r ≡ 78 ∷ 59 ∷ []
-  unfolding objectBytes treeAt written canon bytesOf leafBytes
-  nil-bytes zero d = rw (d .is)
-  nil-bytes (suc deep) d = rw (d .is)
+  leaf-object : (deep : ℕ) → holds (row r .kind) ≡ false → objectBytes row s e deep r ≡ leafForm s (row r)
+  unfolding objectBytes treeAt written
+  leaf-object zero h = leaf-told (λ k. leaf 13 (holding 0)) h
+  leaf-object (suc deep) h = leaf-told (treeAt row s e deep) h
 
   list-bytes : (deep : ℕ) → Stands row e r (Many ListOf) → objectBytes row s e (suc deep) r ≡ 76 ∷ (entriesBytes row s e deep (row r .b) (r + 1) ++ (59 ∷ []))
   unfolding objectBytes entriesBytes treeAt written canon bytesOf letterFor
@@ -142,54 +147,37 @@ adds-same : {xs ys : List ℕ} {most : ℕ} {o : List ℕ} {at : ℕ} {o′ : Li
 adds-same q a = rw q a
 
 module _ {row : ℕ → Row} {room : ℕ} {s : List ℕ} {e : Edition} {deep spare r : ℕ} (a : Fit row room s e deep spare r) {most : ℕ} {o : List ℕ} {at : ℕ} {o′ : List ℕ} {z : ℕ} where
-  module _ {x : Row} {i : Sort} (f : x ≡ row r) (h : i ≡ sortOf e (x .kind)) where
-    pub object-integer : i ≡ Integer → Adds (integerBytes (x .a)) most o at o′ z → Adds (objectBytes row s e deep r) most o at o′ z
-    object-integer t p = adds-same (integer-bytes row s e r deep (stands-is row e r f h t) ∙ rw f) p
+  module _ {x : Row} (f : x ≡ row r) where
+    pub leaf-put : holds (x .kind) ≡ false → Adds (leafForm s x) most o at o′ z → Adds (objectBytes row s e deep r) most o at o′ z
+    leaf-put h p = adds-same (leaf-object row s e r deep (rw f at h) ∙ rw f) p
 
-    pub object-boolean : i ≡ Boolean → Adds (booleanBytes (x .a)) most o at o′ z → Adds (objectBytes row s e deep r) most o at o′ z
-    object-boolean t p = adds-same (boolean-bytes row s e r deep (stands-is row e r f h t) ∙ rw f) p
+    module _ (h : holds (x .kind) ≡ true) where
+      pub container-floor : deep ≡ 0 → Adds (objectBytes row s e deep r) most o at o′ z
+      container-floor q = absurd (container-nested a f h q)
 
-    pub object-content : {c : ContentOf} → i ≡ Content c → Adds (cond (eqb (kindOf c) 11) 117 98 ∷ contentBytes (textOf s x)) most o at o′ z → Adds (objectBytes row s e deep r) most o at o′ z
-    object-content {c} t p = adds-same (content-bytes row s e r deep c (stands-is row e r f h t) ∙ rw f) p
+      pub container-none : (x .kind ≡ 9 → ⊥) → (x .kind ≡ 10 → ⊥) → (x .kind ≡ 14 → ⊥) → (x .kind ≡ 15 → ⊥) → (x .kind ≡ 16 → ⊥) → Adds (objectBytes row s e deep r) most o at o′ z
+      container-none b c d g i = absurd (clash h (sym (holds-none (x .kind) b c d g i)))
 
-    pub object-nil : i ≡ Nil → Adds (78 ∷ 59 ∷ []) most o at o′ z → Adds (objectBytes row s e deep r) most o at o′ z
-    object-nil t p = adds-same (nil-bytes row s e r deep (stands-is row e r f h t)) p
+    module _ (q : deep ≡ 0 → ⊥) where
+      at-deep : {xs : List ℕ} → objectBytes row s e (suc (deep - 1)) r ≡ xs → Adds xs most o at o′ z → Adds (objectBytes row s e deep r) most o at o′ z
+      at-deep g p = adds-same (ap (λ (n : ℕ). objectBytes row s e n r) (sym (deeper deep q)) ∙ g) p
 
-    pub object-unknown : i ≡ Unknown → Adds (objectBytes row s e deep r) most o at o′ z
-    object-unknown t = absurd (nothing-known a (stands-is row e r f h t))
+      pub extension-put : {b : ℕ} → x .kind ≡ 15 → b ≡ letterFor e 15 → Adds (b ∷ (entriesBytes row s e (deep - 1) 3 (r + 1) ++ (59 ∷ []))) most o at o′ z → Adds (objectBytes row s e deep r) most o at o′ z
+      extension-put k t p = at-deep (three-bytes row s e r (deep - 1) Extension (stands-extension f k)) (rw t at p)
 
-  pub many-floor : {l : ManyLetter} → Stands row e r (Many l) → deep ≡ 0 → Adds (objectBytes row s e deep r) most o at o′ z
-  many-floor d q = absurd (many-nested a d q)
+      pub node-put : x .kind ≡ 16 → Adds (88 ∷ (entriesBytes row s e (deep - 1) 3 (r + 1) ++ (59 ∷ []))) most o at o′ z → Adds (objectBytes row s e deep r) most o at o′ z
+      unfolding letterFor
+      node-put k p = at-deep (three-bytes row s e r (deep - 1) Node (stands-node f a k)) p
 
-  pub three-floor : {l : ThreeLetter} → Stands row e r (Three l) → deep ≡ 0 → Adds (objectBytes row s e deep r) most o at o′ z
-  three-floor d q = absurd (three-nested a d q)
+      module _ {n : ℕ} (t : n ≡ x .b) where
+        pub list-put : x .kind ≡ 9 → Adds (76 ∷ (entriesBytes row s e (deep - 1) n (r + 1) ++ (59 ∷ []))) most o at o′ z → Adds (objectBytes row s e deep r) most o at o′ z
+        list-put k p = at-deep (list-bytes row s e r (deep - 1) (stands-list f k)) (rw (t ∙ row-count f) at p)
 
-  module _ (q : deep ≡ 0 → ⊥) where
-    at-deep : {xs : List ℕ} → objectBytes row s e (suc (deep - 1)) r ≡ xs → Adds xs most o at o′ z → Adds (objectBytes row s e deep r) most o at o′ z
-    at-deep g p = adds-same (ap (λ (n : ℕ). objectBytes row s e n r) (sym (deeper deep q)) ∙ g) p
+        pub dict-put : x .kind ≡ 10 → Adds (68 ∷ (dictBytes row s e (deep - 1) n (r + 1) ++ (59 ∷ []))) most o at o′ z → Adds (objectBytes row s e deep r) most o at o′ z
+        dict-put k p = at-deep (dict-bytes row s e r (deep - 1) (stands-dict f k)) (rw (t ∙ row-count f) at p)
 
-    pub three-put : {l : ThreeLetter} {b : ℕ} → Stands row e r (Three l) → b ≡ letterFor e (threeKind l) → Adds (b ∷ (entriesBytes row s e (deep - 1) 3 (r + 1) ++ (59 ∷ []))) most o at o′ z → Adds (objectBytes row s e deep r) most o at o′ z
-    three-put {l} d t p = at-deep (three-bytes row s e r (deep - 1) l d) (rw t at p)
-
-    module _ {l : ManyLetter} (d : Stands row e r (Many l)) {n : ℕ} (t : n ≡ row r .b) where
-      pub list-put : l ≡ ListOf → Adds (76 ∷ (entriesBytes row s e (deep - 1) n (r + 1) ++ (59 ∷ []))) most o at o′ z → Adds (objectBytes row s e deep r) most o at o′ z
-      list-put g p = at-deep (list-bytes row s e r (deep - 1) (rw g at d)) (rw t at p)
-
-      pub dict-put : l ≡ Dict → Adds (68 ∷ (dictBytes row s e (deep - 1) n (r + 1) ++ (59 ∷ []))) most o at o′ z → Adds (objectBytes row s e deep r) most o at o′ z
-      dict-put g p = at-deep (dict-bytes row s e r (deep - 1) (rw g at d)) (rw t at p)
-
-      pub ordered-put : l ≡ Ordered → Adds (79 ∷ (pairsBytes row s e (deep - 1) n (r + 1) ++ (59 ∷ []))) most o at o′ z → Adds (objectBytes row s e deep r) most o at o′ z
-      ordered-put g p = at-deep (ordered-bytes row s e r (deep - 1) (rw g at d)) (rw t at p)
-
--- ---- a letter and what follows it; a key and its value
-
-module _ {most : ℕ} {o : List ℕ} {at : ℕ} (p : Open most (length o) at) {o₁ : List ℕ} {a : ℕ} where
-  pub letter-put : (b : ℕ) {xs : List ℕ} {o₂ : List ℕ} {z : ℕ} → Adds (b ∷ []) most o at o₁ a → Adds xs most o₁ a o₂ z → Adds (b ∷ xs) most o at o₂ z
-  letter-put b f g = adds-both p f g
-
-  pub pair-put : (row : ℕ → Row) (s : List ℕ) (e : Edition) (deep : ℕ) (text : ℕ → List ℕ) (k : ℕ) {t : List ℕ} {o₂ : List ℕ} {z : ℕ} {order order′ : List ℕ} → t ≡ text k → Adds (117 ∷ contentBytes t) most o at o₁ a → Adds (objectBytes row s e deep (k + 1)) most o₁ a o₂ z → length order′ ≡ length order → Paired (pairBytes row s e deep text k) most o at o₂ z order order′
-  unfolding pairBytes
-  pair-put row s e deep text k q f g l = record { adds = adds-both p (rw q at f) g; long = l }
+        pub ordered-put : x .kind ≡ 14 → Adds (79 ∷ (pairsBytes row s e (deep - 1) n (r + 1) ++ (59 ∷ []))) most o at o′ z → Adds (objectBytes row s e deep r) most o at o′ z
+        ordered-put k p = at-deep (ordered-bytes row s e r (deep - 1) (stands-ordered f k)) (rw (t ∙ row-count f) at p)
 
 -- ---- loops: of the bytes `whole`, those of `rest` are still to be put
 
@@ -217,10 +205,13 @@ module _ {most : ℕ} {o : List ℕ} {at : ℕ} (p : Open most (length o) at) wh
     going-on : {xs ys : List ℕ} {out′ : List ℕ} {stop′ : ℕ} → rest ≡ xs ++ ys → Adds xs most out stop out′ stop′ → length out′ ≡ length out → Going whole ys most o at out′ stop′
     going-on {xs} {ys} q a l = record { done = g .done ++ xs; adds = adds-both p (g .adds) a; is = append-assoc (g .done) xs ys ∙ rw (← q) (g .is); long = l ∙ g .long }
 
-    going-done : {out′ : List ℕ} {stop′ : ℕ} → rest ≡ [] → Adds (59 ∷ []) most out stop out′ stop′ → Adds (whole ++ (59 ∷ [])) most o at out′ stop′
-    going-done q a =
+    going-whole : rest ≡ [] → Adds whole most o at out stop
+    going-whole q =
         let h : g .done ≡ whole = sym (append-nil (g .done)) ∙ rw q at (g .is) in
-        rw (← h) (adds-both p (g .adds) a)
+        rw (← h) (g .adds)
+
+    going-done : {out′ : List ℕ} {stop′ : ℕ} → rest ≡ [] → Adds (59 ∷ []) most out stop out′ stop′ → Adds (whole ++ (59 ∷ [])) most o at out′ stop′
+    going-done q a = adds-both p (going-whole q) a
 
 module _ (row : ℕ → Row) (s : List ℕ) (e : Edition) (deep : ℕ) where
   entries-none : (r : ℕ) → entriesBytes row s e deep 0 r ≡ []
@@ -230,6 +221,9 @@ module _ (row : ℕ → Row) (s : List ℕ) (e : Edition) (deep : ℕ) where
   entries-next : (n r : ℕ) → entriesBytes row s e deep (suc n) r ≡ objectBytes row s e deep r ++ entriesBytes row s e deep n (row r .end)
   unfolding entriesBytes objectBytes trees canonAll bytesOfAll written
   entries-next n r = refl
+
+  entries-one : (r : ℕ) → entriesBytes row s e deep 1 r ≡ objectBytes row s e deep r
+  entries-one r = entries-next 0 r ∙ ap (λ (xs : List ℕ). objectBytes row s e deep r ++ xs) (entries-none (row r .end)) ∙ append-nil (objectBytes row s e deep r)
 
   pairs-none : (r : ℕ) → pairsBytes row s e deep 0 r ≡ []
   unfolding pairsBytes pairs canonPairs bytesOfPairs
@@ -247,7 +241,29 @@ module _ (row : ℕ → Row) (s : List ℕ) (e : Edition) (deep : ℕ) where
   unfolding rankedBytes pairBytes objectBytes pairsBy canonPairs bytesOfPairs written
   ranked-next text k ks = sym (append-assoc (117 ∷ contentBytes (text k)) (bytesOf e (canon (treeAt row s e deep (k + 1)))) (bytesOfPairs e (canonPairs (pairsBy text (treeAt row s e deep) ks))))
 
+-- ---- a letter, objects and `;`; a key and its value; an object by itself
+
+module _ {most : ℕ} {o : List ℕ} {at : ℕ} (p : Open most (length o) at) {o₁ : List ℕ} {a : ℕ} where
+  pub letter-put : (b : ℕ) {xs : List ℕ} {o₂ : List ℕ} {z : ℕ} → Adds (b ∷ []) most o at o₁ a → Adds xs most o₁ a o₂ z → Adds (b ∷ xs) most o at o₂ z
+  letter-put b f g = adds-both p f g
+
+  pub run-open : {xs ys : List ℕ} {o₂ : List ℕ} {c : ℕ} → Adds xs most o at o₁ a → length o₁ ≡ length o → Adds ys most o₁ a o₂ c → length o₂ ≡ length o₁ → Open most (length o₂) c
+  run-open f l g k = open-next (open-next p f l) g k
+
+  pub run-put : (b : ℕ) {xs : List ℕ} {o₂ o₃ : List ℕ} {c z : ℕ} → Adds (b ∷ []) most o at o₁ a → length o₁ ≡ length o → Adds xs most o₁ a o₂ c → Adds (59 ∷ []) most o₂ c o₃ z → Adds (b ∷ (xs ++ (59 ∷ []))) most o at o₃ z
+  run-put b f l g h = adds-both p f (adds-both (open-next p f l) g h)
+
+  pub pair-put : (row : ℕ → Row) (s : List ℕ) (e : Edition) (deep : ℕ) (text : ℕ → List ℕ) (k : ℕ) {t : List ℕ} {o₂ : List ℕ} {z : ℕ} {order order′ : List ℕ} → t ≡ text k → Adds (117 ∷ contentBytes t) most o at o₁ a → Adds (entriesBytes row s e deep 1 (k + 1)) most o₁ a o₂ z → length order′ ≡ length order → Paired (pairBytes row s e deep text k) most o at o₂ z order order′
+  unfolding pairBytes
+  pair-put row s e deep text k q f g l = record { adds = adds-both p (rw q at f) (rw (entries-one row s e deep (k + 1)) at g); long = l }
+
+pub object-put : (row : ℕ → Row) (s : List ℕ) (e : Edition) (deep r : ℕ) {most : ℕ} {o : List ℕ} {at : ℕ} {o′ : List ℕ} {z : ℕ} → Adds (entriesBytes row s e deep 1 r) most o at o′ z → Adds (objectBytes row s e deep r) most o at o′ z
+object-put row s e deep r a = rw (entries-one row s e deep r) at a
+
 -- ---- each loop's turns
+
+pub list-holds : (x : Row) {b : Bool} → b ≡ holds (x .kind) → b ≡ true → holds (x .kind) ≡ true
+list-holds x h t = sym h ∙ t
 
 -- n objects, of which `left` are still to be put, the first of them at row `here`
 pub record Listing (row : ℕ → Row) (room : ℕ) (s : List ℕ) (e : Edition) (deep n first most : ℕ) (o : List ℕ) (at : ℕ) (order₀ : List ℕ) (left here : ℕ) (order out : List ℕ) (stop : ℕ) : Type 0 where
@@ -269,19 +285,24 @@ module _ {row : ℕ → Row} {room : ℕ} {s : List ℕ} {e : Edition} {deep n f
     pub list-open : Open most (length out) stop
     list-open = going-open p (g .going)
 
-    pub list-again : {order′ out′ : List ℕ} {stop′ next : ℕ} → 0 < left → Adds (objectBytes row s e deep here) most out stop out′ stop′ → length out′ ≡ length out → length order′ ≡ length order → next ≡ row here .end → Listing row room s e deep n first most o at order₀ (left - 1) next order′ out′ stop′
-    list-again h a l k q =
-        let m : left ≡ suc (left - 1) = omega arith in
-        record {
-          going = rw q (going-on p (g .going) (ap (λ (i : ℕ). entriesBytes row s e deep i here) m ∙ entries-next row s e deep (left - 1) here) a l);
-          children = other-children (g .children) h q;
-          long = k ∙ g .long;
-        }
+    module _ (h : 0 < left) {x : Row} (f : x ≡ row here) where
+      pub list-again : {order′ out′ : List ℕ} {stop′ : ℕ} → Adds (objectBytes row s e deep here) most out stop out′ stop′ → length out′ ≡ length out → length order′ ≡ length order → Listing row room s e deep n first most o at order₀ (left - 1) (x .end) order′ out′ stop′
+      list-again a l k =
+          let m : left ≡ suc (left - 1) = omega arith in
+          let q : x .end ≡ row here .end = rw f in
+          record {
+            going = rw q (going-on p (g .going) (ap (λ (i : ℕ). entriesBytes row s e deep i here) m ∙ entries-next row s e deep (left - 1) here) a l);
+            children = other-children (g .children) h q;
+            long = k ∙ g .long;
+          }
 
-    pub list-done : {out′ : List ℕ} {stop′ : ℕ} → left ≤ 0 → Adds (59 ∷ []) most out stop out′ stop′ → Adds (entriesBytes row s e deep n first ++ (59 ∷ [])) most o at out′ stop′
-    list-done h a =
+      pub list-leaf : {b : Bool} {out′ : List ℕ} {stop′ : ℕ} → b ≡ holds (x .kind) → b ≡ false → Adds (leafForm s x) most out stop out′ stop′ → length out′ ≡ length out → Listing row room s e deep n first most o at order₀ (left - 1) (x .end) order out′ stop′
+      list-leaf b c a l = list-again (leaf-put (list-fit h) f (sym b ∙ c) a) l refl
+
+    pub list-done : left ≤ 0 → Adds (entriesBytes row s e deep n first) most o at out stop
+    list-done h =
         let m : left ≡ 0 = omega arith in
-        going-done p (g .going) (ap (λ (i : ℕ). entriesBytes row s e deep i here) m ∙ entries-none row s e deep here) a
+        going-whole p (g .going) (ap (λ (i : ℕ). entriesBytes row s e deep i here) m ∙ entries-none row s e deep here)
 
 -- n pairs, of which `left` are still to be put, the key of the first at row `here`
 pub record Pairing (row : ℕ → Row) (room : ℕ) (s : List ℕ) (e : Edition) (deep n first most : ℕ) (o : List ℕ) (at : ℕ) (order₀ : List ℕ) (left here : ℕ) (order out : List ℕ) (stop : ℕ) : Type 0 where
@@ -407,11 +428,11 @@ module _ {row : ℕ → Row} {room : ℕ} {s : List ℕ} {e : Edition} {deep spa
       let w : Like most (dictBytes row s e deep n first) (rankedBytes row s e deep (keyText room row s) (take n order)) = rw (f .is) (dict-arranged most c) in
       adds-both p x (like-put w y)
 
-pub ruleset puts = (dict-values-ready, dict-put-whole, object-integer, object-boolean, object-content, object-nil, object-unknown, many-floor, three-floor, three-put, list-put, dict-put, ordered-put, letter-put, pair-put)
+pub ruleset puts = (dict-values-ready, dict-put-whole, container-floor, container-none, extension-put, node-put, list-put, dict-put, ordered-put, letter-put, run-open, run-put, pair-put, object-put)
 
 pub ruleset texts = (part-short, key-short, content-put)
 
-pub ruleset listing = (list-first, list-fit, list-in, list-open, list-again, list-done)
+pub ruleset listing = (list-first, list-fit, list-in, list-open, list-again, list-leaf, list-done, list-holds)
 
 pub ruleset pairing = (pairs-first, pairs-fit, pairs-in, pairs-fits, pairs-open, pairs-again, pairs-done)
 

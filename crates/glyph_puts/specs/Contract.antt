@@ -1,24 +1,21 @@
 -- What putting the objects of a table asks, and the bytes that are put. Assumes nothing.
 use mathlib.Core.Path.{_≡_}
+use mathlib.Core.Bool.{cond}
 use mathlib.Core.List.{List, [], _∷_, _++_}
 use Prim.Native.Nat.{ℕ, suc, _+_, _*_, _≤_}
 use Prim.Native.Char.{code}
+use lib.Dec.{eqb}
 use lib.ListN.{length}
 use Rattle.draft.specs.declared.Extent.the-variants.{Until}
 use Rattle.draft.specs.declared.Row.{Row}
+use Rattle.draft.specs.Read.{textOf}
 use Rattle.glyph.specs.declared.Edition.{Edition}
 use Rattle.glyph.specs.declared.Want.{Want}
 use Rattle.glyph.specs.Tree.{Tree, Pairs, no-pairs, pair}
 use Rattle.glyph_output.specs.Contract.{Adds}
-use Rattle.glyph_form.specs.declared.Sort.{Sort}
-use Rattle.glyph_form.specs.Sorts.{sortOf}
 use Rattle.glyph_form.specs.Writable.{object}
 use Rattle.glyph_form.specs.Told.{trees, pairs, treeAt}
-use Rattle.glyph_form.specs.Form.{sort, canonAll, canonPairs, contentBytes, bytesOfAll, bytesOfPairs, written}
-
--- what the kind of row r names
-pub record Stands (row : ℕ → Row) (e : Edition) (r : ℕ) (i : Sort) : Type 0 where
-  pub is : sortOf e (row r .kind) ≡ i
+use Rattle.glyph_form.specs.Form.{sort, canonAll, canonPairs, integerBytes, booleanBytes, contentBytes, bytesOfAll, bytesOfPairs, written}
 
 -- the table has words for so many rows, and the texts are short
 pub record Ready (room words bytes : ℕ) : Type 0 where
@@ -55,6 +52,15 @@ module _ (row : ℕ → Row) (room : ℕ) (s : List ℕ) (e : Edition) (deep spa
 unfoldable pub pairsBy : (ℕ → List ℕ) → (ℕ → Tree) → List ℕ → Pairs
 pairsBy text f [] = no-pairs
 pairsBy text f (k ∷ ks) = pair (text k) (f (k + 1)) (pairsBy text f ks)
+
+-- the written form of an object without children, by its row
+unfoldable pub leafForm : List ℕ → Row → List ℕ
+leafForm s x =
+    cond (eqb (x .kind) 4) (integerBytes (x .a))
+    (cond (eqb (x .kind) 5) (booleanBytes (x .a))
+    (cond (eqb (x .kind) 8) (code "b" ∷ contentBytes (textOf s x))
+    (cond (eqb (x .kind) 11) (code "u" ∷ contentBytes (textOf s x))
+    (code "N" ∷ code ";" ∷ []))))
 
 -- the written forms: of the object at row r, of n objects, of the pair of a key, of n pairs,
 -- as they stand and in byte order of keys, and of the pairs of keys

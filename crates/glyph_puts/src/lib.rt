@@ -1,47 +1,29 @@
-// The objects of a table that an edition can write, put into a lent output in their written form. `put_object` puts one; those that put
-// what holds others call one another in a cycle, in which `deep`, the nesting left, falls. The rows of a plain dict's keys are put in order
-// in the lent words `order`: a dict of n pairs takes the first n, and its values the words behind them.
-use draft::Content;
+// The objects of a table that an edition can write, put into a lent output in their written form. `put_object` puts one. `put_entries` puts
+// some, one after the other: those without children in its loop, those with children by functions that call one another in a cycle, in which
+// `deep`, the nesting left, falls. The rows of a plain dict's keys are put in order in the lent words `order`: a dict of n pairs takes the
+// first n, and its values the words behind them.
 use draft::Row;
 use glyph::Edition;
-use glyph::Many;
-use glyph::Three;
-use glyph_form::Sort;
 ghost use mathlib.Core.Path.{_≡_};
-ghost use mathlib.Core.Bool.{cond};
+ghost use mathlib.Core.Bool.{true};
 ghost use mathlib.Core.List.{[], _∷_, _++_};
 ghost use Prim.Native.Nat.{_+_, _-_, _*_, _/_, _≤_, _<_};
-ghost use lib.Dec.{eqb};
 ghost use lib.ListN.{length, take};
 ghost use Rattle.draft.specs.Read.{textOf};
-ghost use Rattle.draft.specs.Rows.{kindOf};
 ghost use Rattle.draft.specs.Table.{rowAt};
 ghost use Rattle.sorting.specs.Sorting.{keyText};
-ghost use Rattle.glyph.specs.Letters.{threeKind};
 ghost use Rattle.glyph_form.specs.Form.{letterFor, contentBytes};
 ghost use Rattle.glyph_output.specs.Contract.{Open, Adds};
-ghost use Rattle.glyph_puts.specs.Contract.{Stands, Ready, Fit, Children, Members, Ranked, objectBytes, entriesBytes, pairBytes, pairsBytes, dictBytes, rankedBytes, Paired};
+ghost use Rattle.glyph_rows.specs.Holding.{holds as holdsBy};
+ghost use Rattle.glyph_puts.specs.Contract.{Ready, Fit, Children, Members, Ranked, leafForm, objectBytes, entriesBytes, pairBytes, pairsBytes, dictBytes, rankedBytes, Paired};
 
-fn content_letter(content: Content) -> u8
-    ensures { λ b. ⌜ b ≡ cond (eqb (kindOf content) 11) 117 98 ⌝ }
+// The letter of an extension.
+fn extension_letter(edition: Edition) -> u8
+    ensures { λ b. ⌜ b ≡ letterFor edition 15 ⌝ }
 {
-    match content {
-        Content::Double => b'b',
-        Content::DateTime => b'b',
-        Content::Binary => b'b',
-        Content::Text => b'u',
-    }
-}
-
-fn three_letter(edition: Edition, three: Three) -> u8
-    ensures { λ b. ⌜ b ≡ letterFor edition (threeKind three) ⌝ }
-{
-    match three {
-        Three::Extension => match edition {
-            Edition::New => b'X',
-            Edition::Old => b'H',
-        },
-        Three::Node => b'X',
+    match edition {
+        Edition::New => b'X',
+        Edition::Old => b'H',
     }
 }
 
@@ -54,24 +36,31 @@ fn next_row(table: &[u32], room: usize, r: usize) -> usize
     row.end as usize
 }
 
-// A unicode or a bytearray, by its row.
-fn put_text(
-    text: &[u8],
-    row: Row,
-    content: Content,
-    most: usize,
-    at: usize,
-    out: &mut [u8],
-) -> usize
+// A letter and the text of a row.
+fn put_text(text: &[u8], row: Row, letter: u8, most: usize, at: usize, out: &mut [u8]) -> usize
     requires { ⌜ (length (now text) ≤ 65536) × Open most (length (now out)) at ⌝ }
-    ensures { λ stop. ⌜ Adds (cond (eqb (kindOf content) 11) 117 98 ∷ contentBytes (textOf (now (text .entry)) row)) most (now (out .entry)) at (now (out .exit)) stop ⌝ }
+    ensures { λ stop. ⌜ Adds (letter ∷ contentBytes (textOf (now (text .entry)) row)) most (now (out .entry)) at (now (out .exit)) stop ⌝ }
 {
-    let letter = content_letter(content);
     let t = content::part(text, row.a as usize, row.b as usize);
     glyph_output::put_content(out, most, at, letter, t)
 }
 
-// n objects, one after the other, and `;`.
+// An object without children, by its row. It is the same in both editions.
+fn put_leaf(text: &[u8], row: Row, most: usize, at: usize, out: &mut [u8]) -> usize
+    requires { ⌜ (length (now text) ≤ 65536) × Open most (length (now out)) at ⌝ }
+    ensures { λ stop. ⌜ Adds (leafForm (now (text .entry)) row) most (now (out .entry)) at (now (out .exit)) stop ⌝ }
+{
+    let kind = row.kind;
+    match kind {
+        4 => glyph_output::put_integer(out, most, at, row.a),
+        5 => glyph_output::put_boolean(out, most, at, row.a),
+        8 => put_text(text, row, b'b', most, at, out),
+        11 => put_text(text, row, b'u', most, at, out),
+        _ => glyph_output::put_single(out, most, at, b'N'),
+    }
+}
+
+// n objects, one after the other.
 fn put_entries(
     edition: Edition,
     table: &[u32],
@@ -86,28 +75,36 @@ fn put_entries(
     out: &mut [u8],
 ) -> usize
     requires { ⌜ Ready room (length (now table)) (length (now text)) × Open most (length (now out)) at × Children (rowAt room (now table)) room (now text) edition deep (length (now order)) n first ⌝ }
-    ensures { λ stop. ⌜ Adds (entriesBytes (rowAt room (now (table .entry))) (now (text .entry)) edition deep n first ++ (59 ∷ [])) most (now (out .entry)) at (now (out .exit)) stop ⌝ }
+    ensures { λ stop. ⌜ Adds (entriesBytes (rowAt room (now (table .entry))) (now (text .entry)) edition deep n first) most (now (out .entry)) at (now (out .exit)) stop ⌝ }
 {
     let mut left = n;
     let mut here = first;
     let mut stop = at;
     while 0 < left {
-        stop = put_object(
-            edition,
-            table,
-            room,
-            text,
-            deep,
-            here,
-            order,
-            most,
-            stop,
-            out,
-        );
-        here = next_row(table, room, here);
-        left -= 1;
+        let row = table::get_row(table, room, here);
+        if glyph_rows::holds(row.kind) {
+            stop = put_container(
+                edition,
+                table,
+                room,
+                text,
+                deep,
+                row,
+                here,
+                order,
+                most,
+                stop,
+                out,
+            );
+            here = row.end as usize;
+            left -= 1;
+        } else {
+            stop = put_leaf(text, row, most, stop, out);
+            here = row.end as usize;
+            left -= 1;
+        }
     }
-    glyph_output::put_byte(out, most, stop, b';')
+    stop
 }
 
 // A letter, n objects and `;`: a list, an extension or a node.
@@ -129,7 +126,7 @@ fn put_list(
     ensures { λ stop. ⌜ Adds (letter ∷ (entriesBytes (rowAt room (now (table .entry))) (now (text .entry)) edition deep n first ++ (59 ∷ []))) most (now (out .entry)) at (now (out .exit)) stop ⌝ }
 {
     let start = glyph_output::put_byte(out, most, at, letter);
-    put_entries(
+    let stop = put_entries(
         edition,
         table,
         room,
@@ -141,7 +138,8 @@ fn put_list(
         most,
         start,
         out,
-    )
+    );
+    glyph_output::put_byte(out, most, stop, b';')
 }
 
 // The pair of the key at row k.
@@ -162,12 +160,13 @@ fn put_pair(
 {
     let key = sorting::key_text(table, room, text, k);
     let start = glyph_output::put_content(out, most, at, b'u', key);
-    put_object(
+    put_entries(
         edition,
         table,
         room,
         text,
         deep,
+        1,
         k + 1,
         order,
         most,
@@ -307,29 +306,30 @@ fn put_dict(
     put_ranked(edition, table, room, text, deep, n, order, most, start, out)
 }
 
-// The list or the dict of row r, which holds n.
-fn put_many(
+// The object with children of row r.
+fn put_container(
     edition: Edition,
     table: &[u32],
     room: usize,
     text: &[u8],
     deep: usize,
-    many: Many,
-    n: usize,
+    row: Row,
     r: usize,
     order: &mut [u32],
     most: usize,
     at: usize,
     out: &mut [u8],
 ) -> usize
-    requires { ⌜ Ready room (length (now table)) (length (now text)) × Open most (length (now out)) at × Fit (rowAt room (now table)) room (now text) edition deep (length (now order)) r × Stands (rowAt room (now table)) edition r (Sort.Many many) × (n ≡ rowAt room (now table) r .b) ⌝ }
+    requires { ⌜ Ready room (length (now table)) (length (now text)) × Open most (length (now out)) at × Fit (rowAt room (now table)) room (now text) edition deep (length (now order)) r × (row ≡ rowAt room (now table) r) × (holdsBy (row .kind) ≡ true) ⌝ }
     ensures { λ stop. ⌜ Adds (objectBytes (rowAt room (now (table .entry))) (now (text .entry)) edition deep r) most (now (out .entry)) at (now (out .exit)) stop ⌝ }
 {
     if deep == 0 {
         return at;
     }
-    match many {
-        Many::List => put_list(
+    let n = row.b as usize;
+    let kind = row.kind;
+    match kind {
+        9 => put_list(
             edition,
             table,
             room,
@@ -343,7 +343,7 @@ fn put_many(
             at,
             out,
         ),
-        Many::Dict => put_dict(
+        10 => put_dict(
             edition,
             table,
             room,
@@ -356,7 +356,7 @@ fn put_many(
             at,
             out,
         ),
-        Many::Ordered => put_ordered(
+        14 => put_ordered(
             edition,
             table,
             room,
@@ -369,44 +369,39 @@ fn put_many(
             at,
             out,
         ),
+        15 => {
+            let letter = extension_letter(edition);
+            put_list(
+                edition,
+                table,
+                room,
+                text,
+                deep - 1,
+                letter,
+                3,
+                r + 1,
+                order,
+                most,
+                at,
+                out,
+            )
+        }
+        16 => put_list(
+            edition,
+            table,
+            room,
+            text,
+            deep - 1,
+            b'X',
+            3,
+            r + 1,
+            order,
+            most,
+            at,
+            out,
+        ),
+        _ => at,
     }
-}
-
-// The extension or the node of row r.
-fn put_three(
-    edition: Edition,
-    table: &[u32],
-    room: usize,
-    text: &[u8],
-    deep: usize,
-    three: Three,
-    r: usize,
-    order: &mut [u32],
-    most: usize,
-    at: usize,
-    out: &mut [u8],
-) -> usize
-    requires { ⌜ Ready room (length (now table)) (length (now text)) × Open most (length (now out)) at × Fit (rowAt room (now table)) room (now text) edition deep (length (now order)) r × Stands (rowAt room (now table)) edition r (Sort.Three three) ⌝ }
-    ensures { λ stop. ⌜ Adds (objectBytes (rowAt room (now (table .entry))) (now (text .entry)) edition deep r) most (now (out .entry)) at (now (out .exit)) stop ⌝ }
-{
-    if deep == 0 {
-        return at;
-    }
-    let letter = three_letter(edition, three);
-    put_list(
-        edition,
-        table,
-        room,
-        text,
-        deep - 1,
-        letter,
-        3,
-        r + 1,
-        order,
-        most,
-        at,
-        out,
-    )
 }
 
 // The object of row r.
@@ -425,40 +420,5 @@ pub fn put_object(
     requires { ⌜ Ready room (length (now table)) (length (now text)) × Open most (length (now out)) at × Fit (rowAt room (now table)) room (now text) edition deep (length (now order)) r ⌝ }
     ensures { λ stop. ⌜ Adds (objectBytes (rowAt room (now (table .entry))) (now (text .entry)) edition deep r) most (now (out .entry)) at (now (out .exit)) stop ⌝ }
 {
-    let row = table::get_row(table, room, r);
-    let sort = glyph_rows::sort_of(edition, row.kind);
-    match sort {
-        Sort::Integer => glyph_output::put_integer(out, most, at, row.a),
-        Sort::Boolean => glyph_output::put_boolean(out, most, at, row.a),
-        Sort::Content(content) => put_text(text, row, content, most, at, out),
-        Sort::Nil => glyph_output::put_single(out, most, at, b'N'),
-        Sort::Many(many) => put_many(
-            edition,
-            table,
-            room,
-            text,
-            deep,
-            many,
-            row.b as usize,
-            r,
-            order,
-            most,
-            at,
-            out,
-        ),
-        Sort::Three(three) => put_three(
-            edition,
-            table,
-            room,
-            text,
-            deep,
-            three,
-            r,
-            order,
-            most,
-            at,
-            out,
-        ),
-        Sort::Unknown => at,
-    }
+    put_entries(edition, table, room, text, deep, 1, r, order, most, at, out)
 }

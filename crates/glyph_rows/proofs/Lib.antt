@@ -1,2 +1,2 @@
+pub mod Containers
 pub mod Rows
-pub mod Sorting

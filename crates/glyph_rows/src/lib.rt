@@ -1,38 +1,11 @@
-// What a row's kind names in an edition, whether it is an object with children, and whether such a row may hold what it says.
-use draft::Content;
+// Which rows are those of objects with children, and whether such a row may hold what it says in an edition.
 use draft::Row;
 use glyph::Edition;
-use glyph::Many;
-use glyph::Three;
-use glyph_form::Sort;
 ghost use mathlib.Core.Path.{_≡_};
 ghost use Prim.Native.Nat.{_*_, _≤_, _<_};
 ghost use lib.ListN.{length};
 ghost use Rattle.draft.specs.Table.{rowAt};
-ghost use Rattle.glyph_form.specs.Sorts.{sortOf};
 ghost use Rattle.glyph_rows.specs.Holding.{holds as holdsBy, isDict, named, mayHold};
-
-// What a kind names.
-pub fn sort_of(edition: Edition, kind: u32) -> Sort
-    ensures { λ r. ⌜ r ≡ sortOf edition kind ⌝ }
-{
-    match kind {
-        4 => Sort::Integer,
-        5 => Sort::Boolean,
-        8 => Sort::Content(Content::Binary),
-        9 => Sort::Many(Many::List),
-        10 => Sort::Many(Many::Dict),
-        11 => Sort::Content(Content::Text),
-        13 => Sort::Nil,
-        14 => Sort::Many(Many::Ordered),
-        15 => Sort::Three(Three::Extension),
-        16 => match edition {
-            Edition::New => Sort::Unknown,
-            Edition::Old => Sort::Three(Three::Node),
-        },
-        _ => Sort::Unknown,
-    }
-}
 
 // Whether a kind is that of an object with children.
 pub fn holds(kind: u32) -> bool

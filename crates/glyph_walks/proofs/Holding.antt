@@ -1,6 +1,6 @@
 -- Objects with children: what the rows below them must be, in one run. Assumes nothing.
 use mathlib.Core.Path.{_≡_, refl, sym, ap, _∙_}
-use mathlib.Core.Bool.{Bool, true, false, _&&_, _||_}
+use mathlib.Core.Bool.{Bool, true, false, _&&_}
 use mathlib.Core.List.{List, []}
 use Prim.Native.Nat.{ℕ, zero, suc, _+_, _-_, _≤_, _<_}
 use native.Mathlib.Omega.{arith}
@@ -15,43 +15,17 @@ use Rattle.draft.specs.declared.Row.{Row}
 use Rattle.draft.specs.Writable.{Walk, fit, closed, over, holding, then, pair, items, alike, nothing}
 use Rattle.key_rows.proofs.Keying.{until-one, no-end, fit-end, content-end}
 use Rattle.glyph.specs.declared.Edition.{Edition}
-use Rattle.glyph.specs.declared.Edition.the-variants.{New, Old}
-use Rattle.glyph.specs.declared.Many.{Many as ManyLetter}
-use Rattle.glyph.specs.declared.Many.the-variants.{List as ListOf, Dict, Ordered}
 use Rattle.glyph.specs.declared.Three.{Three as ThreeLetter}
 use Rattle.glyph.specs.declared.Three.the-variants.{Extension, Node}
 use Rattle.glyph.specs.declared.Want.{Want}
 use Rattle.glyph.specs.declared.Want.the-variants.{Any, Text, EitherDict}
 use Rattle.glyph_form.specs.declared.Sort.the-variants.{Content, Many, Three, Unknown}
-use Rattle.glyph.specs.Letters.{keyedBy, nameWant, attributesWant}
-use Rattle.glyph_form.specs.Sorts.{nodeSort, sortOf, meets}
+use Rattle.glyph.specs.Letters.{nameWant, attributesWant}
+use Rattle.glyph_form.specs.Sorts.{sortOf, meets}
 use Rattle.glyph_form.specs.Writable.{Nest, floor, under, entry, kept, entries, item, object}
 use Rattle.glyph_rows.specs.Holding.{holds, isDict, named, threeNamed, mayHold}
+use Rattle.glyph_rows.proofs.Containers.{Container, a-many, a-three, unknown, container}
 use Rattle.glyph_walks.specs.Contract.{nested}
-
--- ---- which kinds hold others
-
--- what a kind names that holds others; a node is Unknown in 1.0
-data Container (e : Edition) (k : ℕ) : Type 0 where
-  a-many : (l : ManyLetter) → sortOf e k ≡ Many l → keyedBy l ≡ isDict k → Container e k
-  a-three : (l : ThreeLetter) → sortOf e k ≡ Three l → isDict k ≡ false → Container e k
-  unknown : sortOf e k ≡ Unknown → Container e k
-
-container : (e : Edition) (k : ℕ) → holds k ≡ true → Container e k
-unfolding holds isDict sortOf
-container e k h = go (eqb k 9) refl (eqb k 10) refl (eqb k 14) refl (eqb k 15) refl (eqb k 16) refl h
-  where
-    node : (d : Edition) → nodeSort d ≡ nodeSort e → Container e 16
-    node New q = unknown (sym q)
-    node Old q = a-three Node (sym q) refl
-
-    go : (a : Bool) → eqb k 9 ≡ a → (b : Bool) → eqb k 10 ≡ b → (c : Bool) → eqb k 14 ≡ c → (d : Bool) → eqb k 15 ≡ d → (f : Bool) → eqb k 16 ≡ f → (a || (b || (c || (d || f)))) ≡ true → Container e k
-    go true p b q c r d s f t h = rw (eqb-true k 9 p) (a-many ListOf refl refl)
-    go false p true q c r d s f t h = rw (eqb-true k 10 q) (a-many Dict refl refl)
-    go false p false q true r d s f t h = rw (eqb-true k 14 r) (a-many Ordered refl refl)
-    go false p false q false r true s f t h = rw (eqb-true k 15 s) (a-three Extension refl refl)
-    go false p false q false r false s true t h = rw (eqb-true k 16 t) (node e refl)
-    go false p false q false r false s false t h = clash h refl
 
 -- ---- three objects, one after the other
 
@@ -154,14 +128,6 @@ nested-less row rows s e zero n = absurd (n refl)
 nested-less row rows s e (suc deep) n = rw sub-one
 
 module _ (row : ℕ → Row) (rows : ℕ) (s : List ℕ) (e : Edition) (x : Row) (r : ℕ) (h : holds (x .kind) ≡ true) where
-  pub floor-none : Unfit ≡ item row rows s (sortOf e (x .kind)) floor x r
-  floor-none = go (container e (x .kind) h)
-    where
-      go : Container e (x .kind) → Unfit ≡ item row rows s (sortOf e (x .kind)) floor x r
-      go (a-many l k q) = rw k
-      go (a-three l k q) = rw k
-      go (unknown k) = rw k
-
   module _ (deep : ℕ) where
     abbrev within : Nest
     within = under (object row rows s e deep)

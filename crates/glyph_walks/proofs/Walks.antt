@@ -33,13 +33,10 @@ use Rattle.glyph_form.specs.Sorts.{pickSort, sortOf, meets}
 use Rattle.glyph_form.specs.Writable.{Nest, floor, entry, kept, entries, item, object}
 use Rattle.glyph_rows.specs.Holding.{holds, isDict, mayHold}
 use Rattle.glyph_walks.specs.Contract.{Met, Here, nested, childless}
-use Rattle.glyph_walks.proofs.Holding.{object-here, nested-none, nested-less, floor-none, held-not, held-run}
+use Rattle.glyph_rows.proofs.Containers.{alone, floor-none}
+use Rattle.glyph_walks.proofs.Holding.{object-here, nested-none, nested-less, held-not, held-run}
 
 -- ---- an object is what its row's kind names
-
-neither : (a b : Bool) → (a || b) ≡ false → (a ≡ false) × (b ≡ false)
-neither true b e = clash refl e
-neither false b e = (refl, e)
 
 over-end : (x : Row) (o : Extent) {n : ℕ} → over x o ≡ Until n → o ≡ Until n
 over-end x o e = closed-end x o (fit-end (eqb (x .a) 0) (closed x o) e)
@@ -47,13 +44,10 @@ over-end x o e = closed-end x o (fit-end (eqb (x .a) 0) (closed x o) e)
 module _ (row : ℕ → Row) (rows : ℕ) (s : List ℕ) (x : Row) (r : ℕ) where
   -- what holds no others is alike in both editions, however much may nest
   childless-is : (e : Edition) (nest : Nest) (k : ℕ) → holds k ≡ false → item row rows s (sortOf e k) nest x r ≡ item row rows s (sortOf New k) floor x r
-  unfolding holds sortOf
+  unfolding sortOf
   childless-is e nest k h =
-      let a = neither (eqb k 9) _ h in
-      let b = neither (eqb k 10) _ (a .1) in
-      let c = neither (eqb k 14) _ (b .1) in
-      let d = neither (eqb k 15) (eqb k 16) (c .1) in
-      rw (a .0, b .0, c .0, d .0, d .1) (go (eqb k 4) (eqb k 5) (eqb k 8) (eqb k 11) (eqb k 13))
+      let a = alone k h in
+      rw (a .0, a .1, a .2, a .3, a .4) (go (eqb k 4) (eqb k 5) (eqb k 8) (eqb k 11) (eqb k 13))
     where
       go : (p q u v w : Bool) → item row rows s (pickSort p Integer (pickSort q Boolean (pickSort u (Content Binary) (pickSort v (Content TextContent) (pickSort w Nil Unknown))))) nest x r ≡ item row rows s (pickSort p Integer (pickSort q Boolean (pickSort u (Content Binary) (pickSort v (Content TextContent) (pickSort w Nil Unknown))))) floor x r
       go true q u v w = refl

@@ -12,7 +12,7 @@ use lib.Dec.{ltb}
 use borrow.Author.Tests.{lt-ltb, le-ltb}
 use lib.Seq.{take-all, drop-cons, take-at, length-take-le, take-suc-set}
 use Rattle.draft.specs.declared.Row.{Row}
-use Rattle.sorting.specs.Sorting.{sorted}
+use Rattle.sorting.specs.Sorting.{insertAt, spot, inserted, sorted}
 use Rattle.key_order.specs.Arranged.{keyRows, Keys, no-key, key, over, arranged, Laid}
 
 -- ---- the rows of the keys
@@ -104,6 +104,23 @@ module _ (text : ℕ → List ℕ) where
 
 pub ruleset counting = (count-first, count-over, count-again, count-done)
 
+-- ---- one alone is in order
+
+module _ (text : ℕ → List ℕ) where
+  sorted-few : (ks : List ℕ) → length ks < 2 → sorted text ks ≡ ks
+  unfolding sorted inserted spot insertAt
+  sorted-few [] h = refl
+  sorted-few (k ∷ []) h = refl
+  sorted-few (k ∷ j ∷ ks) h = absurd (omega arith)
+
+  arranged-few : (most : ℕ) (ks : List ℕ) → length ks < 2 → arranged text most ks ≡ ks
+  unfolding arranged
+  arranged-few most ks h = go (over text most ks)
+    where
+      go : (b : Bool) → cond b ks (sorted text ks) ≡ ks
+      go true = refl
+      go false = sorted-few ks h
+
 -- ---- at the front
 
 keys-length : (row : ℕ → Row) (n r : ℕ) → length (keyRows row n r) ≡ n
@@ -137,6 +154,9 @@ module _ (row : ℕ → Row) (n : ℕ) (o : List ℕ) (h : n + n / 2 ≤ length 
     pub noted-room : n + n / 2 ≤ length noted
     noted-room = let q : n - 0 ≡ n = omega arith in rw (q, length-append, ys-length, length-drop) (omega arith)
 
+    pub few-so : (text : ℕ → List ℕ) (most : ℕ) → n < 2 → Laid text most (keyRows row n first) n noted
+    few-so text most l = let k : length (keyRows row n first) < 2 = rw (keys-length row n first) l in record { is = noted-front ∙ ys-keys ∙ sym (arranged-few text most (keyRows row n first) k) }
+
     module _ (text : ℕ → List ℕ) (most : ℕ) {b : Bool} (f : b ≡ over text most (take (n - 0) (drop 0 noted))) where
       is-over : b ≡ over text most (keyRows row n first)
       is-over = f ∙ ap (over text most) noted-lent
@@ -149,4 +169,4 @@ module _ (row : ℕ → Row) (n : ℕ) (o : List ℕ) (h : n + n / 2 ≤ length 
       unfolding arranged
       put-so g s = record { is = s ∙ rw (noted-front, ys-keys, ← is-over, g) }
 
-pub ruleset fronts = (front-keys, noted-room, left-so, put-so)
+pub ruleset fronts = (front-keys, noted-room, few-so, left-so, put-so)

@@ -55,6 +55,9 @@ pub fn arrange(
     ensures { λ _. ⌜ Laid (keyText room (rowAt room (now (table .entry))) (now (text .entry))) most (keyRows (rowAt room (now (table .entry))) n first) n (now (rows .exit)) ⌝ }
 {
     gather(table, room, first, &mut rows[0..n]);
+    if n < 2 {
+        return;
+    }
     if is_over(table, room, text, most, &rows[0..n]) {
         return;
     }

@@ -5,7 +5,6 @@ use Rattle.glyph_puts.proofs.put_text.Tie as tie
 
 pub put-text-spec : {M : Type 1} → statement M
 put-text-spec = tie.close (tie.spec
-    (λ c κs. search needs)
     (λ c. search needs)
     (λ c. search needs)
     (λ c κs. search needs)
