@@ -1,15 +1,23 @@
 -- What answers the entries' returns, and that a list stored one by one is the whole list. Assumes nothing.
 use mathlib.Core.Path.{_≡_, refl, sym, ap, _∙_}
+use mathlib.Core.Bool.{Bool, true, false, cond, _||_}
 use mathlib.Core.List.{List, [], _∷_, _++_}
 use Prim.Native.Nat.{ℕ, zero, suc, _+_, _-_, _≤_, _<_}
 use native.Mathlib.Omega.{arith}
 use native.Mathlib.Numerals.{add-one}
-use lib.ListN.{length, getD, set, replicate}
-use borrow.Author.Tests.{ne-eqb, lt-ltb, le-ltb}
-use Rattle.draft.specs.Table.{from}
-use Rattle.member.specs.Members.{memberOf}
+use lib.ListN.{length, getD, set, replicate, length-set}
+use lib.Dec.{ltb, eqb}
+use borrow.Author.Tests.{ne-eqb, lt-ltb, le-ltb, ltb-true, ltb-false}
+use Rattle.text.proofs.Comparing.{clash}
+use Rattle.draft.specs.Table.{roomOf, rowAt, from}
+use Rattle.draft.specs.Writable.{writable}
+use Rattle.member.specs.declared.Member.{Member}
+use Rattle.member.specs.Members.{memberOf, isStruct, members}
 use Rattle.seeking.specs.Seeking.{unused}
-use Rattle.index.specs.Filling.{padded, orderOf, Listed, entryOf, entries}
+use Rattle.sorting.specs.Sorting.{keyText, sorted}
+use Rattle.sorting.proofs.Inserting.{sorted-length}
+use Rattle.index.proofs.Members.{rows-length}
+use Rattle.index.specs.Filling.{keyRows, padded, refusalIn, orderIn, orderOf, Listed, narrowed, Ordered, entryOf, entries}
 
 -- ---- one entry
 
@@ -18,9 +26,9 @@ getD-past [] i h = refl
 getD-past (x ∷ xs) zero h = absurd (omega arith)
 getD-past (x ∷ xs) (suc i) h = getD-past xs i (omega arith)
 
-pub entry-past : (xs : List ℕ) (i : ℕ) → length xs ≤ i → unused ≡ entryOf (getD xs i 0)
+pub entry-past : (xs : List ℕ) (i : ℕ) → length xs ≡ 2112 → 2112 ≤ i → unused ≡ entryOf (getD xs i 0)
 unfolding entryOf
-entry-past xs i h = rw (getD-past xs i h)
+entry-past xs i l h = rw (getD-past xs i (omega (arith, l)))
 
 pub entry-none : (k : ℕ) → k ≡ 0 → unused ≡ entryOf k
 unfolding entryOf
@@ -101,11 +109,123 @@ unfolding from
 same-from f g e r zero = refl
 same-from {A} f g e r (suc n) = rw (e r, same-from f g e (suc r) n)
 
-pub entries-padded : (ks : List ℕ) (n : ℕ) → from (λ i. entryOf (getD (padded ks) i 0)) 0 n ≡ entries ks n
-unfolding padded entries
-entries-padded ks n = same-from (λ i. entryOf (getD (padded ks) i 0)) (λ i. entryOf (getD ks i 0)) (λ i. ap entryOf (before-zeros (3071 - length ks) ks i)) 0 n
+-- the entries of what is kept are the index
+pub ordered-entries :
+    {T s kept : List ℕ} {rows r n answer : ℕ} → Ordered T rows s r n answer kept → from (λ i. entryOf (getD kept i 0)) 0 n ≡ entries (orderOf T rows s r n) n
+unfolding entries
+ordered-entries {T} {s} {kept} {rows} {r} {n} o = same-from (λ i. entryOf (getD kept i 0)) (λ i. entryOf (getD (orderOf T rows s r n) i 0)) (o .entry) 0 n
 
--- the entries of what sorting left are the index
-pub listed-entries :
-    {T s order : List ℕ} {rows r n answer : ℕ} → Listed T rows s r n answer order → from (λ i. entryOf (getD order i 0)) 0 n ≡ entries (orderOf T rows s r n) n
-listed-entries {T} {s} {order} {rows} {r} {n} l = rw (l .holds) (entries-padded (orderOf T rows s r n) n)
+-- ---- key rows in two bytes
+
+pub narrow-far : (k : ℕ) → 4096 < k → 0 ≡ narrowed k
+unfolding narrowed
+narrow-far k h = rw (lt-ltb 4096 k h)
+
+pub narrow-near : (k : ℕ) → k ≤ 4096 → k ≡ narrowed k
+unfolding narrowed
+narrow-near k h = rw (le-ltb 4096 k h)
+
+pub ruleset narrowing = (narrow-far, narrow-near)
+
+-- n numbers, of which i are stored
+pub record Narrowing (f : ℕ → ℕ) (xs : List ℕ) (i : ℕ) (list : List ℕ) : Type 0 where
+  pub within : i ≤ length xs
+  pub same : length list ≡ length xs
+  pub comes : stored f i (length xs - i) list ≡ from f 0 (length xs)
+
+pub all-first : (f : ℕ → ℕ) (xs : List ℕ) → Narrowing f xs 0 xs
+all-first f xs = record { within = omega arith; same = refl; comes = stored-first f xs }
+
+module _ {f : ℕ → ℕ} {xs : List ℕ} {i : ℕ} {list : List ℕ} (g : Narrowing f xs i list) where
+  pub all-in : (w : List ℕ) → length xs ≤ length w → i < length list → i < length w
+  all-in w l h = omega (arith, g .same)
+
+  pub all-again : {x : ℕ} → i < length list → x ≡ f i → Narrowing f xs (i + 1) (set list i x)
+  all-again {x} h e =
+      let l : i < length xs = omega (arith, g .same) in
+      record { within = omega arith; same = length-set list i x ∙ g .same; comes = stored-next f xs (record { i = i; list = list; within = g .within; same = g .same; comes = g .comes }) x l e }
+
+  pub all-less : i < length list → length xs - (i + 1) < length xs - i
+  all-less h = omega (arith, g .same)
+
+  pub all-kept : length list ≡ length xs
+  all-kept = g .same
+
+  pub all-done : length list ≤ i → list ≡ from f 0 (length xs)
+  all-done h = stored-done f xs (record { i = i; list = list; within = g .within; same = g .same; comes = g .comes }) (omega (arith, g .same))
+
+pub ruleset all-narrowed = (all-first, all-in, all-again, all-less, all-kept, all-done)
+
+entry-narrowed : (k : ℕ) → entryOf (narrowed k) ≡ entryOf k
+unfolding entryOf narrowed
+entry-narrowed k = go (ltb 4096 k) refl
+  where
+    go : (b : Bool) → ltb 4096 k ≡ b → entryOf (cond b 0 k) ≡ entryOf k
+    go true h = far (eqb k 0)
+      where
+        far : (c : Bool) → unused ≡ cond (c || ltb 4096 k) unused (memberOf k (k + 1))
+        far true = refl
+        far false = rw h
+    go false h = refl
+
+from-at : (f : ℕ → ℕ) (r m i : ℕ) → i < m → getD (from f r m) i 0 ≡ f (r + i)
+unfolding from
+from-at f r zero i h = absurd (omega arith)
+from-at f r (suc m) zero h = let e : r ≡ r + 0 = omega arith in ap f e
+from-at f r (suc m) (suc i) h = let e : suc r + i ≡ r + suc i = omega arith in from-at f (suc r) m i (omega arith) ∙ ap f e
+
+from-length : (f : ℕ → ℕ) (r m : ℕ) → length (from f r m) ≡ m
+unfolding from
+from-length f r zero = refl
+from-length f r (suc m) = ap suc (from-length f (suc r) m)
+
+-- no index has more entries
+order-most : (T : List ℕ) (rows : ℕ) (s : List ℕ) (r n : ℕ) → length (orderOf T rows s r n) ≤ 2047
+unfolding orderOf orderIn refusalIn
+order-most T rows s r n = table (writable T rows s)
+  where
+    room : ℕ
+    room = roomOf 4096 (length T)
+
+    ms : List Member
+    ms = members (rowAt room T) rows r
+
+    few : eqb (refusalIn room (rowAt room T) rows s r n) 0 ≡ true → length ms ≤ 2047
+    few h = go (isStruct (rowAt room T) rows r) (ltb n (length ms)) (ltb 2047 (length ms)) refl h
+      where
+        go : (a b c : Bool) → ltb 2047 (length ms) ≡ c → eqb (cond a (cond (b || c) 21 0) 18) 0 ≡ true → length ms ≤ 2047
+        go true false false q h = ltb-false 2047 (length ms) q
+        go true true c q h = clash h refl
+        go true false true q h = clash h refl
+        go false b c q h = clash h refl
+
+    its : (c : Bool) → eqb (refusalIn room (rowAt room T) rows s r n) 0 ≡ c → length (cond c (sorted (keyText room (rowAt room T) s) (keyRows ms)) []) ≤ 2047
+    its true h = rw (sorted-length (keyText room (rowAt room T) s) (keyRows ms), rows-length ms) (few h)
+    its false h = omega arith
+
+    table : (c : Bool) → length (cond c (orderIn room (rowAt room T) rows s r n) []) ≤ 2047
+    table true = its (eqb (refusalIn room (rowAt room T) rows s r n) 0) refl
+    table false = omega arith
+
+-- what sorting left, in two bytes each
+pub ordered-so :
+    {T s order : List ℕ} {rows r n answer : ℕ} {kept : List ℕ} → Listed T rows s r n answer order → kept ≡ from (λ i. narrowed (getD order i 0)) 0 2112 → Ordered T rows s r n answer kept
+unfolding padded
+ordered-so {T} {s} {order} {rows} {r} {n} {kept = kept} l e = record { answers = l .answers; entry = λ i. there i (ltb i 2112) refl }
+  where
+    f : ℕ → ℕ
+    f i = narrowed (getD order i 0)
+
+    padded-at : (i : ℕ) → getD order i 0 ≡ getD (orderOf T rows s r n) i 0
+    padded-at i = rw (l .holds) (before-zeros (3071 - length (orderOf T rows s r n)) (orderOf T rows s r n) i)
+
+    nought : (i : ℕ) → 0 + i ≡ i
+    nought i = omega arith
+
+    there : (i : ℕ) (b : Bool) → ltb i 2112 ≡ b → entryOf (getD kept i 0) ≡ entryOf (getD (orderOf T rows s r n) i 0)
+    there i true h = ap entryOf (ap (λ (k : List ℕ). getD k i 0) e ∙ from-at f 0 2112 i (ltb-true i 2112 h) ∙ ap f (nought i)) ∙ entry-narrowed (getD order i 0) ∙ ap entryOf (padded-at i)
+    there i false h =
+        let p : 2112 ≤ i = ltb-false i 2112 h in
+        let a : getD kept i 0 ≡ 0 = getD-past kept i (rw (e, from-length f 0 2112) p) in
+        let b : getD (orderOf T rows s r n) i 0 ≡ 0 = getD-past (orderOf T rows s r n) i (omega (arith, p, order-most T rows s r n)) in
+        ap entryOf (a ∙ sym b)

@@ -60,6 +60,15 @@ module _ (T : List ℕ) (rows : ℕ) (s : List ℕ) (r n : ℕ) where
 unfoldable pub entryOf : ℕ → Member
 entryOf k = cond (eqb k 0 || ltb 4096 k) unused (memberOf k (k + 1))
 
+-- a number that has an entry, as it is kept
+unfoldable pub narrowed : ℕ → ℕ
+narrowed k = cond (ltb 4096 k) 0 k
+
+-- the rows that are kept have the entries of the key rows
+pub record Ordered (T : List ℕ) (rows : ℕ) (s : List ℕ) (r n answer : ℕ) (kept : List ℕ) : Type 0 where
+  pub answers : answer ≡ refusalOf T rows s r n
+  pub entry : (i : ℕ) → entryOf (getD kept i 0) ≡ entryOf (getD (orderOf T rows s r n) i 0)
+
 -- n entries: entry i is that of key row i, and behind them stand unused ones
 unfoldable pub entries : List ℕ → ℕ → List Member
 entries ks n = from (λ i. entryOf (getD ks i 0)) 0 n

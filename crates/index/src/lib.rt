@@ -11,21 +11,25 @@ ghost use mathlib.Core.Bool.{true};
 ghost use mathlib.Core.List.{[]};
 ghost use Prim.Native.Nat.{_-_, _*_, _≤_, _<_};
 ghost use lib.ListN.{length, getD};
-ghost use Rattle.draft.specs.Table.{roomOf, rowAt};
+ghost use Rattle.draft.specs.Table.{roomOf, rowAt, from};
 ghost use Rattle.draft.specs.Writable.{writable as writableIn};
 ghost use Rattle.member.specs.Members.{membersFrom, members};
 ghost use Rattle.lookup.specs.Reports.{reportOf};
 ghost use Rattle.seeking.specs.Seeking.{over, begun, turned};
 ghost use Rattle.sorting.specs.Sorting.{keyText, sorted};
-ghost use Rattle.index.specs.Filling.{keyRows, padded, Gathered, Arranged, Listed, entryOf};
+ghost use Rattle.index.specs.Filling.{keyRows, padded, Gathered, Arranged, Listed, narrowed, Ordered, entryOf};
 ghost use Rattle.index.specs.Through.{relationTo, isMember, verified, judgedOf, startOf, questionAt, asks, Rightly, stepFor, answerFor};
 
 // The most members that a Struct of a writable table has.
 const MOST: usize = 2047;
 
-// The key rows of a Struct's members in byte order of their texts, zeros behind them; and 0, or why there are none.
+// How many key rows are kept: more than MOST, so that no copy of them lies 4,096 bytes behind them, where copying takes 20 times as long.
+const KEPT: usize = 2112;
+
+// The key rows of a Struct's members in byte order of their texts, zeros behind them; and 0, or why there are none. It is copied for each
+// entry, so a key row has two bytes here.
 pub struct Order {
-    pub rows: [u32; 3071],
+    pub rows: [u16; 2112],
     pub answer: u8,
 }
 
@@ -134,44 +138,64 @@ fn judged_order(
     11
 }
 
-// The key rows of the Struct of row r in order, for a list of n entries.
-pub fn order_of<'a>(table: &'a [u32], rows: usize, text: &'a [u8], r: usize, n: usize) -> Order
-    ensures { λ o. ⌜ Listed (now (table .entry)) rows (now (text .entry)) r n (o .answer) (o .rows) ⌝ }
+// A key row in two bytes; a number that is none is 0.
+fn narrow(k: u32) -> u16
+    ensures { λ x. ⌜ x ≡ narrowed k ⌝ }
 {
-    let mut order = [0; 3071];
-    let answer = judged_order(table, rows, text, r, n, &mut order);
-    Order {
-        rows: order,
-        answer,
+    if 4096 < k {
+        return 0;
+    }
+    k as u16
+}
+
+// As many words as there is room for, each in two bytes.
+fn narrow_all(words: &[u32], rows: &mut [u16])
+    requires { ⌜ length (now rows) ≤ length (now words) ⌝ }
+    ensures { λ _. ⌜ now (rows .exit) ≡ from (λ i. narrowed (getD (now (words .entry)) i 0)) 0 (length (now (rows .entry))) ⌝ }
+{
+    let mut i = 0;
+    while i < rows.len() {
+        rows[i] = narrow(words[i]);
+        i += 1;
     }
 }
 
-// The entry of the key row at i; behind them stand unused ones.
-fn entry_at(order: &[u32], i: usize) -> Member
-    ensures { λ m. ⌜ m ≡ entryOf (getD (now (order .entry)) i 0) ⌝ }
+// The key rows of the Struct of row r in order, for a list of n entries.
+pub fn order_of<'a>(table: &'a [u32], rows: usize, text: &'a [u8], r: usize, n: usize) -> Order
+    ensures { λ o. ⌜ Ordered (now (table .entry)) rows (now (text .entry)) r n (o .answer) (o .rows) ⌝ }
 {
-    if order.len() <= i {
-        return Member { key: 0, value: 0 };
-    }
-    let k = order[i];
+    let mut words = [0; 3071];
+    let answer = judged_order(table, rows, text, r, n, &mut words);
+    let mut kept = [0; 2112];
+    narrow_all(&words, &mut kept);
+    Order { rows: kept, answer }
+}
+
+// The entry of key row k; one that is none has an unused entry.
+fn entry_of(k: u16) -> Member
+    ensures { λ m. ⌜ m ≡ entryOf k ⌝ }
+{
     if k == 0 {
         return Member { key: 0, value: 0 };
     }
     if 4096 < k {
         return Member { key: 0, value: 0 };
     }
+    let key = k as u32;
     Member {
-        key: k,
-        value: k + 1,
+        key,
+        value: key + 1,
     }
 }
 
-// Entry i of the index.
+// Entry i of the index; behind the last stand unused ones.
 pub fn entry_in(order: Order, i: usize) -> Member
     ensures { λ m. ⌜ m ≡ entryOf (getD (order .rows) i 0) ⌝ }
 {
-    let rows = order.rows;
-    entry_at(&rows, i)
+    if KEPT <= i {
+        return Member { key: 0, value: 0 };
+    }
+    entry_of(order.rows[i])
 }
 
 // The table judged, for questions about the Struct of row r: 0 or 11, and no key yet.

@@ -48,9 +48,9 @@ use denote.Exit.{yes}
 use Rattle.member.specs.declared.Member.{Member}
 use Rattle.member.proofs.Member as S
 use Rattle.member.proofs.Member.Laws as S′
-use Rattle.index.specs.Filling.{entryOf, Listed, Filled}
+use Rattle.index.specs.Filling.{entryOf, Ordered, Filled}
 use Rattle.index.specs.declared.Order.{Order}
-use Rattle.index.proofs.Storing.{Stored, stored-first, stored-next, stored-done, listed-entries}
+use Rattle.index.proofs.Storing.{Stored, stored-first, stored-next, stored-done, ordered-entries}
 use Rattle.index.proofs.Order as O
 use Rattle.index.proofs.Order.Laws as O′
 use Rattle.index.proofs.order_of as order-of
@@ -161,7 +161,7 @@ module _ {M : Type 1} (𝓤 : URA M) (H : Heap 𝓤) (A : Atoms 𝓤) (W : Given
       use2 W (raw (OrderOf 𝓤 H A mem run .pre to-order)) asked-order $ frame ! $ done !
 
   abbrev Lists : Order → Type 0
-  Lists r = Listed (now t) m (now s) j n (r .answer) (r .rows)
+  Lists r = Ordered (now t) m (now s) j n (r .answer) (r .rows)
 
   told-order : (r : Order) → ent 𝓤 (ensured 𝓤 H A order-of.ended (order-of.clauses 𝓤 H A mem run) (κ, tt) args tt r) (fact 𝓤 (Lists r))
   told-order r = exE 𝓤 _ (λ ws. snd∗ 𝓤 (sem 𝓤 H A (lasts order-of.ended (κ, tt) args ws)) (fact 𝓤 (Lists r)))
@@ -266,7 +266,7 @@ module _ {M : Type 1} (𝓤 : URA M) (H : Heap 𝓤) (A : Atoms 𝓤) (W : Given
           assigns ! (of-opd ! (load ! (from ! (fld ! refl (stop !))) (look-in ! 17 (sub ! 1 refl (whole !))))) (from ! (stop !)) (init ! 29 refl (tt, record { fits = small-answer })) $
           returns ! (look ! 29 refl) $ forget ! 9 refl $ forget ! 11 refl $ forget ! 13 refl $ forget ! 15 refl $ forget ! 17 refl $ forget ! 19 refl $ forget ! 21 refl $ forget ! 23 refl $ forget ! 25 refl $ forget ! 27 refl $ forget ! 29 refl $
           move ! (29 ∷ 30 ∷ []) $ free1 ! $ move ! (27 ∷ 28 ∷ []) $ free1 ! $ move ! (25 ∷ 26 ∷ []) $ free1 ! $ move ! (23 ∷ 24 ∷ []) $ free1 ! $ move ! (21 ∷ 22 ∷ []) $ free1 ! $ move ! (19 ∷ 20 ∷ []) $ free1 ! $ move ! (17 ∷ 18 ∷ []) $ free1 ! $ move ! (15 ∷ 16 ∷ []) $ free1 ! $ move ! (13 ∷ 14 ∷ []) $ free1 ! $ move ! (11 ∷ 12 ∷ []) $ free1 ! $ move ! (9 ∷ 10 ∷ []) $ free1 ! $ move ! (7 ∷ 8 ∷ []) $ free1 ! $ move ! (5 ∷ 6 ∷ []) $ free1 ! $ free0 ! $
-          by ! (exits (u .list) (u .same) (record { answers = lists .answers; list = stored-done entryAt ys u (nltb→le (u .i) n over) ∙ listed-entries lists })))
+          by ! (exits (u .list) (u .same) (record { answers = lists .answers; list = stored-done entryAt ys u (nltb→le (u .i) n over) ∙ ordered-entries lists })))
         where
           on : T (ltb (u .i) n) → u .i < n
           on less = ltb→lt (u .i) n less
