@@ -2,7 +2,6 @@
 use mathlib.Core.Path.{_≡_, _∙_, ap}
 use mathlib.Core.List.{List}
 use Prim.Native.Nat.{ℕ}
-use lib.ListN.{length}
 use Rattle.shares.specs.declared.Station.{Station}
 use Rattle.shares.specs.Share.{stationOf, splitFor, onShare}
 use Rattle.reader.specs.Answers as readers

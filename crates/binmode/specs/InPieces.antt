@@ -1,5 +1,4 @@
 -- What the exported functions on messages in pieces report. Assumes nothing.
-use mathlib.Core.Path.{_≡_}
 use mathlib.Core.List.{List}
 use Prim.Native.Nat.{ℕ}
 use Rattle.pieces.specs.declared.State.{State}

@@ -1,7 +1,7 @@
 -- What answers the returns of the functions that judge a plan and prices. Assumes nothing.
 use Prim.Native.Nat.{ℕ, zero, suc, _+_, _*_, _≤_, _<_}
 use mathlib.Core.Path.{_≡_, refl, sym, ap, _∙_}
-use mathlib.Core.Bool.{Bool, true, false, _&&_, _||_, not}
+use mathlib.Core.Bool.{Bool, true, false, _||_, not}
 use mathlib.Core.Option.{Option, some, none}
 use mathlib.Core.List.{List, [], _∷_}
 use native.Mathlib.Omega.{arith}
@@ -9,13 +9,13 @@ use mir.Syntax.{w64}
 use mir.Val.{Fits}
 use lib.ListN.{length, replicate}
 use lib.Dec.{eqb, leb}
-use borrow.Author.Tests.{eqb-true, eq-eqb, ne-eqb, leb-true, leb-false, le-leb, lt-leb}
+use borrow.Author.Tests.{eq-eqb, ne-eqb, leb-true, leb-false, le-leb, lt-leb}
 use Rattle.text.specs.Texts.{same, among}
 use Rattle.text.proofs.Comparing.{clash, both, same-is, same-self}
 use Rattle.draft.specs.declared.Row.{Row}
 use Rattle.draft.specs.Table.{roomOf, rowAt, from}
-use Rattle.draft.specs.Grammar.{Sent, regular, recorded, recalled, Recording, text-at, first, look, after}
-use Rattle.draft.specs.Strings.{Text, textsOf, cost, costs}
+use Rattle.draft.specs.Grammar.{Sent, recorded, Recording, text-at, first, look, after}
+use Rattle.draft.specs.Strings.{Text, cost, costs}
 use Rattle.draft.specs.Writable.{writable, writableWithin}
 use Rattle.draft.specs.Written.{rowsOf}
 use Rattle.buckets.specs.Numbered.{textAt, Strings, Firsts}
@@ -23,7 +23,7 @@ use Rattle.texts.specs.Contract.{newCost, news, Scanned}
 use Rattle.sending.specs.Contract.{Collected}
 use Rattle.plans.specs.Plans.{formAt, positionAt, sentBy, sentAt, sentsFrom, valued, holdsText, maySend, takenFrom, taken}
 use Rattle.plans.proofs.Judging.{from-length, taken-long}
-use Rattle.prices.specs.Prices.{total, bound}
+use Rattle.prices.specs.Prices.{bound}
 use Rattle.prices.specs.Contract.{Priced}
 use Rattle.certificate.specs.Certificate.{proving, certifiedTexts, certified}
 use Rattle.certificate.specs.Contract.{Heads, Reaches, Judged}

@@ -1,6 +1,6 @@
 -- What answers the returns of the functions that choose a text and hand it out. Assumes nothing.
-use mathlib.Core.Path.{_≡_, refl, sym, ap, _∙_}
-use mathlib.Core.List.{List, []}
+use mathlib.Core.Path.{_≡_, refl, sym, _∙_}
+use mathlib.Core.List.{List}
 use Prim.Native.Nat.{ℕ, _+_, _-_, _≤_, _<_, min}
 use native.Mathlib.Omega.{arith}
 use lib.ListN.{length, take, drop, length-drop, drop-of-length-le}
@@ -12,7 +12,7 @@ use Rattle.choice.specs.declared.Refusal.{Refusal}
 use Rattle.choice.specs.declared.Refusal.the-variants.{NoMember}
 use Rattle.choice.specs.declared.Choice.{Choice}
 use Rattle.choice.specs.declared.Choice.the-variants.{Card, Defaults, Refused}
-use Rattle.choice.specs.Choosing.{numberOf, ofDefaults, preferred, byteOf, PartOf, PartFor, Handed}
+use Rattle.choice.specs.Choosing.{numberOf, ofDefaults, preferred, byteOf, PartOf, Handed}
 
 -- ---- whose text
 

@@ -1,7 +1,7 @@
 -- Which text is handed out, document 02's numbers of the refusals, and a choice as its caller gets it: a part of one of two lent slices, by what
 -- it is and by where it lies. Assumes nothing.
 use mathlib.Core.Path.{_≡_}
-use mathlib.Core.List.{List, []}
+use mathlib.Core.List.{List}
 use Prim.Native.Nat.{ℕ, _+_, min}
 use lib.ListN.{length, take, drop}
 use denote.Ref.{RefT, now}

@@ -1,13 +1,12 @@
 -- What becomes of the notes on keys while rows are walked, and where the loop over items stands. Assumes nothing.
-use mathlib.Core.Path.{_≡_, refl, sym, ap, _∙_}
+use mathlib.Core.Path.{_≡_, refl, sym, _∙_}
 use mathlib.Core.Bool.{Bool, true, false}
-use mathlib.Core.List.{List, []}
+use mathlib.Core.List.{List}
 use Prim.Native.Nat.{ℕ, _+_, _-_, _≤_, _<_}
 use native.Mathlib.Omega.{arith}
 use lib.ListN.{length}
 use lib.Dec.{eqb, leb}
 use Rattle.draft.specs.declared.Verdict.{Verdict}
-use Rattle.draft.specs.declared.Content.{Content as ContentOf}
 use Rattle.draft.specs.declared.Content.the-variants.{Binary}
 use Rattle.draft.specs.declared.Item.{Item}
 use Rattle.draft.specs.declared.Item.the-variants.{
@@ -29,14 +28,14 @@ use Rattle.draft.specs.Rows.{itemOf}
 use Rattle.draft.specs.Strings.{Text}
 use Rattle.draft.specs.Content.{nameRule, keyRule}
 use Rattle.draft.specs.Table.{rowAt}
-use Rattle.draft.specs.Read.{Texts, textOf}
+use Rattle.draft.specs.Read.{textOf}
 use Rattle.draft.specs.Writable.{Walk, floor, then, ruled, fit, closed, leaf, over, integerItem, contentItem, only, string, stringBy, pair, otherItem, arrayItem, structItem, item, items, alike, member, keeping, value, nested}
 use Rattle.keys.specs.Notes.{named, keysOf, Noted, Keeps, Joins}
 use Rattle.keys.proofs.Keeping.{keys-first, noted-move, keeps-none, keeps-then}
 use Rattle.extents.specs.Asked.{Ready}
 use Rattle.extents.specs.Ends.{extentOf}
 use Rattle.extents.proofs.Walking.{none-found, some-found}
-use Rattle.key_rows.specs.Contract.{Entries, Prepared, Walked, Done, KeyDone, KeyIf}
+use Rattle.key_rows.specs.Contract.{Prepared, Walked, Done, KeyDone, KeyIf}
 use Rattle.key_rows.proofs.Keying.{until-one, no-end, fit-end, ruled-end, closed-end, content-end, only-end, string-end}
 use Rattle.containers.specs.Items.{holdsItems, entry, kept, entries}
 use Rattle.containers.proofs.Turns.{Turn, turn-first, turn-done, turn-again, turn-no}

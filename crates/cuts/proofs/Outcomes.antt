@@ -7,11 +7,11 @@ use native.Mathlib.Omega.{arith}
 use lib.ListN.{length, take, length-append, length-take}
 use lib.Seq.{take-all}
 use lib.Dec.{leb, ltb, eqb}
-use borrow.Author.Tests.{le-leb, lt-leb, lt-ltb, le-ltb, ltb-true, ltb-false, leb-true, leb-false, eqb-true}
+use borrow.Author.Tests.{le-leb, lt-leb, lt-ltb, le-ltb, ltb-true, leb-true, leb-false, eqb-true}
 use Rattle.text.proofs.Comparing.{clash}
 use Rattle.draft.specs.declared.Refusal.{Refusal}
 use Rattle.draft.specs.declared.Refusal.the-variants.{Ended, TooLong}
-use Rattle.draft.specs.Refusals.{numberOf, refusalOf}
+use Rattle.draft.specs.Refusals.{numberOf}
 use Rattle.draft.specs.Limits.{allowed}
 use Rattle.draft.specs.Table.{roomOf}
 use Rattle.draft.specs.Read.{Reading, got, refused, pick, message, messageWithin}
@@ -21,7 +21,7 @@ use Rattle.reader.specs.Answers.{reading}
 use Rattle.rereading.specs.Rereading.{refusedWithOne}
 use Rattle.exact.proofs.Growing.{OfReading, waits, decided}
 use Rattle.exact.proofs.Concluding.{of-reading}
-use Rattle.pieces.specs.Pieces.{joined, outcome, wanting, pickBytes, through, Told, refusal, toldOf}
+use Rattle.pieces.specs.Pieces.{joined, outcome, wanting, pickBytes, through, refusal, toldOf}
 
 -- a reading that is refused with 1, or another
 pub data View : Reading → Type 0 where

@@ -1,15 +1,14 @@
 -- Runs of calls from `start` on, and the end call: what they come to. Assumes nothing.
-use mathlib.Core.Path.{_≡_, refl, sym, _∙_, ap}
+use mathlib.Core.Path.{_≡_, refl, _∙_, ap}
 use mathlib.Core.Bool.{Bool, true, false}
-use mathlib.Core.List.{List, [], _∷_, _++_}
-use Prim.Native.Nat.{ℕ, _≤_, _<_}
+use mathlib.Core.List.{List, [], _∷_}
+use Prim.Native.Nat.{ℕ, _≤_}
 use native.Mathlib.Omega.{arith}
 use lib.ListN.{length, drop, replicate}
 use lib.Dec.{ltb}
-use borrow.Author.Tests.{le-ltb, ltb-true, ltb-false}
+use borrow.Author.Tests.{le-ltb, ltb-false}
 use Rattle.text.proofs.Comparing.{clash}
 use Rattle.draft.specs.declared.Refusal.the-variants.{Ended}
-use Rattle.draft.specs.Refusals.{numberOf}
 use Rattle.draft.specs.Limits.{allowed}
 use Rattle.draft.specs.Read.{Reading, got, refused, agree, message, messageWithin}
 use Rattle.reader.specs.Answers.{reading, tableOf}
@@ -18,8 +17,8 @@ use Rattle.room.specs.Room.{roomAfter}
 use Rattle.pieces.specs.declared.PieceRefusal.the-variants.{Message}
 use Rattle.pieces.specs.declared.State.{State}
 use Rattle.pieces.specs.declared.State.the-variants.{More, Accepted, Refused}
-use Rattle.pieces.specs.Pieces.{outcome, wanting, through, roomWith, more, refusal, pickTold, toldOf, soFar}
-use Rattle.pieces.specs.Steps.{told, pickState, stateWent, roomWent, tableWent, Went, stateClosed, tableClosed, Closed}
+use Rattle.pieces.specs.Pieces.{outcome, through, roomWith, more, refusal, pickTold, toldOf, soFar}
+use Rattle.pieces.specs.Steps.{told, stateWent, roomWent, tableWent, Went, stateClosed, tableClosed, Closed}
 use Rattle.pieces.specs.Runs.{begun, Runs, none, piece}
 use Rattle.cuts.proofs.Outcomes.{through-step}
 use Rattle.cuts.proofs.Holding.{same-room, past}

@@ -7,7 +7,7 @@ use Prim.Native.Char.{code}
 use Prim.Native.String.{String, [] as empty, _∷_ as first}
 use lib.Count.{trailingZeros}
 use lib.IntN.{pos}
-use lib.Ieee.{Float, fin, binary64, ofInt, ofBits, ofFields, div, neg, round, size, span, climb, units, odd}
+use lib.Ieee.{fin, binary64, ofInt, ofBits, ofFields, div, neg, round, size, span, climb, units, odd}
 use Rattle.lexical.specs.Digits.{digit}
 use Rattle.decimal.specs.declared.Decimal.the-variants.{Value, TooManyDigits}
 use Rattle.decimal.specs.Digits.{digitsOf, significant, whole, places, negative}

@@ -2,7 +2,7 @@
 use mathlib.Core.Path.{_≡_, refl, sym, ap, _∙_}
 use mathlib.Core.Bool.{Bool, true, false, cond, _&&_}
 use mathlib.Core.List.{List, [], _∷_}
-use Prim.Native.Nat.{ℕ, zero, suc, _+_, _-_, _*_, _^_, _≤_, _<_}
+use Prim.Native.Nat.{ℕ, suc, _+_, _-_, _*_, _^_, _≤_, _<_}
 use native.Mathlib.Omega.{arith}
 use native.Mathlib.Nat.{add-zero, add-suc, suc-add, pow-suc, pow-le-pow-right, lt-of-lt-of-le, zero-lt-suc}
 use native.Mathlib.Numerals.{add-one}
@@ -14,7 +14,6 @@ use mir.Val.{Fits}
 use borrow.Author.Tests.{eq-eqb, ne-eqb, le-leb, lt-leb, leb-true, leb-false}
 use Rattle.text.proofs.Comparing.{both, clash, ended}
 use Rattle.lexical.specs.Digits.{digit}
-use Rattle.decimal.specs.declared.Gathered.{Gathered}
 use Rattle.decimal.specs.declared.Gathered.the-variants.{Number, TooMany}
 use Rattle.decimal.specs.Digits.{nonzero, digitsOf, significant, whole, places, negative, Counting}
 use Rattle.decimal.specs.Decimal.{pickGathered, gathered}

@@ -2,7 +2,7 @@
 ghost use mathlib.Core.Path.{_≡_};
 ghost use mathlib.Core.Bool.{true};
 ghost use Prim.Native.Nat.{_-_, _^_, _≤_, _<_};
-ghost use lib.ListN.{length, drop};
+ghost use lib.ListN.{drop};
 ghost use Rattle.lexical.specs.Digits.{digit, digitValue};
 ghost use Rattle.decimal.specs.Digits.{nonzero, digitsOf, Counting, places as placesOf, negative};
 ghost use Rattle.decimal.specs.Decimal.{power as powerOf, quotient as quotientOf, signed as signedBy, gathered, decimalOf};

@@ -1,11 +1,10 @@
 -- What answers the returns of the functions that look a text up in two tables. Assumes nothing.
-use mathlib.Core.Path.{_≡_, refl, sym, ap, _∙_}
+use mathlib.Core.Path.{_≡_, _∙_}
 use mathlib.Core.Bool.{Bool, true, false}
 use mathlib.Core.List.{List}
 use Prim.Native.Nat.{ℕ}
-use lib.Dec.{eqb}
 use lib.ListN.{length}
-use borrow.Author.Tests.{eq-eqb, ne-eqb}
+use borrow.Author.Tests.{ne-eqb}
 use Rattle.draft.specs.declared.Row.{Row}
 use Rattle.draft.specs.Table.{roomOf, rowAt}
 use Rattle.draft.specs.Writable.{writable}
@@ -19,7 +18,7 @@ use Rattle.choice.specs.declared.Refusal.the-variants.{NotWritable, NoMember}
 use Rattle.choice.specs.declared.Choice.{Choice}
 use Rattle.choice.specs.declared.Choice.the-variants.{Refused}
 use Rattle.choice.specs.Choosing.{preferred, Handed}
-use Rattle.defaults.specs.Defaults.{source, textAt, foundText, heldIn, structsThen, chosen}
+use Rattle.defaults.specs.Defaults.{source, textAt, heldIn, structsThen, chosen}
 
 -- ---- one table
 

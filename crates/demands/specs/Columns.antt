@@ -25,9 +25,8 @@ use Rattle.reader.specs.Answers.{reading, tableOf, Answers}
 use Rattle.reader.proofs.Limited.{got-within}
 use Rattle.records.specs.declared.Found.{Found}
 use Rattle.records.specs.declared.Found.the-variants as found
-use Rattle.records.specs.Job.{bodyOf}
 use Rattle.job.specs.declared.Answer.{Answer as JobAnswer}
-use Rattle.job.specs.Cards.{tableFor, Reads}
+use Rattle.job.specs.Cards.{Reads}
 use Rattle.rereading.specs.Rereading.{refusedWithOne}
 use Rattle.pieces.specs.declared.State.{State}
 use Rattle.pieces.specs.Pieces.{outcome, through as throughPieces}

@@ -1,7 +1,7 @@
 -- Document 02's job defaults: what `defaults::choose` and `defaults::text_of` promise (`Defaults.chosen`, `Choosing.Handed`) is E5's lookup in the card,
 -- and only if its Struct lacks the key, in the defaults; and where the part lies. Assumes nothing.
-use mathlib.Core.Path.{_≡_, refl, sym, ap, _∙_}
-use mathlib.Core.Bool.{Bool, true, false}
+use mathlib.Core.Path.{_≡_, sym, ap, _∙_}
+use mathlib.Core.Bool.{true, false}
 use mathlib.Core.Logic.{_↔_}
 use mathlib.Core.List.{List, []}
 use Prim.Native.Nat.{ℕ, _+_, _≤_, min}

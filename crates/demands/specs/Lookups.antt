@@ -1,12 +1,11 @@
 -- Document 02's lookups and positions: what `lookup::lookup` and `position::position_of` promise (`Answers.lookup`, `Placing.position`) is what the
 -- message says. What a message says to one who looks a member up is crate meant's Meant; the long argument is there too. Assumes nothing.
-use mathlib.Core.Path.{_≡_, refl, sym, ap, _∙_}
-use mathlib.Core.Bool.{Bool, true, false}
-use mathlib.Core.Logic.{_↔_, _⊎_, inl, inr}
+use mathlib.Core.Path.{_≡_, refl, sym, _∙_}
+use mathlib.Core.Bool.{true, false}
+use mathlib.Core.Logic.{_↔_}
 use mathlib.Core.List.{List, [], _∷_, _++_}
 use Prim.Native.Nat.{ℕ, _+_, _^_, _≤_, _<_}
 use Prim.Native.Char.{code}
-use native.Mathlib.Omega.{arith}
 use lib.ListN.{length}
 use lib.Ieee.{Float}
 use lib.Ieee.Exact.{HasValue}
@@ -35,9 +34,8 @@ use Rattle.member.specs.declared.Found.the-variants.{At, Absent}
 use Rattle.member.specs.Members.{members, keysOf, hasKey, find}
 use Rattle.lookup.specs.declared.Refusal as Why
 use Rattle.lookup.specs.declared.Refusal.the-variants.{NotWritable, NoMember, TooManyDigits}
-use Rattle.lookup.specs.declared.Answer.{Answer}
-use Rattle.lookup.specs.declared.Answer.the-variants.{Whole, Decimal, Truth, Text, Row, Refused}
-use Rattle.lookup.specs.Answers.{look, lookup}
+use Rattle.lookup.specs.declared.Answer.the-variants.{Decimal, Refused}
+use Rattle.lookup.specs.Answers.{lookup}
 use Rattle.lookup.specs.Reports.{plusZero}
 use Rattle.position.specs.declared.Outcome.the-variants as outcome
 use Rattle.position.specs.Placing.{at, acceptedAt, refusedWith, position, Lengthy}

@@ -17,7 +17,7 @@ use Rattle.rereading.specs.Rereading.{refusedWithOne}
 use Rattle.pieces.specs.declared.PieceRefusal.the-variants.{Message, ShortRoom}
 use Rattle.pieces.specs.declared.State.{State}
 use Rattle.pieces.specs.declared.State.the-variants.{Refused}
-use Rattle.pieces.specs.Pieces.{joined, outcome, through, roomWith, more, refusal, toldOf, soFar}
+use Rattle.pieces.specs.Pieces.{joined, outcome, through, roomWith, more, refusal, soFar}
 use Rattle.pieces.specs.Steps.{told, Went, Closed}
 use Rattle.pieces.specs.Runs.{begun, Runs}
 use Rattle.cuts.proofs.Outcomes.{whole, wanting-whole, ten-only}

@@ -37,7 +37,7 @@ use Rattle.certificate.specs.Certificate.{proving, certifiedTexts, certified}
 use Rattle.exact.proofs.Realising.{counts}
 use Rattle.written.specs.Derivable.{DerivesRows}
 use Rattle.written.proofs.Concluding.{rows-length, begins-with, writable-means}
-use Rattle.planning.proofs.Taking.{sents-texts, Fit, taken-fit, fit-taken}
+use Rattle.planning.proofs.Taking.{sents-texts, taken-fit, fit-taken}
 use Rattle.planning.proofs.Concluding as plan
 use Rattle.demands_reading.specs.Reading.{complete, mean-same}
 use Rattle.demands_writing.specs.Writing.{Words, Octets, ReadsBack, form-derived, shortest, one-form, read-rows}

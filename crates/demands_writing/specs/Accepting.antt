@@ -27,7 +27,7 @@ use Rattle.demands_reading.specs.Settled.{accepted-read}
 use Rattle.demands_writing.specs.Writing.{Octets, read-writable, read-short}
 use Rattle.writer.specs.declared.Answer.{Answer}
 use Rattle.writer.specs.declared.Answer.the-variants.{Written, Refused}
-use Rattle.writer.specs.Answers.{given, answerTo, formOf, answerOf, outputOf, Did}
+use Rattle.writer.specs.Answers.{given, answerTo, formOf, answerOf, Did}
 
 -- an answer behind a test
 given-written : (b : Bool) (m : Refusal) (o : Answer) {n : ℕ} → given b m o ≡ Written n → (b ≡ true) × (o ≡ Written n)

@@ -1,5 +1,5 @@
 -- How many bytes at the front are a sign, and how many are digits: what the functions that pass them promise. Assumes nothing.
-use mathlib.Core.Bool.{true, false, cond}
+use mathlib.Core.Bool.{cond}
 use mathlib.Core.List.{List, [], _∷_}
 use Prim.Native.Nat.{ℕ, suc}
 use Rattle.lexical.specs.Digits.{digit}

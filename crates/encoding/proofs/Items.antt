@@ -1,20 +1,19 @@
 -- What answers each return of the functions that put a row's item, and that say how long it is. Assumes nothing.
 use Prim.Native.Nat.{ℕ, suc, _+_, _≤_}
-use mathlib.Core.Path.{_≡_, refl, sym, ap, _∙_}
+use mathlib.Core.Path.{_≡_, refl, _∙_}
 use mathlib.Core.List.{List, [], _∷_}
 use native.Mathlib.Omega.{arith}
 use lib.Dec.{eqb}
 use borrow.Author.Tests.{ne-eqb}
-use lib.ListN.{length, take, drop, length-take, length-drop}
+use lib.ListN.{length, length-take, length-drop}
 use Rattle.draft.specs.declared.Content.{Content}
-use Rattle.draft.specs.declared.Content.the-variants.{Double, DateTime, Binary, Text}
 use Rattle.draft.specs.declared.Item.{Item}
 use Rattle.draft.specs.declared.Item.the-variants as item
 use Rattle.draft.specs.declared.Row.{Row}
 use Rattle.draft.specs.Rows.{itemOf}
 use Rattle.draft.specs.Bytes.{part}
 use Rattle.draft.specs.Written.{lsb, counted, letter, contentBytes, bytesOf, itemBytes}
-use Rattle.output.specs.Contract.{Front, Tried}
+use Rattle.output.specs.Contract.{Tried}
 use Rattle.output.proofs.Putting.{lsb-four, counted-length}
 
 pub tried-none : {o : List ℕ} {m : ℕ} → Tried [] m o o 0

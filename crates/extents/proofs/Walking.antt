@@ -19,7 +19,7 @@ use Rattle.text.proofs.Comparing.{both, clash}
 use Rattle.draft.specs.Rows.{kindOf}
 use Rattle.draft.specs.Content.{contentRule, verdict}
 use Rattle.draft.specs.Writable.{fit, Walk, closed, leaf, holding, sized, contentItem, only, string, item}
-use Rattle.extents.specs.Asked.{Ready, Checked, Walkable, isText, isBinary, checkedBefore, Known}
+use Rattle.extents.specs.Asked.{Ready, Checked, isText, isBinary, checkedBefore, Known}
 use Rattle.extents.specs.Ends.{extentOf}
 
 -- a test that was made

@@ -1,13 +1,12 @@
 -- The canonical tree has as many rows as the tree. Assumes nothing.
 use mathlib.Core.Path.{_≡_, refl, ap, _∙_}
-use mathlib.Core.List.{List, _∷_, _++_}
+use mathlib.Core.List.{List}
 use Prim.Native.Nat.{ℕ, suc, _+_}
 use native.Mathlib.Omega.{arith}
 use lib.ListN.{length, length-append}
 use Rattle.order.specs.declared.Relation.{Relation}
 use Rattle.order.specs.declared.Relation.the-variants.{Before, Equal, After}
 use Rattle.order.specs.ByteOrder.{compared}
-use Rattle.draft.specs.Grammar.{Cell}
 use Rattle.glyph.specs.Tree.{Tree, leaf, many, plain, ordered, Trees, none, also, Pairs, no-pairs, pair, cells, cellsOf, pairCells}
 use Rattle.glyph_form.specs.Form.{put, insert, sort, canon, canonAll, canonPairs}
 

@@ -1,7 +1,6 @@
 -- Tables of both editions, written: what reading makes of the documents' examples and of others, and tables that are not writable. One table of
 -- cases, under a single statement. Assumes nothing.
 use mathlib.Core.Path.{_≡_, refl}
-use mathlib.Core.Bool.{true, false}
 use mathlib.Core.List.{List, [], _∷_, _++_}
 use Prim.Native.Nat.{ℕ, _-_}
 use Prim.Native.String.{String}

@@ -1,8 +1,6 @@
 -- What the rows of a table tell: the tree of the object at a row. Children are found by 'end'. Assumes nothing.
 use Prim.Native.Nat.{ℕ, zero, suc, _+_}
-use mathlib.Core.Bool.{Bool, true, false}
 use mathlib.Core.List.{List}
-use Rattle.draft.specs.declared.Content.{Content as ContentOf}
 use Rattle.draft.specs.declared.Row.{Row}
 use Rattle.draft.specs.Rows.{kindOf}
 use Rattle.draft.specs.Read.{textOf}

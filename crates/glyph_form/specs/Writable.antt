@@ -4,8 +4,7 @@ use Prim.Native.Nat.{ℕ, zero, suc, _+_, _*_}
 use mathlib.Core.Bool.{Bool, true, false, _&&_}
 use mathlib.Core.List.{List, []}
 use lib.ListN.{length}
-use lib.Dec.{ltb, leb, eqb}
-use Rattle.draft.specs.declared.Extent.{Extent}
+use lib.Dec.{ltb, leb}
 use Rattle.draft.specs.declared.Extent.the-variants.{Until, Unfit}
 use Rattle.draft.specs.declared.Row.{Row}
 use Rattle.draft.specs.Table.{roomOf, rowAt}

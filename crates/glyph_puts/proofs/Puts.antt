@@ -19,7 +19,6 @@ use Rattle.draft.specs.Grammar.{holding}
 use Rattle.sorting.specs.Sorting.{keyText}
 use Rattle.key_order.specs.Arranged.{keyRows, Laid}
 use Rattle.glyph.specs.declared.Edition.{Edition}
-use Rattle.glyph.specs.declared.Edition.the-variants.{New, Old}
 use Rattle.glyph.specs.declared.Many.the-variants.{List as ListOf, Dict, Ordered}
 use Rattle.glyph.specs.declared.Three.{Three as ThreeLetter}
 use Rattle.glyph.specs.declared.Three.the-variants.{Extension, Node}
@@ -38,23 +37,11 @@ use Rattle.glyph_puts.specs.Contract.{Fit, Children, Members, Ranked, no
 use Rattle.glyph_puts.proofs.Fitting.{Stands, fit-in, container-nested, stands-list, stands-dict, stands-ordered, stands-extension, stands-node, first-child, other-children, first-member, other-members}
 use Rattle.glyph_puts.proofs.Ranking.{key-is, Like, dict-arranged, arranged-values}
 
--- ---- letters
-
-pub extension-new : {e : Edition} → e ≡ New → 88 ≡ letterFor e 15
-unfolding letterFor
-extension-new g = rw g
-
-pub extension-old : {e : Edition} → e ≡ Old → 72 ≡ letterFor e 15
-unfolding letterFor
-extension-old g = rw g
-
 row-count : {x y : Row} → x ≡ y → x .b ≡ y .b
 row-count q = rw q
 
 pub row-end : {x y : Row} → x ≡ y → x .end ≡ y .end
 row-end q = rw q
-
-pub ruleset letters = (extension-new, extension-old)
 
 -- ---- texts are short
 

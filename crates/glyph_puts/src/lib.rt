@@ -12,20 +12,10 @@ ghost use lib.ListN.{length, take};
 ghost use Rattle.draft.specs.Read.{textOf};
 ghost use Rattle.draft.specs.Table.{rowAt};
 ghost use Rattle.sorting.specs.Sorting.{keyText};
-ghost use Rattle.glyph_form.specs.Form.{letterFor, contentBytes};
+ghost use Rattle.glyph_form.specs.Form.{contentBytes};
 ghost use Rattle.glyph_output.specs.Contract.{Open, Adds};
 ghost use Rattle.glyph_rows.specs.Holding.{holds as holdsBy};
 ghost use Rattle.glyph_puts.specs.Contract.{Ready, Fit, Children, Members, Ranked, leafForm, objectBytes, entriesBytes, pairBytes, pairsBytes, dictBytes, rankedBytes, Paired};
-
-// The letter of an extension.
-fn extension_letter(edition: Edition) -> u8
-    ensures { λ b. ⌜ b ≡ letterFor edition 15 ⌝ }
-{
-    match edition {
-        Edition::New => b'X',
-        Edition::Old => b'H',
-    }
-}
 
 // The row behind the last of the object at row r.
 fn next_row(table: &[u32], room: usize, r: usize) -> usize
@@ -370,7 +360,7 @@ fn put_container(
             out,
         ),
         15 => {
-            let letter = extension_letter(edition);
+            let letter = glyph_rows::extension_letter(edition);
             put_list(
                 edition,
                 table,

@@ -1,8 +1,6 @@
 -- What answers each return; and the report of an answer is that of its reading. Assumes nothing.
 use mathlib.Core.Path.{_≡_, refl}
 use Prim.Native.Nat.{ℕ, _%_}
-use native.Mathlib.Omega.{arith}
-use Rattle.glyph.specs.declared.Refusal.{Refusal}
 use Rattle.glyph.specs.declared.Refusal.the-variants.{Ended, UnexpectedByte, BadText, TooDeep, NoRow, TooLong, RepeatedKey, BadLimit, OutOfRange}
 use Rattle.glyph.specs.declared.Answer.{Answer}
 use Rattle.glyph.specs.declared.Answer.the-variants as answer

@@ -2,7 +2,7 @@
 use mathlib.Core.Path.{_≡_, refl, _∙_}
 use mathlib.Core.Bool.{Bool, true, false, _&&_}
 use Prim.Native.Nat.{ℕ, _+_, _≤_, _<_}
-use lib.Dec.{eqb, ltb}
+use lib.Dec.{eqb}
 use borrow.Author.Tests.{eq-eqb, ne-eqb, lt-ltb, le-ltb}
 use Rattle.draft.specs.declared.Row.{Row}
 use Rattle.glyph.specs.declared.Edition.{Edition}
@@ -10,6 +10,7 @@ use Rattle.glyph.specs.declared.Edition.the-variants.{New, Old}
 use Rattle.draft.specs.declared.Content.the-variants.{Binary, Text}
 use Rattle.glyph_form.specs.declared.Sort.the-variants.{Integer, Boolean, Content, Nil, Unknown}
 use Rattle.glyph_form.specs.Sorts.{pickSort, sortOf}
+use Rattle.glyph_form.specs.Form.{letterFor}
 use Rattle.glyph_rows.specs.Holding.{holds, isDict, named, mayHoldBy, mayHold}
 
 -- ---- objects with children
@@ -113,3 +114,16 @@ module _ (row : ℕ → Row) (rows r : ℕ) where
         go false false false false false = refl
 
 pub ruleset holding = (named-short, named-not, named-by, may-list, may-dict, may-ordered, may-extension, may-no-extension, may-new-node, may-old-node, may-none)
+
+-- ---- an extension's letter
+
+module _ {e : Edition} where
+  pub extension-new : e ≡ New → 88 ≡ letterFor e 15
+  unfolding letterFor
+  extension-new g = rw g
+
+  pub extension-old : e ≡ Old → 72 ≡ letterFor e 15
+  unfolding letterFor
+  extension-old g = rw g
+
+pub ruleset letters = (extension-new, extension-old)

@@ -1,10 +1,11 @@
-// Which rows are those of objects with children, and whether such a row may hold what it says in an edition.
+// Rows of objects with children: which they are, whether such a row may hold what it says in an edition, and an extension's letter.
 use draft::Row;
 use glyph::Edition;
 ghost use mathlib.Core.Path.{_≡_};
 ghost use Prim.Native.Nat.{_*_, _≤_, _<_};
 ghost use lib.ListN.{length};
 ghost use Rattle.draft.specs.Table.{rowAt};
+ghost use Rattle.glyph_form.specs.Form.{letterFor};
 ghost use Rattle.glyph_rows.specs.Holding.{holds as holdsBy, isDict, named, mayHold};
 
 // Whether a kind is that of an object with children.
@@ -75,5 +76,15 @@ pub fn may_hold(
             Edition::Old => row.b == 3,
         },
         _ => false,
+    }
+}
+
+// The letter of an extension: in 0.5 a node has X.
+pub fn extension_letter(edition: Edition) -> u8
+    ensures { λ b. ⌜ b ≡ letterFor edition 15 ⌝ }
+{
+    match edition {
+        Edition::New => b'X',
+        Edition::Old => b'H',
     }
 }

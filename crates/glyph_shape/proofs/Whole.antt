@@ -1,8 +1,8 @@
 -- What answers each return of the functions that judge a whole table. Assumes nothing.
 use mathlib.Core.Path.{_≡_, refl, _∙_}
-use mathlib.Core.Bool.{Bool, false}
+use mathlib.Core.Bool.{false}
 use mathlib.Core.List.{List}
-use Prim.Native.Nat.{ℕ, zero, suc, _*_, _/_, _≤_, _<_}
+use Prim.Native.Nat.{ℕ, zero, suc, _*_, _≤_, _<_}
 use native.Mathlib.Omega.{arith}
 use native.Mathlib.Nat.{mul-le-mul-right}
 use mir.Syntax.{w64}
@@ -16,7 +16,7 @@ use Rattle.draft.specs.Writable.{wholly}
 use Rattle.extents.specs.Asked.{Ready, Checked, Walkable}
 use Rattle.extents.specs.Ends.{extentOf}
 use Rattle.keys.proofs.Keeping.{noted-blank}
-use Rattle.key_rows.specs.Contract.{Entries, Done}
+use Rattle.key_rows.specs.Contract.{Entries}
 use Rattle.glyph.specs.declared.Edition.{Edition}
 use Rattle.glyph.specs.declared.Want.the-variants.{Any}
 use Rattle.glyph_form.specs.Writable.{object, writableWithin, writable}

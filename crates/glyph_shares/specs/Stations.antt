@@ -9,7 +9,7 @@ use Prim.Native.Nat.{ℕ, _*_, _/_}
 use native.Mathlib.Omega.{arith}
 use lib.ListN.{length, drop, replicate}
 use Rattle.shares.specs.declared.Station.{Station}
-use Rattle.shares.specs.Share.{other, splits, sizeOf, shareOf, onShare, tableOn}
+use Rattle.shares.specs.Share.{other, splits, sizeOf, shareOf, tableOn}
 use Rattle.shares.proofs.Lent.{below}
 use Rattle.shares.proofs.Sharing as sharing
 use Rattle.glyph.specs.declared.Edition.{Edition}

@@ -13,7 +13,7 @@ use Rattle.lexical.specs.Digits.{digit, digitValue}
 use Rattle.glyph.specs.declared.Edition.{Edition}
 use Rattle.glyph.specs.declared.Want.{Want}
 use Rattle.glyph.specs.Numbers.{choose, inRange, word}
-use Rattle.glyph.specs.Tree.{Tree, Trees, none, also, Pairs, no-pairs, pair}
+use Rattle.glyph.specs.Tree.{Tree, Trees, none, also, Pairs}
 use Rattle.glyph.specs.Grammar.{Sign, minus, Digits, no-digits, and-digit, valueOf, Number, ascii-number, Content, content, empty, Object, integer, unicode, bytearray, true-object, false-object, nil, list, dict, ordered-dict, extension, node, Objects, close, more, Members, close-members, more-members, Parts, parts}
 use Rattle.glyph_form.specs.Form.{sort, canon, canonAll, canonPairs, digitsBefore, integerBytes, booleanBytes, contentBytes, leafBytes, bytesOf, bytesOfAll, bytesOfPairs, written}
 use Rattle.glyph_order.proofs.Lengths.{pair-bytes, sort-bytes}

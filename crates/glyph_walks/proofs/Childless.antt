@@ -1,10 +1,9 @@
 -- Objects without children: what each row must say. Assumes nothing.
-use mathlib.Core.Path.{_≡_, refl, sym, _∙_}
+use mathlib.Core.Path.{_≡_, refl, _∙_}
 use mathlib.Core.Bool.{Bool, true, false}
 use mathlib.Core.List.{List}
 use Prim.Native.Nat.{ℕ, _+_, _<_}
 use native.Mathlib.Omega.{arith}
-use lib.ListN.{length}
 use lib.Dec.{eqb}
 use borrow.Author.Tests.{ne-eqb}
 use Rattle.draft.specs.declared.Content.the-variants.{Binary, Text}
@@ -12,7 +11,7 @@ use Rattle.draft.specs.declared.Extent.the-variants.{Unfit}
 use Rattle.draft.specs.declared.Row.{Row}
 use Rattle.draft.specs.Table.{rowAt}
 use Rattle.draft.specs.Writable.{holding, integerItem, booleanItem, contentItem}
-use Rattle.extents.specs.Asked.{Ready, Walkable, Known}
+use Rattle.extents.specs.Asked.{Walkable, Known}
 use Rattle.extents.specs.Ends.{extentOf}
 use Rattle.extents.proofs.Walking.{next-found, known-only}
 use Rattle.glyph.specs.declared.Edition.the-variants.{New}

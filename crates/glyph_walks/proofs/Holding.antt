@@ -2,24 +2,24 @@
 use mathlib.Core.Path.{_≡_, refl, sym, ap, _∙_}
 use mathlib.Core.Bool.{Bool, true, false, _&&_}
 use mathlib.Core.List.{List, []}
-use Prim.Native.Nat.{ℕ, zero, suc, _+_, _-_, _≤_, _<_}
+use Prim.Native.Nat.{ℕ, zero, suc, _+_, _-_}
 use native.Mathlib.Omega.{arith}
 use native.Mathlib.Numerals.{sub-one}
 use lib.Dec.{eqb, ltb}
-use borrow.Author.Tests.{eqb-true, ltb-true, lt-ltb}
+use borrow.Author.Tests.{eqb-true}
 use Rattle.text.proofs.Comparing.{clash, both}
 use Rattle.draft.specs.declared.Content.the-variants.{Text as TextContent}
 use Rattle.draft.specs.declared.Extent.{Extent}
 use Rattle.draft.specs.declared.Extent.the-variants.{Until, Unfit}
 use Rattle.draft.specs.declared.Row.{Row}
-use Rattle.draft.specs.Writable.{Walk, fit, closed, over, holding, then, pair, items, alike, nothing}
-use Rattle.key_rows.proofs.Keying.{until-one, no-end, fit-end, content-end}
+use Rattle.draft.specs.Writable.{Walk, fit, over, then, pair, items, alike, nothing}
+use Rattle.key_rows.proofs.Keying.{no-end, fit-end, content-end}
 use Rattle.glyph.specs.declared.Edition.{Edition}
 use Rattle.glyph.specs.declared.Three.{Three as ThreeLetter}
 use Rattle.glyph.specs.declared.Three.the-variants.{Extension, Node}
 use Rattle.glyph.specs.declared.Want.{Want}
 use Rattle.glyph.specs.declared.Want.the-variants.{Any, Text, EitherDict}
-use Rattle.glyph_form.specs.declared.Sort.the-variants.{Content, Many, Three, Unknown}
+use Rattle.glyph_form.specs.declared.Sort.the-variants.{Content}
 use Rattle.glyph.specs.Letters.{nameWant, attributesWant}
 use Rattle.glyph_form.specs.Sorts.{sortOf, meets}
 use Rattle.glyph_form.specs.Writable.{Nest, floor, under, entry, kept, entries, item, object}

@@ -1,13 +1,12 @@
 -- What answers each return of the functions that walk objects, and what becomes of the notes on keys. Assumes nothing.
 use mathlib.Core.Path.{_≡_, refl, sym, _∙_}
-use mathlib.Core.Bool.{Bool, true, false, _||_}
+use mathlib.Core.Bool.{Bool, true, false}
 use mathlib.Core.List.{List}
 use Prim.Native.Nat.{ℕ, _+_, _-_, _≤_, _<_}
 use native.Mathlib.Omega.{arith}
 use lib.ListN.{length}
 use lib.Dec.{eqb, leb}
 use borrow.Author.Tests.{lt-ltb, le-ltb}
-use Rattle.text.proofs.Comparing.{clash}
 use Rattle.draft.specs.declared.Content.the-variants.{Binary, Text as TextContent}
 use Rattle.draft.specs.declared.Extent.{Extent}
 use Rattle.draft.specs.declared.Extent.the-variants.{Until, Unfit}

@@ -9,7 +9,6 @@ use glyph::Want;
 ghost use mathlib.Core.Path.{_≡_};
 ghost use mathlib.Core.Bool.{true};
 ghost use Prim.Native.Nat.{_+_, _<_};
-ghost use lib.ListN.{length};
 ghost use Rattle.draft.specs.Table.{rowAt};
 ghost use Rattle.extents.specs.Asked.{Walkable};
 ghost use Rattle.extents.specs.Ends.{extentOf};

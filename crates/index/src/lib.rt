@@ -11,7 +11,7 @@ ghost use mathlib.Core.Bool.{true};
 ghost use mathlib.Core.List.{[]};
 ghost use Prim.Native.Nat.{_-_, _*_, _≤_, _<_};
 ghost use lib.ListN.{length, getD};
-ghost use Rattle.draft.specs.Table.{roomOf, rowAt, from};
+ghost use Rattle.draft.specs.Table.{rowAt, from};
 ghost use Rattle.draft.specs.Writable.{writable as writableIn};
 ghost use Rattle.member.specs.Members.{membersFrom, members};
 ghost use Rattle.lookup.specs.Reports.{reportOf};

@@ -19,22 +19,20 @@ use Rattle.draft.specs.declared.Entry.{Entry}
 use Rattle.draft.specs.declared.Entry.the-variants.{Unset, Text}
 use Rattle.draft.specs.declared.Tag.{Tag}
 use Rattle.draft.specs.declared.Tag.the-variants.{Plain, String, Array, Struct, Unknown}
-use Rattle.draft.specs.declared.Plain.{Plain as PlainItem}
 use Rattle.draft.specs.declared.Plain.the-variants.{Integer, True, False, Double, DateTime, Binary, Other}
-use Rattle.draft.specs.declared.Form.{Form}
 use Rattle.draft.specs.declared.Form.the-variants.{Regular, Recorded, Recalled}
 use Rattle.draft.specs.declared.Row.{Row}
 use Rattle.draft.specs.Rows.{row, kindOf}
 use Rattle.draft.proofs.Naming.{number-some}
-use Rattle.draft.specs.Content.{verdict, allThere, contentRule, nameRule}
+use Rattle.draft.specs.Content.{verdict, allThere, contentRule}
 use Rattle.draft.specs.Bytes.{part}
 use Rattle.draft.specs.Codebook.{Book, recorded}
 use Rattle.draft.specs.Table.{setRow, putRows, rowAt}
-use Rattle.draft.specs.Read.{Reading, got, refused, Reader, pick, opened, pair, then, judged, leaf, contents, integerItem, booleanItem, shortItem, longItem, recordedItem, recalledItem, recalled, ifString, string, textOf, firstText, stringBy, name, otherItem, pickTag, tagOf}
+use Rattle.draft.specs.Read.{Reading, got, refused, pick, opened, then, judged, leaf, contents, longItem, recordedItem, recalledItem, recalled, ifString, string, textOf, firstText, stringBy, pickTag, tagOf}
 use Rattle.codebook.specs.Words.{bookOf}
 use Rattle.table.proofs.Stored.{first-row}
 use Rattle.item.specs.declared.Step.{Step}
-use Rattle.item.specs.Contract.{refusedAt, readTo, judgedAt, answer, Left, Leaves, Did, Stored, Closed, Ends}
+use Rattle.item.specs.Contract.{refusedAt, readTo, judgedAt, answer, Did, Stored, Closed, Ends}
 use Rattle.item.proofs.Tags.{tag-regular, tag-recorded, tag-recalled}
 use Rattle.item.proofs.Readings.{Got, did-next, did-not, done, did-no, held, opened-full, opened-cut, opened-on, leaf-got, judged-bad, judged-fine, judged-did, only-short, only-no, only-on, pair-first, pair-both, over-closed, did-ends, at-in, row-in, only-held, pair-held}
 

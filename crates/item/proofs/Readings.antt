@@ -1,11 +1,9 @@
 -- What a call did, from what the calls in it did: laws over any readings. Assumes nothing.
 use mathlib.Core.Path.{_≡_, refl, sym, ap, _∙_}
-use mathlib.Core.List.{List, [], _∷_, _++_}
-use Prim.Native.Nat.{ℕ, _+_, _*_, _≤_, _<_}
+use mathlib.Core.List.{List, _∷_, _++_}
+use Prim.Native.Nat.{ℕ, _+_, _≤_, _<_}
 use native.Mathlib.Omega.{arith}
 use native.Mathlib.Numerals.{add-one}
-use mir.Syntax.{w32}
-use mir.Val.{Fits}
 use lib.ListN.{length, length-append, getD}
 use borrow.Author.Tests.{eq-eqb, ne-eqb, lt-ltb, le-ltb, le-leb, lt-leb}
 use Rattle.draft.specs.declared.Refusal.{Refusal}
@@ -17,12 +15,12 @@ use Rattle.draft.specs.Refusals.{numberOf}
 use Rattle.draft.specs.Rows.{row}
 use Rattle.draft.specs.Codebook.{Book}
 use Rattle.draft.specs.Table.{setRow, putRows}
-use Rattle.draft.specs.Read.{Reading, got, refused, Reader, then, behind, pair, over, leaf, judged, present, opened, only}
+use Rattle.draft.specs.Read.{Reading, got, refused, Reader, then, behind, pair, over, leaf, judged, opened, only}
 use Rattle.draft.proofs.Naming.{number-some}
 use Rattle.codebook.specs.Words.{bookOf}
 use Rattle.table.proofs.Rows.{put-append}
 use Rattle.item.specs.declared.Step.{Step}
-use Rattle.item.specs.Contract.{refusedAt, readTo, judgedAt, answer, Left, Leaves, Did, Stored, Closed, Ends}
+use Rattle.item.specs.Contract.{refusedAt, readTo, judgedAt, answer, Leaves, Did, Stored, Closed, Ends}
 
 -- a refusal, by its number
 pub refused-is : (m : Refusal) (p : ℕ) {n : ℕ} → n ≡ numberOf m → _≡_ {A = Step} (record { number = n; at = p; row = 0 }) (refusedAt m p)

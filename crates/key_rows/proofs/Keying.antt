@@ -1,12 +1,11 @@
 -- What answers the returns of the function that walks a key; and where walks that met no other end. Assumes nothing.
-use mathlib.Core.Path.{_≡_, refl, sym, ap, _∙_}
+use mathlib.Core.Path.{_≡_, refl, sym, _∙_}
 use mathlib.Core.Bool.{Bool, true, false}
 use mathlib.Core.List.{List}
-use Prim.Native.Nat.{ℕ, _+_, _/_, _≤_, _<_}
+use Prim.Native.Nat.{ℕ, _+_, _≤_, _<_}
 use native.Mathlib.Omega.{arith}
 use lib.ListN.{length}
-use lib.Dec.{eqb, ltb, leb}
-use Rattle.text.specs.Texts.{among}
+use lib.Dec.{eqb, ltb}
 use Rattle.draft.specs.declared.Refusal.the-variants.{RepeatedKey}
 use Rattle.draft.specs.declared.Verdict.{Verdict}
 use Rattle.draft.specs.declared.Verdict.the-variants.{Fine, Bad}
@@ -19,13 +18,12 @@ use Rattle.draft.specs.Strings.{Text}
 use Rattle.draft.specs.Content.{badIf, keyRule, verdict}
 use Rattle.draft.specs.Table.{rowAt}
 use Rattle.draft.specs.Read.{textOf}
-use Rattle.draft.specs.Writable.{fit, ruled, closed, leaf, Walk, sized, contentItem, only, string, stringBy}
-use Rattle.extents.specs.Asked.{Ready}
+use Rattle.draft.specs.Writable.{fit, ruled, closed, leaf, sized, contentItem, only, string, stringBy}
 use Rattle.extents.specs.Ends.{extentOf}
 use Rattle.extents.proofs.Walking.{none-found, some-found, only-there}
-use Rattle.keys.specs.Notes.{headOf, named, keysOf, joined, Noted, Rows, Entry, Placed, Added, Noting, Joins}
+use Rattle.keys.specs.Notes.{headOf, named, keysOf, joined, Rows, Entry, Placed, Added, Noting, Joins}
 use Rattle.keys.proofs.Chaining.{note-alone}
-use Rattle.key_rows.specs.Contract.{Entries, Prepared, Joined, KeyDone, KeyIf}
+use Rattle.key_rows.specs.Contract.{Prepared, Joined, KeyDone, KeyIf}
 
 -- an end that was found
 pub until-one : {m n : ℕ} → Until m ≡ Until n → m ≡ n

@@ -2,10 +2,10 @@
 use Prim.Native.Nat.{ℕ, zero, suc, _+_, _-_, _*_, _/_, _≤_, _<_}
 use mathlib.Core.Path.{_≡_, refl, sym, ap, _∙_}
 use mathlib.Core.Bool.{Bool, true, false, _&&_, _||_}
-use mathlib.Core.List.{List, [], _∷_}
+use mathlib.Core.List.{List, _∷_}
 use native.Mathlib.Omega.{arith}
 use native.Mathlib.Numerals.{add-one}
-use lib.ListN.{length, getD, set, length-set}
+use lib.ListN.{length, set, length-set}
 use lib.Seq.{getD-set-same, getD-set-other}
 use lib.Dec.{eqb, ltb}
 use borrow.Author.Tests.{eqb-true, eqb-false, eq-eqb, ne-eqb, ltb-false}
@@ -16,7 +16,7 @@ use Rattle.draft.specs.Bytes.{part}
 use Rattle.draft.specs.Strings.{Text}
 use Rattle.draft.specs.Table.{rowAt}
 use Rattle.spread.specs.Buckets.{wholeBucketOf}
-use Rattle.keys.specs.Notes.{headOf, linkOf, ownerOf, named, keepIf, keysOf, joined, On, here, next, Noted, Rows, Entry, Placed, Added, Noting, Ahead}
+use Rattle.keys.specs.Notes.{headOf, linkOf, ownerOf, named, keepIf, keysOf, joined, On, here, next, Noted, Rows, Entry, Placed, Noting, Ahead}
 
 pub text-is : (s : List ℕ) (room : ℕ) (T : List ℕ) (r : ℕ) {x : Row} {a n : ℕ} {t : Text} → x ≡ rowAt room T r → a ≡ x .a → n ≡ x .b → t ≡ part s a n → t ≡ named s room T r
 unfolding named

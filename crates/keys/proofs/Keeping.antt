@@ -1,16 +1,14 @@
 -- What stays of the notes while rows are stored or walked behind them. Assumes nothing.
-use Prim.Native.Nat.{ℕ, zero, suc, _+_, _-_, _*_, _/_, _≤_, _<_}
-use mathlib.Core.Path.{_≡_, refl, sym, ap, _∙_}
+use Prim.Native.Nat.{ℕ, zero, suc, _+_, _-_, _*_, _≤_, _<_}
+use mathlib.Core.Path.{_≡_, refl, sym, _∙_}
 use mathlib.Core.Bool.{Bool, true, false}
-use mathlib.Core.List.{List, [], _∷_}
+use mathlib.Core.List.{List, []}
 use native.Mathlib.Omega.{arith}
-use native.Mathlib.Numerals.{add-one}
 use lib.ListN.{length, getD, replicate}
 use lib.Dec.{eqb, ltb}
 use borrow.Author.Tests.{eqb-true, eqb-false, ne-eqb, ltb-true, ltb-false}
 use Rattle.draft.specs.Strings.{Text}
-use Rattle.spread.specs.Buckets.{wholeBucketOf}
-use Rattle.keys.specs.Notes.{headOf, linkOf, ownerOf, named, keepIf, keysOf, On, Noted, Rows, Entry, Added, Keeps}
+use Rattle.keys.specs.Notes.{ownerOf, keepIf, keysOf, Noted, Keeps}
 use Rattle.keys.proofs.Chaining.{keys-move}
 
 -- rows that are no keys add none

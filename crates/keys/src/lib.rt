@@ -3,7 +3,7 @@
 // Nothing is taken out: keys of Structs that are done stay where they are, and are passed over. See specs/Notes.antt for the words.
 ghost use mathlib.Core.Path.{_≡_};
 ghost use mathlib.Core.Bool.{_&&_};
-ghost use Prim.Native.Nat.{_+_, _*_, _≤_, _<_, _/_};
+ghost use Prim.Native.Nat.{_+_, _*_, _<_, _/_};
 ghost use lib.ListN.{length};
 ghost use lib.Dec.{eqb, ltb};
 ghost use Rattle.text.specs.Texts.{same, among};

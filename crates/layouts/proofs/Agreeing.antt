@@ -3,9 +3,9 @@
 use mathlib.Core.Path.{_≡_, refl, sym, ap, _∙_, fun-ext}
 use mathlib.Core.Bool.{Bool, true, false, cond, _&&_}
 use mathlib.Core.List.{List, [], _∷_}
-use Prim.Native.Nat.{ℕ, zero, suc, _+_, _*_, _≤_, _<_}
+use Prim.Native.Nat.{ℕ, zero, suc, _+_, _≤_, _<_}
 use native.Mathlib.Omega.{arith}
-use lib.Dec.{leb, ltb, eqb}
+use lib.Dec.{ltb, eqb}
 use lib.ListN.{length}
 use borrow.Author.Tests.{ltb-true, eqb-true, eq-eqb}
 use Rattle.text.proofs.Comparing.{clash}
@@ -29,14 +29,12 @@ use Rattle.member.specs.declared.Member.{Member}
 use Rattle.member.specs.declared.Found.{Found}
 use Rattle.member.specs.declared.Found.the-variants.{At, Absent}
 use Rattle.member.specs.Members.{memberOf, membersFrom, isStruct, members, hasKey, find, pickFound, isAmong}
-use Rattle.lookup.specs.declared.Answer.{Answer}
 use Rattle.lookup.specs.Answers.{answerAt, foundAnswer, look}
 use Rattle.order.specs.declared.Relation.the-variants.{After}
 use Rattle.order.specs.ByteOrder.{compared, pick as pickRelation}
 use Rattle.sorting.specs.Sorting.{keyText}
 use Rattle.index.specs.Filling.{refusalIn, orderIn}
 use Rattle.index.specs.Through.{relationTo, isMember}
-use Rattle.choice.specs.declared.Held.{Held}
 use Rattle.defaults.specs.Defaults.{textAt, foundText, heldIn}
 
 -- the same rows below n

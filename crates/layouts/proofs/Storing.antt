@@ -6,7 +6,7 @@ use mathlib.Core.List.{List, [], _∷_}
 use Prim.Native.Nat.{ℕ, zero, suc, _+_, _*_, _≤_, _<_}
 use native.Mathlib.Omega.{arith}
 use borrow.Author.Tests.{eqb-true, eqb-false}
-use lib.Dec.{lit<, eqb, ltb}
+use lib.Dec.{lit<, eqb}
 use lib.Seq.{getD-set-same, getD-set-other}
 use lib.ListN.{length, getD, set, replicate, length-set, length-replicate}
 use Rattle.draft.specs.declared.Row.{Row}

@@ -1,19 +1,18 @@
 -- Two tables with the same rows, each by its own layout: every call that is lent one answers as it does for the other. Assumes nothing.
-use mathlib.Core.Path.{_≡_, refl, sym, ap, _∙_}
+use mathlib.Core.Path.{_≡_, refl, ap, _∙_}
 use mathlib.Core.Bool.{Bool, true, false, cond, _&&_}
 use mathlib.Core.List.{List, []}
-use Prim.Native.Nat.{ℕ, _+_, _*_, _/_, _≤_, _<_, min}
+use Prim.Native.Nat.{ℕ, _*_, _≤_, _<_}
 use native.Mathlib.Omega.{arith}
 use lib.Dec.{leb, ltb}
 use lib.ListN.{length}
 use borrow.Author.Tests.{leb-true, ltb-true}
 use Rattle.text.proofs.Comparing.{both}
-use Rattle.draft.specs.declared.Row.{Row}
 use Rattle.draft.specs.declared.Refusal.the-variants.{TooLong, NotWritable, NoLimit}
 use Rattle.draft.specs.Limits.{allowed}
 use Rattle.draft.specs.Bytes.{Below, bytes}
 use Rattle.draft.specs.Strings.{textsOf}
-use Rattle.draft.specs.Table.{roomOf, from}
+use Rattle.draft.specs.Table.{roomOf}
 use Rattle.draft.specs.Writable.{callOrResponse, wholly}
 use Rattle.draft.specs.Written.{written}
 use Rattle.written.proofs.Limiting.{below-at}

@@ -1,6 +1,6 @@
 -- What the calls that are lent a table answer, with any layout of it: the definitions of crates writer, plan_writer, certificate, lookup, position,
 -- index and defaults, with the rows fetched by the layout. Assumes nothing.
-use mathlib.Core.Bool.{Bool, true, false, cond, _&&_}
+use mathlib.Core.Bool.{Bool, cond, _&&_}
 use mathlib.Core.List.{List, []}
 use Prim.Native.Nat.{ℕ, _*_}
 use lib.ListN.{length}

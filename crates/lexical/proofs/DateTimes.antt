@@ -1,19 +1,19 @@
 -- The test `isDateTime` and the grammar agree: bytes pass exactly if the grammar derives them. What passes is ASCII. Assumes nothing.
-use mathlib.Core.Path.{_≡_, refl, sym, ap, _∙_}
+use mathlib.Core.Path.{_≡_, refl}
 use mathlib.Core.Bool.{Bool, true, false, cond, not, _&&_, _||_}
-use mathlib.Core.List.{List, [], _∷_, _++_}
-use mathlib.Core.Logic.{_↔_, _≢_}
-use Prim.Native.Nat.{ℕ, zero, suc, _+_, _*_, _%_, _≤_, _<_}
+use mathlib.Core.List.{List, [], _∷_}
+use mathlib.Core.Logic.{_↔_}
+use Prim.Native.Nat.{ℕ, suc, _+_, _*_, _%_, _≤_, _<_}
 use Prim.Native.Char.{code}
 use native.Mathlib.Omega.{arith}
 use lib.ListN.{length, getD}
-use lib.Dec.{leb, ltb, eqb}
+use lib.Dec.{leb, eqb}
 use borrow.Author.Tests.{leb-true, le-leb, eqb-true, eqb-false, eq-eqb, ne-eqb, not-true}
 use Rattle.text.specs.Texts.{ascii}
 use Rattle.text.proofs.Comparing.{both, clash}
 use Rattle.lexical.specs.Digits.{digit, pair, two as twoAt}
 use Rattle.lexical.specs.DateTime.{leap, monthDays, isDay, isDate, pairTo, isTime, parted, isDateTime}
-use Rattle.lexical.specs.Grammar.{Digit, Leap, fourth, four-hundredth, Month, january, february, leap-february, march, april, may, june, july, august, september, october, november, december, Day, Two, two, DateTime, datetime}
+use Rattle.lexical.specs.Grammar.{Leap, fourth, four-hundredth, Month, january, february, leap-february, march, april, may, june, july, august, september, october, november, december, Day, Two, two, DateTime, datetime}
 use Rattle.lexical.proofs.Doubles.{digit-in, digit-is, digit-below}
 
 -- ---- leap years

@@ -1,5 +1,5 @@
 -- Whether bytes are a DateTime of document 02: 17 bytes as in `19980717T14:08:55`, of a day that there is. Assumes nothing.
-use mathlib.Core.Bool.{Bool, true, false, cond, not, _&&_, _||_}
+use mathlib.Core.Bool.{Bool, cond, not, _&&_, _||_}
 use mathlib.Core.List.{List}
 use Prim.Native.Nat.{ℕ, _+_, _*_, _%_}
 use Prim.Native.Char.{code}

@@ -1,11 +1,10 @@
 // The long Strings of a table, all checked before its rows are walked: many may lie in the same text bytes, and those are checked once.
 use draft::Row;
-ghost use mathlib.Core.Path.{_≡_};
 ghost use mathlib.Core.Bool.{true};
-ghost use Prim.Native.Nat.{_+_, _*_, _≤_, _<_};
+ghost use Prim.Native.Nat.{_+_, _≤_, _<_};
 ghost use lib.ListN.{length};
 ghost use Rattle.draft.specs.Table.{rowAt};
-ghost use Rattle.passages.specs.Notes.{Notes, True};
+ghost use Rattle.passages.specs.Notes.{Notes};
 ghost use Rattle.extents.specs.Asked.{Ready, Checked};
 ghost use Rattle.long_texts.specs.Fine.{Found};
 

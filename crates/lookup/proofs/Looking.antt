@@ -1,10 +1,10 @@
 -- What answers the needs and returns of the functions that look a member up. Assumes nothing.
-use mathlib.Core.Path.{_≡_, refl, sym, ap, _∙_}
-use mathlib.Core.Bool.{Bool, true, false, cond, _&&_}
+use mathlib.Core.Path.{_≡_, sym, ap, _∙_}
+use mathlib.Core.Bool.{Bool, true, false}
 use mathlib.Core.List.{List}
-use Prim.Native.Nat.{ℕ, suc, _+_, _-_, _*_, _≤_, _<_}
+use Prim.Native.Nat.{ℕ, suc, _-_, _*_, _≤_, _<_}
 use native.Mathlib.Omega.{arith}
-use lib.Dec.{ltb, leb, eqb}
+use lib.Dec.{leb, eqb}
 use lib.IntN.{ℤ, pos, negsuc, _-ℤ_}
 use lib.ListN.{length}
 use mir.Syntax.{w32, w64}
@@ -24,7 +24,7 @@ use Rattle.draft.specs.declared.Item.the-variants as item
 use Rattle.draft.specs.Bytes.{part}
 use Rattle.draft.specs.Rows.{itemOf}
 use Rattle.draft.specs.Table.{roomOf, rowAt}
-use Rattle.draft.specs.Writable.{wholly, callOrResponse, writableWithin, writable}
+use Rattle.draft.specs.Writable.{writableWithin, writable}
 use Rattle.member.specs.declared.Member.{Member}
 use Rattle.member.specs.declared.Found.{Found}
 use Rattle.member.specs.declared.Found.the-variants.{At, Absent}
@@ -32,7 +32,7 @@ use Rattle.member.specs.Members.{members, find}
 use Rattle.lookup.specs.declared.Refusal.the-variants as why
 use Rattle.lookup.specs.declared.Answer.{Answer}
 use Rattle.lookup.specs.declared.Answer.the-variants.{Whole, Decimal, Truth, Text, Row, Refused}
-use Rattle.lookup.specs.Answers.{signed, decimalAnswer, contentAnswer, itemAnswer, answerAt, foundAnswer, look, lookup}
+use Rattle.lookup.specs.Answers.{signed, decimalAnswer, contentAnswer, itemAnswer, answerAt, look, lookup}
 
 -- ---- 32 bits as a signed number
 

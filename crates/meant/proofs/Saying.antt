@@ -1,6 +1,6 @@
 -- Rows that have a meaning answer by it: a value's row, the members of a Struct one by one, and a key looked up in a writable table. Assumes nothing.
-use mathlib.Core.Path.{_≡_, refl, sym, ap, _∙_}
-use mathlib.Core.Bool.{Bool, true, false, cond, _&&_}
+use mathlib.Core.Path.{_≡_, refl, ap, _∙_}
+use mathlib.Core.Bool.{Bool, true, false}
 use mathlib.Core.List.{List, [], _∷_, _++_}
 use Prim.Native.Nat.{ℕ, zero, suc, _+_, _≤_, _<_}
 use native.Mathlib.Omega.{arith}
@@ -16,10 +16,9 @@ use Rattle.draft.specs.Bytes.{part}
 use Rattle.draft.specs.Rows.{itemOf}
 use Rattle.draft.specs.Table.{from}
 use Rattle.draft.specs.Read.{Texts}
-use Rattle.draft.specs.Grammar.{Payload, holding, number, contents, Cell, cell, Sent, content-cell, struct-cell, Value, integer-value, boolean-value, double-value, datetime-value, binary-value, array-value, struct-value, string-value, other-value, Array, array, Struct, struct, Pairs, no-pairs, more-pairs, pair, Other, other, Derives}
-use Rattle.draft.specs.Meaning.{Says, says-holding, says-number, says-contents, Means, means, Realises, no-more, and-then}
-use Rattle.member.specs.declared.Found.{Found}
-use Rattle.member.specs.declared.Found.the-variants.{At, Absent}
+use Rattle.draft.specs.Grammar.{Payload, holding, Cell, cell, Sent, content-cell, struct-cell, Value, integer-value, boolean-value, double-value, datetime-value, binary-value, array-value, struct-value, string-value, other-value, array, Struct, struct, Pairs, no-pairs, more-pairs, pair, other, Derives}
+use Rattle.draft.specs.Meaning.{says-holding, says-number, says-contents, Means, means, Realises, no-more, and-then}
+use Rattle.member.specs.declared.Found.the-variants.{At}
 use Rattle.member.specs.Members.{memberOf, membersFrom, isStruct, members, pickFound, hasKey, find}
 use Rattle.lookup.specs.declared.Refusal.the-variants as why
 use Rattle.lookup.specs.declared.Answer.{Answer}

@@ -1,14 +1,12 @@
 -- Every Struct's row of what a message means has a derivation: by the productions. Assumes nothing.
-use mathlib.Core.Path.{_≡_, refl, sym, ap, _∙_}
-use mathlib.Core.Bool.{Bool, true, false}
+use mathlib.Core.Path.{_≡_, refl, ap}
 use mathlib.Core.Logic.{_⊎_, inl, inr}
 use mathlib.Core.List.{List, [], _∷_, _++_, append-assoc, append-nil}
-use Prim.Native.Nat.{ℕ, zero, suc, _+_, _≤_, _<_}
+use Prim.Native.Nat.{ℕ, zero, suc, _+_}
 use native.Mathlib.Omega.{arith}
-use lib.ListN.{length, length-append}
+use lib.ListN.{length}
 use Rattle.draft.specs.declared.Content.{Content}
 use Rattle.draft.specs.declared.Content.the-variants as content
-use Rattle.draft.specs.Rows.{kindOf}
 use Rattle.draft.specs.Read.{Texts}
 use Rattle.draft.specs.Grammar.{Payload, Cell, cell, Sent, content-cell, struct-cell, Derives, Message, call-message, response-message, Call, call, Response, value-response, fault-response, Fault, fault, Value, integer-value, boolean-value, double-value, datetime-value, binary-value, array-value, struct-value, string-value, other-value, Array, array, Values, no-values, more-values, Struct, struct, Pairs, no-pairs, more-pairs, Pair, pair, Other, other}
 use Rattle.meant.specs.Meant.{StructAt}

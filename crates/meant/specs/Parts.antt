@@ -1,7 +1,6 @@
 -- What the digits, places and sign of a Double's text are, by the parts that the grammar gives it. `digitsOf`, `places` and `negative` are defined for
 -- any bytes; of a Double they are these. Assumes nothing.
 use mathlib.Core.Path.{_≡_}
-use mathlib.Core.Bool.{Bool}
 use mathlib.Core.List.{List, [], _∷_, _++_}
 use Prim.Native.Nat.{ℕ}
 use Prim.Native.Char.{code}

@@ -1,22 +1,17 @@
 -- What answers the returns of the functions that read a key. Assumes nothing.
 use mathlib.Core.Path.{_≡_, refl, sym, ap, _∙_}
 use mathlib.Core.Bool.{Bool, true, false, _&&_, true≢false}
-use mathlib.Core.List.{List, [], _∷_}
-use Prim.Native.Nat.{ℕ, _+_, _*_, _/_, _≤_, _<_, min}
+use mathlib.Core.List.{List}
+use Prim.Native.Nat.{ℕ, _+_, _≤_, _<_}
 use native.Mathlib.Omega.{arith}
 use lib.ListN.{length, getD, replicate, List·getD-eq-default}
 use lib.Dec.{ltb, eqb}
 use borrow.Author.Tests.{lt-ltb, le-ltb, ltb-true, ltb-false, eqb-true}
-use Rattle.text.specs.Texts.{among}
-use Rattle.draft.specs.declared.Refusal.{Refusal}
 use Rattle.draft.specs.declared.Refusal.the-variants.{RepeatedKey}
-use Rattle.draft.specs.declared.Verdict.{Verdict}
-use Rattle.draft.specs.declared.Verdict.the-variants.{Fine, Bad}
-use Rattle.draft.specs.declared.Row.{Row}
 use Rattle.draft.specs.Codebook.{Book}
 use Rattle.draft.specs.Content.{badIf, keyRule}
 use Rattle.draft.specs.Strings.{Text}
-use Rattle.draft.specs.Table.{putRows, rowAt}
+use Rattle.draft.specs.Table.{rowAt}
 use Rattle.draft.specs.Read.{Reading, Texts, string, recalledItem, textOf, key}
 use Rattle.draft.proofs.Naming.{number-some}
 use Rattle.codebook.specs.Words.{bookOf}

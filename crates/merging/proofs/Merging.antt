@@ -1,13 +1,13 @@
 -- Sorted runs merged are the whole, sorted. Assumes nothing.
 use mathlib.Core.Path.{_≡_, refl, sym, ap, _∙_}
-use mathlib.Core.Bool.{Bool, true, false, cond}
-use mathlib.Core.List.{List, [], _∷_, _++_, append-nil}
-use Prim.Native.Nat.{ℕ, zero, suc, _+_, _-_, _≤_, _<_}
+use mathlib.Core.Bool.{Bool, true, false}
+use mathlib.Core.List.{List, [], _∷_, _++_}
+use Prim.Native.Nat.{ℕ, suc, _+_, _-_, _<_}
 use native.Mathlib.Omega.{arith}
 use lib.ListN.{length, getD}
-use Rattle.order.proofs.Ordering.{Less, less-less, less-le, le-less}
+use Rattle.order.proofs.Ordering.{less-less, less-le, le-less}
 use Rattle.sorting.specs.Sorting.{before, inserted, sorted, Rising}
-use Rattle.sorting.proofs.Inserting.{before-less, less-before, before-not, inserted-front, inserted-behind, inserted-last, sorted-rising}
+use Rattle.sorting.proofs.Inserting.{before-less, less-before, before-not, inserted-front, inserted-behind, inserted-last}
 use Rattle.merging.specs.Merging.{into, merged}
 
 module _ (text : ℕ → List ℕ) where

@@ -6,8 +6,6 @@ use Prim.Native.Nat.{ℕ, zero, suc, _+_, _-_, _/_, _≤_, _<_}
 use native.Mathlib.Omega.{arith}
 use native.Mathlib.Numerals.{add-one}
 use native.Mathlib.Nat.{add-zero}
-use mir.Syntax.{w64}
-use mir.Val.{Fits}
 use lib.ListN.{length, getD, set, take, drop, length-set, length-append, length-take, length-drop, take-append-drop, drop-of-length-le}
 use lib.Seq.{take-all, take-nil, take-suc, drop-cons, drop-drop, take-add, take-take, set-at, take-at, drop-at, getD-take, getD-drop, length-take-le, take-append-add, take-suc-set, drop-set-lt, take-set-lt}
 use lib.Dec.{ltb}

@@ -1,12 +1,12 @@
 -- Bytes at the front that are well-formed are passed: what comes after them decides. Assumes nothing.
-use mathlib.Core.Path.{_≡_, refl, sym, ap, _∙_}
-use mathlib.Core.Bool.{Bool, true, false}
+use mathlib.Core.Path.{_≡_, refl, ap, _∙_}
+use mathlib.Core.Bool.{true}
 use mathlib.Core.List.{List, [], _∷_, _++_}
 use Prim.Native.Nat.{ℕ, _+_, _-_, _≤_}
 use native.Mathlib.Omega.{arith}
-use lib.ListN.{length, take, drop}
+use lib.ListN.{take, drop}
 use lib.Seq.{take-add, drop-drop}
-use Rattle.text.specs.Utf8.{Range, Due, due, wrong, step, octets, wellFormed}
+use Rattle.text.specs.Utf8.{Due, due, wrong, step, octets, wellFormed}
 use Rattle.text.proofs.Comparing.{clash}
 use Rattle.passages.specs.Notes.{passage}
 

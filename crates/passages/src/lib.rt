@@ -3,9 +3,9 @@
 // Assumes an entry for each 256 bytes, and notes that are true.
 ghost use mathlib.Core.Path.{_≡_};
 ghost use Prim.Native.Nat.{_+_, _*_, _%_, _≤_, _<_};
-ghost use lib.ListN.{length, getD};
+ghost use lib.ListN.{length};
 ghost use Rattle.text.specs.Utf8.{wellFormed};
-ghost use Rattle.passages.specs.Notes.{noted as notedBy, True, Notes, Passed, Judged};
+ghost use Rattle.passages.specs.Notes.{noted as notedBy, Notes, Passed, Judged};
 
 // A word as a number: the caller has no fit of the element to show.
 fn word(x: u16) -> usize

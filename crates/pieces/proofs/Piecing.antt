@@ -1,5 +1,5 @@
 -- What each call does: a law for each return. Assumes nothing.
-use mathlib.Core.Path.{_≡_, refl, sym, _∙_, ap}
+use mathlib.Core.Path.{_≡_, sym, _∙_}
 use mathlib.Core.Bool.{Bool, true, false}
 use mathlib.Core.List.{List}
 use Prim.Native.Nat.{ℕ, _+_, _-_, _≤_, _<_}
@@ -17,7 +17,7 @@ use Rattle.reader.specs.declared.Answer.{Answer}
 use Rattle.reader.specs.declared.Answer.the-variants as answer
 use Rattle.reader.specs.Answers.{reading, answerOf}
 use Rattle.rereading.specs.Rereading.{tableRead, Reread}
-use Rattle.room.specs.Room.{taken, roomAfter, Held}
+use Rattle.room.specs.Room.{taken, Held}
 use Rattle.pieces.specs.declared.PieceRefusal.{PieceRefusal}
 use Rattle.pieces.specs.declared.PieceRefusal.the-variants.{Message, ShortRoom}
 use Rattle.pieces.specs.declared.State.{State}

@@ -1,24 +1,23 @@
 -- What answers the returns of the functions that write by a plan. Assumes nothing.
-use Prim.Native.Nat.{ℕ, _-_, _*_, _≤_, _<_}
+use Prim.Native.Nat.{ℕ, _-_, _≤_, _<_}
 use mathlib.Core.Path.{_≡_, refl, sym, ap, _∙_}
-use mathlib.Core.Bool.{Bool, true, false, cond, _&&_}
+use mathlib.Core.Bool.{Bool, true, false, cond}
 use mathlib.Core.List.{List, _++_}
 use native.Mathlib.Omega.{arith}
 use lib.ListN.{length, replicate}
-use lib.Dec.{leb, eqb}
-use borrow.Author.Tests.{lt-leb, le-leb, leb-true, leb-false, eqb-true}
-use Rattle.text.proofs.Comparing.{both}
+use lib.Dec.{leb}
+use borrow.Author.Tests.{lt-leb, le-leb, leb-true, leb-false}
 use Rattle.draft.specs.declared.Refusal.the-variants.{TooLong, NotWritable, FormTooLong, OutputTooShort, NoLimit}
 use Rattle.draft.specs.declared.Row.{Row}
 use Rattle.draft.specs.Table.{roomOf, rowAt, from}
-use Rattle.draft.specs.Strings.{Text, textsOf}
+use Rattle.draft.specs.Strings.{textsOf}
 use Rattle.draft.specs.Limits.{allowed}
 use Rattle.draft.specs.Writable.{writableTo}
 use Rattle.draft.specs.Written.{written, rowsOf}
 use Rattle.buckets.specs.Numbered.{textAt}
 use Rattle.sending.specs.Contract.{Collected}
 use Rattle.message.specs.Filled.{needed, filled, Filled}
-use Rattle.plans.specs.Plans.{planned, takenFrom, taken}
+use Rattle.plans.specs.Plans.{planned, taken}
 use Rattle.plans.proofs.Judging.{taken-long}
 use Rattle.plan_message.specs.Contract.{Known}
 use Rattle.plan_writer.specs.declared.Answer.{Answer}

@@ -6,7 +6,6 @@ use mathlib.Core.Bool.{Bool, true, false, cond}
 use mathlib.Core.List.{List, _++_}
 use lib.ListN.{length, replicate}
 use lib.Dec.{leb}
-use Rattle.draft.specs.declared.Refusal.{Refusal}
 use Rattle.draft.specs.declared.Refusal.the-variants.{TooLong, NotWritable, FormTooLong, OutputTooShort, NoLimit}
 use Rattle.draft.specs.Refusals.{numberOf}
 use Rattle.draft.specs.declared.Row.{Row}

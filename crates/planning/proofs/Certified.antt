@@ -1,20 +1,20 @@
 -- Prices prove what any legal sending costs at least. Assumes nothing.
 use Prim.Native.Nat.{ℕ, zero, suc, _+_, _*_, _≤_, _<_}
-use mathlib.Core.Path.{_≡_, refl, sym, ap, _∙_}
+use mathlib.Core.Path.{_≡_, refl}
 use mathlib.Core.Bool.{Bool, true, false}
 use mathlib.Core.Option.{Option, some, none}
 use mathlib.Core.List.{List, [], _∷_}
 use native.Mathlib.Omega.{arith}
 use native.Mathlib.Nat.{mul-add}
 use lib.ListN.{length}
-use lib.Dec.{eqb, ltb}
+use lib.Dec.{ltb}
 use borrow.Author.Tests.{ltb-true, ltb-false, ne-eqb, eq-eqb}
-use Rattle.draft.specs.Grammar.{Sent, regular, recorded, recalled, Recording, text-at, first, look, Legal, legal-none, legal-regular, legal-recorded, legal-recalled}
+use Rattle.draft.specs.Grammar.{Sent, Recording, text-at, look, Legal, legal-none, legal-regular, legal-recorded, legal-recalled}
 use Rattle.written.proofs.Sending.{texts}
 use Rattle.planning.proofs.Positions.{Within, within-none, within-regular, within-recorded, within-recalled}
 use Rattle.draft.specs.Strings.{Text, cost, costs}
 use Rattle.text.specs.Texts.{same}
-use Rattle.prices.specs.Prices.{pick, price, later, total, Past, past, worth, share, left, passed, shares, bound}
+use Rattle.prices.specs.Prices.{pick, price, later, total, Past, worth, share, left, passed, shares, bound}
 use Rattle.text.proofs.Comparing.{same-is, same-self}
 use Rattle.planning.proofs.Sums.{sum, each, but}
 

@@ -2,18 +2,18 @@
 -- that no message with that meaning is shorter. Assumes nothing.
 use mathlib.Core.Path.{_≡_, refl, sym, ap, _∙_}
 use mathlib.Core.Bool.{true}
-use mathlib.Core.List.{List, [], _∷_, _++_, append-nil}
+use mathlib.Core.List.{List, [], _++_, append-nil}
 use Prim.Native.Nat.{ℕ, _+_, _*_, _≤_}
 use native.Mathlib.Omega.{arith}
-use lib.ListN.{length, take, drop, length-append, take-append-drop}
+use lib.ListN.{length, drop, length-append, take-append-drop}
 use lib.Seq.{length-take-le}
 use Rattle.draft.specs.declared.Row.{Row}
 use Rattle.draft.specs.Bytes.{Below}
 use Rattle.draft.specs.Codebook.{Book}
 use Rattle.draft.specs.Read.{got, message, prefix}
-use Rattle.draft.specs.Grammar.{Cell, Sent, Message, Legal, Derives}
+use Rattle.draft.specs.Grammar.{Cell, Sent, Message, Legal}
 use Rattle.draft.specs.Meaning.{MeanSame, Realises}
-use Rattle.draft.specs.Strings.{Text, textsOf, costs}
+use Rattle.draft.specs.Strings.{textsOf, costs}
 use Rattle.draft.specs.Writable.{writableWithin}
 use Rattle.draft.specs.Written.{messageOf, rowsOf}
 use Rattle.exact.proofs.Realising.{counts, same-meaning}

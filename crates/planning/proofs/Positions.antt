@@ -1,9 +1,8 @@
 -- The strings of a message whose bytes are below 256 have positions below 256. Assumes nothing.
-use mathlib.Core.Path.{_≡_, refl}
 use mathlib.Core.List.{List, [], _∷_, _++_}
 use Prim.Native.Nat.{ℕ, _<_}
 use Rattle.draft.specs.Bytes.{Below, and-below, bytes}
-use Rattle.draft.specs.Grammar.{Cell, Sent, regular, recorded, recalled, Message, call-message, response-message, Call, call, Response, value-response, fault-response, Fault, fault, Value, integer-value, boolean-value, double-value, datetime-value, binary-value, array-value, struct-value, string-value, other-value, Array, array, Values, no-values, more-values, Struct, struct, Pairs, no-pairs, more-pairs, Pair, pair, Other, other, String, regular-string, recorded-string, recalled-string}
+use Rattle.draft.specs.Grammar.{Cell, Sent, regular, recorded, recalled, Message, call-message, response-message, Call, call, Response, value-response, fault-response, Fault, fault, Value, integer-value, boolean-value, double-value, datetime-value, binary-value, array-value, struct-value, string-value, other-value, Array, array, Values, no-values, more-values, Struct, struct, Pairs, no-pairs, more-pairs, Pair, pair, other, String, regular-string, recorded-string, recalled-string}
 use Rattle.written.proofs.Limiting.{below-front, below-back}
 
 -- every position is below P

@@ -1,6 +1,6 @@
 -- A plan that is taken has the length and the values that it is to have, and its strings are legal; and no other is. Assumes nothing.
 use Prim.Native.Nat.{ℕ, zero, suc, _+_, _*_, _≤_, _<_}
-use mathlib.Core.Path.{_≡_, refl, sym, ap, ap₂, _∙_}
+use mathlib.Core.Path.{_≡_, refl, ap, ap₂}
 use mathlib.Core.Bool.{Bool, true, false}
 use mathlib.Core.Option.{Option, some, none}
 use mathlib.Core.List.{List, [], _∷_}
@@ -8,9 +8,8 @@ use native.Mathlib.Omega.{arith}
 use lib.ListN.{length}
 use lib.Dec.{eqb, leb}
 use borrow.Author.Tests.{eqb-true, eqb-false, eq-eqb, leb-true, le-leb, lt-ltb}
-use Rattle.text.specs.Texts.{same}
 use Rattle.text.proofs.Comparing.{clash, both, same-is, same-self}
-use Rattle.draft.specs.Grammar.{Sent, regular, recorded, recalled, Recording, text-at, look, after, Legal, legal-none, legal-regular, legal-recorded, legal-recalled}
+use Rattle.draft.specs.Grammar.{Sent, regular, recorded, recalled, Recording, look, after, Legal, legal-none, legal-regular, legal-recorded, legal-recalled}
 use Rattle.draft.specs.Strings.{Text}
 use Rattle.written.proofs.Sending.{textIn, texts}
 use Rattle.plans.specs.Plans.{formAt, positionAt, sentBy, sentAt, sentsFrom, valued, holdsText, maySend, takenFrom, taken}

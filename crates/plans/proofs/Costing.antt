@@ -1,10 +1,10 @@
 -- What answers the returns and turns of the functions that say what the strings of a plan take. Assumes nothing.
 use Prim.Native.Nat.{ℕ, zero, suc, _+_, _-_, _*_, _≤_, _<_}
-use mathlib.Core.Path.{_≡_, refl, sym, ap, _∙_}
-use mathlib.Core.List.{List, [], _∷_}
+use mathlib.Core.Path.{_≡_, refl}
+use mathlib.Core.List.{List}
 use native.Mathlib.Omega.{arith}
 use native.Mathlib.Numerals.{add-one}
-use lib.ListN.{length, getD}
+use lib.ListN.{length}
 use Rattle.draft.specs.declared.Row.{Row}
 use Rattle.draft.specs.Table.{from}
 use Rattle.draft.specs.Strings.{Text, cost, costs}

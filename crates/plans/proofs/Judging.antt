@@ -1,14 +1,14 @@
 -- What answers the returns and turns of the functions that judge a plan. Assumes nothing.
 use Prim.Native.Nat.{ℕ, zero, suc, _+_, _-_, _*_, _≤_, _<_}
 use mathlib.Core.Path.{_≡_, refl, sym, ap, _∙_}
-use mathlib.Core.Bool.{Bool, true, false, _&&_, _||_}
+use mathlib.Core.Bool.{Bool, true, false, _&&_}
 use mathlib.Core.Option.{Option, some, none}
 use mathlib.Core.List.{List, [], _∷_}
 use native.Mathlib.Omega.{arith}
 use native.Mathlib.Numerals.{add-one}
 use lib.ListN.{length, getD, set, length-set, replicate, length-replicate}
 use lib.Seq.{getD-set-same, getD-set-other}
-use lib.Dec.{eqb, ltb, leb}
+use lib.Dec.{eqb}
 use borrow.Author.Tests.{eqb-true, eqb-false, eq-eqb, ne-eqb, lt-leb}
 use Rattle.text.specs.Texts.{same}
 use Rattle.text.proofs.Comparing.{clash, both}
@@ -16,7 +16,7 @@ use Rattle.draft.specs.Table.{from}
 use Rattle.draft.specs.Grammar.{Recording, text-at, first, look, after}
 use Rattle.draft.specs.Strings.{Text}
 use Rattle.buckets.proofs.Numbered.{from-step, from-none}
-use Rattle.plans.specs.Plans.{formAt, positionAt, sentBy, sentAt, valued, holdsText, maySend, takenFrom, taken}
+use Rattle.plans.specs.Plans.{formAt, positionAt, sentBy, sentAt, valued, maySend, takenFrom, taken}
 use Rattle.plans.specs.Contract.{Spot, unset, holds, Spots, Named, Sends}
 
 and-true : (b : Bool) → b ≡ (b && true)

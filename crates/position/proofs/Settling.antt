@@ -1,6 +1,6 @@
 -- What answers the returns of the functions that make a position. Assumes nothing.
-use mathlib.Core.Path.{_≡_, refl, sym, ap, _∙_}
-use mathlib.Core.Bool.{Bool, true, false, _||_}
+use mathlib.Core.Path.{_≡_, _∙_}
+use mathlib.Core.Bool.{Bool, true, false}
 use mathlib.Core.List.{List}
 use Prim.Native.Nat.{ℕ}
 use lib.IntN.{ℤ}
@@ -12,11 +12,11 @@ use Rattle.draft.specs.Writable.{writable}
 use Rattle.lookup.specs.declared.Refusal as Why
 use Rattle.lookup.specs.declared.Refusal.the-variants.{NotWritable, NoMember, TooManyDigits}
 use Rattle.lookup.specs.declared.Answer.{Answer}
-use Rattle.lookup.specs.declared.Answer.the-variants.{Whole, Decimal, Truth, Text, Row, Refused}
-use Rattle.lookup.specs.Answers.{look, lookup}
+use Rattle.lookup.specs.declared.Answer.the-variants.{Whole, Truth, Text, Row, Refused}
+use Rattle.lookup.specs.Answers.{look}
 use Rattle.lookup.proofs.Looking.{writable-answer, unwritable-answer}
 use Rattle.position.specs.declared.Placed.{Placed}
-use Rattle.position.specs.Placing.{coordinateNumber, coordinateValue, at, acceptedAt, refusedWith, pick, isAny, together, settled, position}
+use Rattle.position.specs.Placing.{coordinateNumber, coordinateValue, at, acceptedAt, refusedWith, isAny, together, settled, position}
 
 -- ---- one answer
 

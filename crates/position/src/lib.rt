@@ -3,8 +3,6 @@
 use lookup::Answer;
 use lookup::Refusal;
 ghost use mathlib.Core.Path.{_≡_};
-ghost use mathlib.Core.Bool.{_||_};
-ghost use lib.Dec.{eqb};
 ghost use Rattle.position.specs.Placing.{outcomeNumber, coordinateNumber, coordinateValue, isAny, acceptedAt, refusedWith, settled, position as positionIn};
 
 // Where the laser goes.

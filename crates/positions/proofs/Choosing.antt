@@ -8,7 +8,7 @@ use lib.ListN.{length, getD}
 use lib.Dec.{ltb}
 use borrow.Author.Tests.{ltb-true, lt-ltb, le-ltb}
 use Rattle.text.specs.Texts.{among}
-use Rattle.draft.specs.Grammar.{Sent, regular, recorded, recalled}
+use Rattle.draft.specs.Grammar.{regular, recorded, recalled}
 use Rattle.draft.specs.Strings.{Text, position, choose, sentOf}
 use Rattle.positions.specs.declared.Sending.the-variants as sending
 use Rattle.buckets.specs.Numbered.{before, First, Firsts}

@@ -5,7 +5,7 @@ use mathlib.Core.Bool.{Bool, true, false}
 use mathlib.Core.List.{List, [], _∷_}
 use native.Mathlib.Omega.{arith}
 use borrow.Author.Needs.{needs}
-use native.Mathlib.Nat.{add-zero, zero-add}
+use native.Mathlib.Nat.{add-zero}
 use native.Mathlib.Numerals.{add-one}
 use lib.ListN.{length, getD, set}
 use lib.Seq.{getD-set-same, getD-set-other}
@@ -19,7 +19,7 @@ use Rattle.draft.specs.Strings.{Text}
 use Rattle.buckets.specs.Numbered.{textAt, First, Firsts}
 use Rattle.buckets.proofs.Numbered.{first-own}
 use Rattle.buckets.proofs.Comparing.{text-short}
-use Rattle.prices.specs.Prices.{pick, price, later, total, Past, worth, share, left, passed, shares, bound}
+use Rattle.prices.specs.Prices.{pick, total, Past, worth, share, left, passed, shares, bound}
 use Rattle.prices.specs.Contract.{Worth, Priced}
 
 -- the first j strings as the bound passes them, their shares, and their prices

@@ -1,7 +1,7 @@
 // What prices prove that strings cost. Strings are numbered in row order; of string j a lent word has the row, one says which string is the
 // first with its text, and one is the price of the gap after it.
 ghost use mathlib.Core.Path.{_≡_};
-ghost use Prim.Native.Nat.{_+_, _*_, _≤_, _<_};
+ghost use Prim.Native.Nat.{_+_, _≤_, _<_};
 ghost use lib.ListN.{length};
 ghost use Rattle.draft.specs.Table.{rowAt};
 ghost use Rattle.buckets.specs.Numbered.{textAt, Strings, Through, Firsts};

@@ -1,17 +1,15 @@
 -- Reading by the limit of nesting that a call states: within it, or 23. Assumes nothing.
-use mathlib.Core.Path.{_≡_, refl, ap, _∙_}
+use mathlib.Core.Path.{_≡_, refl}
 use mathlib.Core.Bool.{Bool, true, false}
 use mathlib.Core.List.{List}
 use Prim.Native.Nat.{ℕ}
 use native.Mathlib.Omega.{arith}
-use Rattle.draft.specs.declared.Refusal.{Refusal}
 use Rattle.draft.specs.declared.Refusal.the-variants.{NoLimit}
 use Rattle.draft.specs.declared.Row.{Row}
-use Rattle.draft.specs.Refusals.{numberOf}
 use Rattle.draft.specs.Limits.{allowed}
 use Rattle.draft.specs.Codebook.{Book}
 use Rattle.draft.specs.Table.{roomOf}
-use Rattle.draft.specs.Read.{Reading, got, refused, pick, messageWithin}
+use Rattle.draft.specs.Read.{Reading, got, refused, messageWithin}
 use Rattle.reader.specs.Answers.{reading}
 
 module _ (limit : ℕ) (s : List ℕ) (words : ℕ) where

@@ -1,5 +1,5 @@
 -- What answers each return of the functions that read a whole message. Assumes nothing.
-use mathlib.Core.Path.{_≡_, refl, ap, _∙_}
+use mathlib.Core.Path.{_≡_, ap, _∙_}
 use mathlib.Core.Bool.{Bool, true, false}
 use mathlib.Core.List.{List}
 use Prim.Native.Nat.{ℕ, _≤_, _<_}
@@ -22,7 +22,7 @@ use Rattle.item.specs.Contract.{Did}
 use Rattle.item.proofs.Readings.{Got, Not, did-next, did-not}
 use Rattle.reader.specs.declared.Answer.{Answer}
 use Rattle.reader.specs.declared.Answer.the-variants as answer
-use Rattle.reader.specs.Answers.{reading, answerOf, tableOf, Answers}
+use Rattle.reader.specs.Answers.{reading, Answers}
 
 -- what follows the first bytes, read into zeros with an empty codebook
 module _ (s : List ℕ) (deep words : ℕ) {room from : ℕ} {T T₁ W W₁ : List ℕ} {step : Step} (f : room ≡ roomOf 4096 words) (w : W ≡ replicate 256 0) (d : Did (callOrResponse s room deep 12 0 (bookOf W)) (length s) room from 0 T T₁ W₁ step) where

@@ -1,17 +1,15 @@
 -- What answers each return of the functions that put a string, and that say how long it is. Assumes nothing.
-use Prim.Native.Nat.{ℕ, suc, _+_, _≤_, _<_}
-use mathlib.Core.Path.{_≡_, refl, sym, ap, _∙_}
-use mathlib.Core.Bool.{Bool, true, false}
+use Prim.Native.Nat.{ℕ, _+_, _≤_}
+use mathlib.Core.Path.{_≡_, refl, sym, _∙_}
 use mathlib.Core.List.{List, [], _∷_}
 use native.Mathlib.Omega.{arith}
 use lib.ListN.{length}
 use Rattle.draft.specs.declared.Row.{Row}
 use Rattle.draft.specs.Grammar.{Sent}
-use Rattle.draft.specs.Strings.{Text, cost}
+use Rattle.draft.specs.Strings.{cost}
 use Rattle.draft.specs.Grammar as sent
 use Rattle.draft.specs.Written.{counted, stringBytes}
 use Rattle.positions.specs.declared.Sending.{Sending}
-use Rattle.positions.specs.declared.Sending.the-variants.{Regular, Recorded, Recalled}
 use Rattle.buckets.specs.Numbered.{textAt}
 use Rattle.positions.specs.Contract.{sent, told, SentBy}
 use Rattle.buckets.proofs.Comparing.{text-short}

@@ -15,7 +15,7 @@ use Rattle.draft.specs.declared.Verdict.{Verdict}
 use Rattle.draft.specs.declared.Verdict.the-variants.{Fine, Bad}
 use Rattle.draft.specs.declared.Item.{Item}
 use Rattle.draft.specs.declared.Extent.{Extent}
-use Rattle.draft.specs.declared.Extent.the-variants.{Until, Unfit}
+use Rattle.draft.specs.declared.Extent.the-variants.{Unfit}
 use Rattle.draft.specs.declared.Row.{Row}
 use Rattle.draft.specs.Rows.{itemOf}
 use Rattle.draft.specs.Table.{roomOf, rowAt, from}

@@ -3,7 +3,7 @@ use mathlib.Core.Path.{_≡_, sym, _∙_, ap}
 use mathlib.Core.List.{List, _++_}
 use Prim.Native.Nat.{ℕ, _+_, _-_, _≤_}
 use native.Mathlib.Omega.{arith}
-use lib.ListN.{length, take, drop, length-take, length-drop, length-append}
+use lib.ListN.{length, take, drop, length-drop, length-append}
 use lib.Seq.{length-take-le, take-at, drop-at, take-append-le, take-take, drop-drop}
 use Rattle.shares.specs.Share.{lying}
 

@@ -2,7 +2,6 @@
 use mathlib.Core.Path.{_≡_}
 use Prim.Native.Nat.{ℕ}
 use borrow.Author.Tests.{ne-eqb}
-use Rattle.shares.specs.declared.Station.{Station}
 use Rattle.shares.specs.declared.Station.the-variants.{Four, Five}
 use Rattle.shares.specs.Share.{stationOf, splitFor}
 

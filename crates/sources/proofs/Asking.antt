@@ -1,5 +1,5 @@
 -- What a Struct has under a key is what E5's lookup answers there, and what a choice comes from. Assumes nothing.
-use mathlib.Core.Path.{_≡_, refl, sym, ap, _∙_}
+use mathlib.Core.Path.{_≡_, refl}
 use mathlib.Core.Bool.{Bool, true, false}
 use mathlib.Core.List.{List}
 use Prim.Native.Nat.{ℕ}
@@ -29,7 +29,7 @@ use Rattle.choice.specs.declared.Refusal.the-variants.{NotWritable, NoMember}
 use Rattle.choice.specs.declared.Choice.{Choice}
 use Rattle.choice.specs.declared.Choice.the-variants.{Card, Defaults, Refused}
 use Rattle.choice.specs.Choosing.{ofDefaults, preferred}
-use Rattle.defaults.specs.Defaults.{pickHeld, textAt, foundText, heldIn, unless}
+use Rattle.defaults.specs.Defaults.{textAt, foundText, heldIn, unless}
 
 -- ---- an answer of another sort is no text
 

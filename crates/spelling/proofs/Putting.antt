@@ -1,5 +1,5 @@
 -- What answers each return and turn of the functions that put bytes into a line. Assumes nothing.
-use mathlib.Core.Path.{_≡_, refl, sym, ap, _∙_}
+use mathlib.Core.Path.{_≡_, refl, sym, _∙_}
 use mathlib.Core.List.{List, [], _∷_, _++_}
 use Prim.Native.Nat.{ℕ, zero, suc, _+_, _-_, _/_, _%_, _≤_, _<_}
 use native.Mathlib.Omega.{arith}
@@ -7,7 +7,7 @@ use native.Mathlib.Numerals.{add-one, sub-one}
 use borrow.Author.Tests.{lt-ltb, le-ltb}
 use lib.ListN.{length, getD, set, drop, drop-of-length-le}
 use lib.Seq.{drop-cons}
-use Rattle.spelling.specs.Line.{Line, line, put, putByte, Puts, digits, pairs}
+use Rattle.spelling.specs.Line.{Line, line, put, putByte, Puts, digits}
 
 -- one byte
 module _ (b : ℕ) {o : List ℕ} {at : ℕ} where

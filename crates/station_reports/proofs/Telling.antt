@@ -1,5 +1,5 @@
 -- What answers each return. Assumes nothing.
-use mathlib.Core.Path.{_≡_, refl, _∙_}
+use mathlib.Core.Path.{_≡_, _∙_}
 use mathlib.Core.List.{List}
 use Prim.Native.Nat.{ℕ, _-_}
 use lib.IntN.{pos}
@@ -21,7 +21,7 @@ use Rattle.lookup.specs.Reports.{reported}
 use Rattle.lookup.specs.Reports as lookups
 use Rattle.position.specs.declared.Placed.{Placed}
 use Rattle.position.specs.declared.Position.{Position}
-use Rattle.position.specs.Placing.{at, outcomeNumber}
+use Rattle.position.specs.Placing.{at}
 use Rattle.pieces.specs.declared.State.{State}
 use Rattle.station_reading.specs.declared.Answer as SR
 use Rattle.station_reading.specs.declared.Answer.the-variants as answer

@@ -1,15 +1,15 @@
 -- What answers the returns of the functions that step from byte to byte. Assumes nothing.
-use Prim.Native.Nat.{ℕ, zero, suc, _+_, _*_, _/_, _%_, _^_, _≤_, _<_}
-use mathlib.Core.Path.{_≡_, refl, sym, ap, _∙_}
-use mathlib.Core.Bool.{Bool, true, false, _&&_}
-use mathlib.Core.List.{List, [], _∷_}
+use Prim.Native.Nat.{ℕ, _+_, _*_, _/_, _%_, _^_, _≤_, _<_}
+use mathlib.Core.Path.{_≡_, refl, ap, _∙_}
+use mathlib.Core.Bool.{Bool, true, _&&_}
+use mathlib.Core.List.{List}
 use native.Mathlib.Omega.{arith}
 use native.Mathlib.Numerals.{add-one}
 use lib.ListN.{length, getD, drop}
 use lib.Seq.{drop-cons}
 use lib.Dec.{eqb, ltb}
 use borrow.Author.Tests.{eqb-true, ltb-true}
-use Rattle.text.specs.Utf8.{within, Due, due, wrong, dueBy, dueAfter, step, octets}
+use Rattle.text.specs.Utf8.{within, dueBy, dueAfter, step, octets}
 use Rattle.text.specs.Classes.{classBy, classOf}
 use Rattle.text.proofs.Bytewise.{listed, agree}
 use Rattle.text.proofs.Comparing.{both}

@@ -3,7 +3,7 @@ use mathlib.Core.Path.{_≡_}
 use mathlib.Core.List.{List, [], _∷_}
 use Prim.Native.Nat.{ℕ, _<_, _/_, _%_}
 use lib.ListN.{getD, drop}
-use Rattle.text.specs.Utf8.{Range, _to_, tail, Due, due, wrong, step, octets}
+use Rattle.text.specs.Utf8.{_to_, tail, Due, due, wrong, step, octets}
 
 -- nothing; what no bytes can make well-formed; one to three tails; what follows E0, ED, F0 and F4
 abbrev pub states : List Due

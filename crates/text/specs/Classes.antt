@@ -1,5 +1,5 @@
 -- The classes of byte values by which RFC 3629's ranges tell bytes apart, and the class of each. Assumes nothing.
-use mathlib.Core.Bool.{Bool, true, false, cond}
+use mathlib.Core.Bool.{cond}
 use mathlib.Core.List.{List, [], _∷_}
 use Prim.Native.Nat.{ℕ, zero, suc, _≤_}
 use lib.ListN.{getD}

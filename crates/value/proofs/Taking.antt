@@ -1,8 +1,8 @@
 -- Each row that a reading gives takes a byte at least, of a Value that is no Array and no Struct. Assumes nothing.
-use mathlib.Core.Path.{_≡_, refl, sym, ap, _∙_}
+use mathlib.Core.Path.{_≡_}
 use mathlib.Core.Bool.{Bool, true, false}
-use mathlib.Core.List.{List, [], _∷_, _++_}
-use Prim.Native.Nat.{ℕ, _+_, _≤_, _<_}
+use mathlib.Core.List.{List, _++_}
+use Prim.Native.Nat.{ℕ, _+_, _≤_}
 use native.Mathlib.Omega.{arith}
 use lib.ListN.{length, length-append, getD}
 use lib.Dec.{leb, ltb, eqb}
@@ -23,7 +23,7 @@ use Rattle.draft.specs.declared.Form.the-variants.{Regular, Recorded, Recalled}
 use Rattle.draft.specs.declared.Row.{Row}
 use Rattle.draft.specs.Content.{verdict, nameRule}
 use Rattle.draft.specs.Codebook.{Book}
-use Rattle.draft.specs.Read.{Reading, got, refused, Reader, pick, opened, pair, then, behind, over, judged, contents, longItem, recalled, stringItem, ifString, string, only, firstText, stringBy, name, otherItem, plainItem, item, floor, tagOf}
+use Rattle.draft.specs.Read.{Reading, got, refused, Reader, pick, opened, pair, then, behind, over, judged, contents, longItem, recalled, stringItem, ifString, string, only, firstText, stringBy, name, plainItem, item, floor, tagOf}
 
 abbrev Takes : ℕ → Reading → Type 0
 Takes at (refused m q) = Unit {0}

@@ -8,7 +8,6 @@ use Rattle.draft.specs.declared.Tag.{Tag}
 use Rattle.draft.specs.declared.Tag.the-variants as tag
 use Rattle.draft.specs.declared.Plain.{Plain}
 use Rattle.draft.specs.declared.Plain.the-variants as plain
-use Rattle.draft.specs.declared.Form.{Form}
 use Rattle.draft.specs.declared.Form.the-variants.{Regular, Recorded, Recalled}
 use Rattle.draft.specs.Bytes.{byteAt, unsignedAt}
 use Rattle.draft.specs.Read.{tagOf}

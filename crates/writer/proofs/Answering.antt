@@ -10,7 +10,7 @@ use borrow.Author.Tests.{lt-leb, le-leb, leb-true}
 use Rattle.draft.specs.declared.Refusal.the-variants.{TooLong, NotWritable, FormTooLong, OutputTooShort, NoLimit}
 use Rattle.draft.specs.Limits.{allowed}
 use Rattle.draft.specs.Table.{roomOf, rowAt, from}
-use Rattle.draft.specs.Writable.{wholly, callOrResponse, writableWithin, writableTo, writable}
+use Rattle.draft.specs.Writable.{writableWithin, writableTo, writable}
 use Rattle.draft.specs.Written.{written, rowsOf}
 use Rattle.text.proofs.Comparing.{both}
 use Rattle.extents.specs.Asked.{Ready}

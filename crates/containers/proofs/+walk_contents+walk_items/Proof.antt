@@ -3,7 +3,7 @@ use mathlib.Core.Path.{_≡_, refl}
 use lib.ListN.{length}
 use Rattle.draft.specs.Table.{rowAt}
 use Rattle.draft.specs.Writable.{value}
-use Rattle.containers.proofs.Items.{walked, Going, going-first}
+use Rattle.containers.proofs.Items.{walked, Going}
 use Prim.Native.Nat.{ℕ, _<_, _+_, _*_}
 use borrow.Fn.Kinds.{In}
 use borrow.Fn.PlainCycle.{Measures, is, falls, and}

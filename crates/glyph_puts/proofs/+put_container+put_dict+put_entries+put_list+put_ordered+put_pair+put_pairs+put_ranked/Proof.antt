@@ -32,7 +32,7 @@ use Rattle.glyph_puts.proofs.put_ranked.Kinds as put-ranked-kinds
 use Rattle.glyph_puts.proofs.+put_container+put_dict+put_entries+put_list+put_ordered+put_pair+put_pairs+put_ranked.Lts-put_ranked as put-ranked-lts
 use Rattle.glyph_output.proofs.put_byte.Reads as put-byte-reads
 use Rattle.glyph_output.proofs.put_content.Reads as put-content-reads
-use Rattle.glyph_puts.proofs.extension_letter.Reads as extension-letter-reads
+use Rattle.glyph_rows.proofs.extension_letter.Reads as extension-letter-reads
 use Rattle.glyph_puts.proofs.next_row.Reads as next-row-reads
 use Rattle.glyph_puts.proofs.put_leaf.Reads as put-leaf-reads
 use Rattle.glyph_rows.proofs.holds.Reads as holds-reads

@@ -1,7 +1,7 @@
-use Rattle.glyph_puts.proofs.Puts.{letters}
+use Rattle.glyph_rows.proofs.Rows.{letters}
 use borrow.Author.Needs.{needs}
-use Rattle.glyph_puts.proofs.extension_letter.Statement.{statement}
-use Rattle.glyph_puts.proofs.extension_letter.Tie as tie
+use Rattle.glyph_rows.proofs.extension_letter.Statement.{statement}
+use Rattle.glyph_rows.proofs.extension_letter.Tie as tie
 
 pub extension-letter-spec : {M : Type 1} → statement M
 extension-letter-spec = tie.close (tie.spec
