@@ -277,12 +277,12 @@ fn read(message: &[u8], table: &mut [u32]) {
     spoil_words(table);
     let answer = reader::read(message, table, draft::MOST_NESTING);
     match answer {
-        reader::Answer::Accepted { rows, used } => {
+        read_answer::Answer::Accepted { rows, used } => {
             console::write(b"0 0 ");
             write_number(rows);
             write_number(used);
         }
-        reader::Answer::Refused { refusal, place } => {
+        read_answer::Answer::Refused { refusal, place } => {
             write_number(draft::number(refusal) as usize);
             write_number(place);
             console::write(b"0 0 ");
@@ -296,11 +296,11 @@ fn write(table: &[u32], rows: usize, text: &[u8], output: &mut [u8]) {
     spoil_bytes(output);
     let answer = writer::write(table, rows, text, draft::MOST_NESTING, output);
     match answer {
-        writer::Answer::Written { length } => {
+        write_answer::Answer::Written { length } => {
             console::write(b"0 ");
             write_number(length);
         }
-        writer::Answer::Refused(refusal) => {
+        write_answer::Answer::Refused(refusal) => {
             write_number(draft::number(refusal) as usize);
             console::write(b"0 ");
         }

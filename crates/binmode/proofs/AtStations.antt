@@ -4,9 +4,9 @@ use mathlib.Core.List.{List}
 use Prim.Native.Nat.{ℕ}
 use Rattle.shares.specs.declared.Station.{Station}
 use Rattle.shares.specs.Share.{stationOf, splitFor, onShare}
-use Rattle.reader.specs.Answers as readers
+use Rattle.read_answer.specs.Answers as readers
 use Rattle.job.specs.Cards as jobs
-use Rattle.writer.specs.Answers as writers
+use Rattle.write_answer.specs.Answers as writers
 use Rattle.lookup.specs.declared.Report.{Report}
 use Rattle.position.specs.declared.Position.{Position}
 use Rattle.pieces.specs.declared.State.{State}

@@ -3,10 +3,10 @@ use mathlib.Core.Path.{_≡_, _∙_, ap}
 use mathlib.Core.List.{List}
 use Prim.Native.Nat.{ℕ}
 use Rattle.draft.specs.Read.{Reading}
-use Rattle.reader.specs.declared.Answer.{Answer}
-use Rattle.reader.specs.Answers.{reportOf, Answers}
-use Rattle.writer.specs.declared.Answer as W
-use Rattle.writer.specs.Answers as writer
+use Rattle.read_answer.specs.declared.Answer.{Answer}
+use Rattle.read_answer.specs.Answers.{reportOf, Answers}
+use Rattle.write_answer.specs.declared.Answer as W
+use Rattle.write_answer.specs.Answers as writer
 use Rattle.records.specs.declared.Found.{Found}
 use Rattle.job.specs.declared.Answer as J
 use Rattle.job.specs.Cards as job

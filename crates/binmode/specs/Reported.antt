@@ -4,8 +4,8 @@ use mathlib.Core.List.{List}
 use Prim.Native.Nat.{ℕ}
 use lib.ListN.{length}
 use Rattle.draft.specs.Read.{Reading}
-use Rattle.reader.specs.Answers.{answerOf, tableOf, reportOf}
-use Rattle.writer.specs.Answers as writer
+use Rattle.read_answer.specs.Answers.{answerOf, tableOf, reportOf}
+use Rattle.write_answer.specs.Answers as writer
 use Rattle.read_reports.specs.Numbers.{report}
 use Rattle.write_reports.specs.Numbers as writing
 

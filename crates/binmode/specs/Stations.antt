@@ -4,9 +4,9 @@ use mathlib.Core.List.{List}
 use Prim.Native.Nat.{ℕ}
 use lib.ListN.{length}
 use Rattle.shares.specs.Share.{stationOf, splitFor, onShare, tableOn}
-use Rattle.reader.specs.Answers as reader
+use Rattle.read_answer.specs.Answers as reader
 use Rattle.job.specs.Cards as job
-use Rattle.writer.specs.Answers as writer
+use Rattle.write_answer.specs.Answers as writer
 use Rattle.station_reading.specs.declared.Answer.the-variants as answer
 use Rattle.station_reading.specs.declared.CardAnswer.the-variants as card
 use Rattle.station_reading.specs.Answers.{readAnswer, readWords, reportOf, cardAnswer, cardWords, cardReportOf}

@@ -12,7 +12,7 @@ mod version; // version.rt: the version of the interface
 
 ghost use mathlib.Core.Path.{_≡_};
 ghost use lib.ListN.{length, drop};
-ghost use Rattle.reader.specs.Answers.{reading};
+ghost use Rattle.read_answer.specs.Answers.{reading};
 ghost use Rattle.records.specs.Job.{find, bodyOf};
 ghost use Rattle.binmode.specs.Reported.{Reported, WriteReported};
 ghost use Rattle.binmode.specs.Cards.{CardReported};

@@ -10,7 +10,7 @@ use crate::stations::binmode_station_read_within;
 use crate::stations::binmode_station_write_planned_within;
 use crate::stations::binmode_station_write_within;
 ghost use lib.ListN.{length};
-ghost use Rattle.reader.specs.Answers.{reading};
+ghost use Rattle.read_answer.specs.Answers.{reading};
 ghost use Rattle.read_reports.specs.Numbers.{report};
 ghost use Rattle.write_reports.specs.Numbers as writing;
 ghost use Rattle.binmode.specs.Reported.{Reported, WriteReported};

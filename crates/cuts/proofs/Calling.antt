@@ -11,7 +11,7 @@ use borrow.Author.Tests.{le-ltb, ltb-true, ltb-false}
 use Rattle.draft.specs.declared.Refusal.the-variants.{Ended, TooLong}
 use Rattle.draft.specs.Limits.{allowed}
 use Rattle.draft.specs.Read.{Reading, got, refused}
-use Rattle.reader.specs.Answers.{reading, tableOf}
+use Rattle.read_answer.specs.Answers.{reading, tableOf}
 use Rattle.rereading.specs.Rereading.{refusedWithOne, pickList, tableRead}
 use Rattle.rereading.proofs.Words.{length-table, more-words}
 use Rattle.room.specs.Room.{taken}

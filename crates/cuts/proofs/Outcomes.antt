@@ -17,7 +17,7 @@ use Rattle.draft.specs.Table.{roomOf}
 use Rattle.draft.specs.Read.{Reading, got, refused, pick, message, messageWithin}
 use Rattle.wanting.specs.Want.{wantOf}
 use Rattle.draft.proofs.Naming.{refusal-ended, refusal-long, number-own}
-use Rattle.reader.specs.Answers.{reading}
+use Rattle.read_answer.specs.Answers.{reading}
 use Rattle.rereading.specs.Rereading.{refusedWithOne}
 use Rattle.exact.proofs.Growing.{OfReading, waits, decided}
 use Rattle.exact.proofs.Concluding.{of-reading}

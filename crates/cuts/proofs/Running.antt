@@ -11,7 +11,7 @@ use Rattle.text.proofs.Comparing.{clash}
 use Rattle.draft.specs.declared.Refusal.the-variants.{Ended}
 use Rattle.draft.specs.Limits.{allowed}
 use Rattle.draft.specs.Read.{Reading, got, refused, agree, message, messageWithin}
-use Rattle.reader.specs.Answers.{reading, tableOf}
+use Rattle.read_answer.specs.Answers.{reading, tableOf}
 use Rattle.rereading.specs.Rereading.{refusedWithOne, pickList}
 use Rattle.room.specs.Room.{roomAfter}
 use Rattle.pieces.specs.declared.PieceRefusal.the-variants.{Message}

@@ -19,10 +19,10 @@ use Rattle.draft.specs.Limits.{allowed}
 use Rattle.draft.specs.Writable.{writableWithin, writableTo, writable}
 use Rattle.draft.specs.Written.{rowsOf}
 use Rattle.table.proofs.Rows.{place-in, place-one}
-use Rattle.reader.specs.declared.Answer.{Answer as ReaderAnswer}
-use Rattle.reader.specs.declared.Answer.the-variants.{Accepted}
-use Rattle.reader.specs.Answers.{reading, tableOf, Answers}
-use Rattle.reader.proofs.Limited.{got-within}
+use Rattle.read_answer.specs.declared.Answer.{Answer as ReaderAnswer}
+use Rattle.read_answer.specs.declared.Answer.the-variants.{Accepted}
+use Rattle.read_answer.specs.Answers.{reading, tableOf, Answers}
+use Rattle.read_answer.proofs.Limited.{got-within}
 use Rattle.records.specs.declared.Found.{Found}
 use Rattle.records.specs.declared.Found.the-variants as found
 use Rattle.job.specs.declared.Answer.{Answer as JobAnswer}
@@ -35,8 +35,8 @@ use Rattle.shares.specs.declared.Station.{Station}
 use Rattle.shares.specs.Share.{splits, firstWord, sizeOf, shareOf}
 use Rattle.station_reading.specs.declared.Answer.{Answer as StationAnswer}
 use Rattle.station_reading.specs.Answers.{ReadFor}
-use Rattle.writer.specs.declared.Answer.{Answer as WriterAnswer}
-use Rattle.writer.specs.Answers as writer
+use Rattle.write_answer.specs.declared.Answer.{Answer as WriterAnswer}
+use Rattle.write_answer.specs.Answers as writer
 use Rattle.plan_writer.specs.declared.Answer.{Answer as PlanAnswer}
 use Rattle.plan_writer.specs.Answers as plan_writer
 use Rattle.certificate.specs.Certificate.{certified}

@@ -9,9 +9,9 @@ use lib.ListN.{length, drop, replicate}
 use Rattle.draft.specs.declared.Refusal.{Refusal}
 use Rattle.draft.specs.Bytes.{part}
 use Rattle.draft.specs.Read.{Reading, got, refused}
-use Rattle.reader.specs.declared.Answer.{Answer as ReaderAnswer}
-use Rattle.reader.specs.declared.Answer.the-variants as reader
-use Rattle.reader.specs.Answers.{reading, answerOf, tableOf, Answers}
+use Rattle.read_answer.specs.declared.Answer.{Answer as ReaderAnswer}
+use Rattle.read_answer.specs.declared.Answer.the-variants as reader
+use Rattle.read_answer.specs.Answers.{reading, answerOf, tableOf, Answers}
 use Rattle.records.specs.declared.JobRefusal.{JobRefusal}
 use Rattle.records.specs.declared.JobRefusal.the-variants.{NoCard}
 use Rattle.records.specs.declared.Found.{Found}

@@ -15,14 +15,14 @@ use Rattle.draft.specs.Limits.{allowed}
 use Rattle.draft.specs.Table.{roomOf, place, rowsAt}
 use Rattle.draft.specs.Read.{Reading, got, refused, message, messageWithin}
 use Rattle.draft.proofs.Limiting.{limit-least, limit-most}
-use Rattle.reader.specs.declared.Answer.{Answer}
-use Rattle.reader.specs.declared.Answer.the-variants.{Accepted, Refused}
-use Rattle.reader.specs.Answers.{reading, answerOf, tableOf, Answers}
-use Rattle.reader.proofs.Limited.{reading-within, reading-unlimited, reading-not}
+use Rattle.read_answer.specs.declared.Answer.{Answer}
+use Rattle.read_answer.specs.declared.Answer.the-variants.{Accepted, Refused}
+use Rattle.read_answer.specs.Answers.{reading, answerOf, tableOf, Answers}
+use Rattle.read_answer.proofs.Limited.{reading-within, reading-unlimited, reading-not}
 use Rattle.exact.proofs.Concluding.{of-reading, within-is, WithinRefused, of-bytes, of-message, within-refused}
-use Rattle.writer.specs.declared.Answer.{Answer as WriterAnswer}
-use Rattle.writer.specs.declared.Answer.the-variants as writer
-use Rattle.writer.specs.Answers as writing
+use Rattle.write_answer.specs.declared.Answer.{Answer as WriterAnswer}
+use Rattle.write_answer.specs.declared.Answer.the-variants as writer
+use Rattle.write_answer.specs.Answers as writing
 use Rattle.pieces.specs.declared.State.{State}
 use Rattle.pieces.specs.Pieces.{joined, toldOf}
 use Rattle.pieces.specs.Steps.{told, Closed}

@@ -24,8 +24,8 @@ use Rattle.draft.specs.Grammar.{Cell, Begins}
 use Rattle.draft.specs.Writable.{writableWithin, writable}
 use Rattle.draft.specs.Written.{rowsOf}
 use Rattle.draft.proofs.Limiting.{limit-most}
-use Rattle.reader.specs.Answers.{reading, tableOf}
-use Rattle.reader.proofs.Limited.{reading-got, got-within}
+use Rattle.read_answer.specs.Answers.{reading, tableOf}
+use Rattle.read_answer.proofs.Limited.{reading-got, got-within}
 use Rattle.exact.proofs.Realising.{counts}
 use Rattle.written.specs.Derivable.{DerivesRows}
 use Rattle.written.proofs.Concluding.{rows-length}

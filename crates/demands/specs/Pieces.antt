@@ -12,7 +12,7 @@ use lib.ListN.{length, take, drop, replicate}
 use borrow.Author.Tests.{lt-ltb}
 use Rattle.draft.specs.declared.Refusal.the-variants.{NoLimit}
 use Rattle.draft.specs.Limits.{allowed}
-use Rattle.reader.specs.Answers.{reading, tableOf}
+use Rattle.read_answer.specs.Answers.{reading, tableOf}
 use Rattle.rereading.specs.Rereading.{refusedWithOne}
 use Rattle.pieces.specs.declared.PieceRefusal.the-variants.{Message, ShortRoom}
 use Rattle.pieces.specs.declared.State.{State}

@@ -23,11 +23,11 @@ use Rattle.draft.specs.Strings.{Text, repeated, textsOf, costs}
 use Rattle.draft.specs.Limits.{allowed}
 use Rattle.draft.specs.Writable.{writableTo, writable}
 use Rattle.draft.specs.Written.{written, rowsOf}
-use Rattle.reader.specs.declared.Answer.{Answer as ReaderAnswer}
-use Rattle.reader.specs.declared.Answer.the-variants.{Accepted}
-use Rattle.reader.specs.Answers.{reading, tableOf, Answers}
-use Rattle.reader.specs.Answers as reader
-use Rattle.reader.proofs.Limited.{reading-within}
+use Rattle.read_answer.specs.declared.Answer.{Answer as ReaderAnswer}
+use Rattle.read_answer.specs.declared.Answer.the-variants.{Accepted}
+use Rattle.read_answer.specs.Answers.{reading, tableOf, Answers}
+use Rattle.read_answer.specs.Answers as reader
+use Rattle.read_answer.proofs.Limited.{reading-within}
 use Rattle.plans.specs.Plans.{formAt, positionAt, sentsFrom, planned, taken}
 use Rattle.plan_writer.specs.declared.Answer.{Answer}
 use Rattle.plan_writer.specs.declared.Answer.the-variants.{Written, Refused, NotTaken}

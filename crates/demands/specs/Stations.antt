@@ -16,11 +16,11 @@ use Rattle.shares.specs.declared.Station.{Station}
 use Rattle.shares.specs.declared.Station.the-variants.{Four, Five}
 use Rattle.shares.specs.Share.{other, splits, firstWord, sizeOf, shareOf, onShare}
 use Rattle.shares.proofs.Sharing as sharing
-use Rattle.reader.specs.declared.Answer.the-variants as reader
+use Rattle.read_answer.specs.declared.Answer.the-variants as reader
 use Rattle.records.specs.declared.JobRefusal.{JobRefusal}
 use Rattle.records.specs.Job.{bodyOf}
 use Rattle.job.specs.declared.Answer.the-variants as job
-use Rattle.reader.specs.Answers.{reading}
+use Rattle.read_answer.specs.Answers.{reading}
 use Rattle.lookup.specs.Answers as lookups
 use Rattle.position.specs.Placing.{position}
 use Rattle.pieces.specs.declared.State.{State}

@@ -23,7 +23,7 @@ use Rattle.draft.specs.Writable.{pair as walkPair, items as walkItems, contentI
 use Rattle.draft.specs.Strings.{textsOf, repeats, position, sents}
 use Rattle.draft.specs.Written.{lsb, counted, stringBytes, itemBytes, itemsOf, messageOf, written, rowsOf}
 use Rattle.draft.specs.Limits.{allowed}
-use Rattle.reader.specs.Answers.{reading, answerOf, tableOf, Report, reportOf}
+use Rattle.read_answer.specs.Answers.{reading, answerOf, tableOf, Report, reportOf}
 
 -- a message, a table's number of words, and what reading the one into the other gives: the report, and the table's rows;
 -- and the written form of that table with the message as text bytes, if it was accepted, with its length

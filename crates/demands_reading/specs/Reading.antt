@@ -29,8 +29,8 @@ use Rattle.draft.specs.Table.{roomOf}
 use Rattle.draft.specs.Read.{Reading, got, refused, Reader, behind, pair, string as readString, firstText, stringBy, key, member, message, messageWithin}
 use Rattle.draft.specs.Grammar.{Cell, Sent, Keeps, Begins, Pairs, no-pairs, more-pairs, Pair}
 use Rattle.draft.specs.Meaning.{MeanSame, Realises}
-use Rattle.reader.specs.Answers.{reading}
-use Rattle.reader.proofs.Limited.{reading-within, reading-got, got-within}
+use Rattle.read_answer.specs.Answers.{reading}
+use Rattle.read_answer.proofs.Limited.{reading-within, reading-got, got-within}
 use Rattle.draft.specs.Limits.{allowed}
 use Rattle.exact.proofs.Members.{fine-by, fault-by}
 use Rattle.exact.proofs.Keys.{Fresh, no-key, new-key, fresh-distinct, all-fresh}

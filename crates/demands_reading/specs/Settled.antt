@@ -13,10 +13,10 @@ use Rattle.draft.specs.Table.{roomOf, place, putRows, rowsAt}
 use Rattle.draft.specs.Read.{Reading, got, refused}
 use Rattle.table.proofs.Rows.{length-putRows}
 use Rattle.table.proofs.Stored.{rows-there, words-other}
-use Rattle.reader.specs.declared.Answer.{Answer}
-use Rattle.reader.specs.declared.Answer.the-variants.{Accepted, Refused}
-use Rattle.reader.specs.Answers.{reading, answerOf, tableOf, Answers}
-use Rattle.reader.proofs.Limited.{got-within}
+use Rattle.read_answer.specs.declared.Answer.{Answer}
+use Rattle.read_answer.specs.declared.Answer.the-variants.{Accepted, Refused}
+use Rattle.read_answer.specs.Answers.{reading, answerOf, tableOf, Answers}
+use Rattle.read_answer.proofs.Limited.{got-within}
 use Rattle.demands_reading.specs.Reading.{sound}
 
 -- SETTLED. Two calls with one message, one limit and equally large tables answer alike and leave the same words, whatever lay there before.

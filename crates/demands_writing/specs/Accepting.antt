@@ -20,14 +20,14 @@ use Rattle.draft.specs.Codebook.{Book}
 use Rattle.draft.specs.Read.{got}
 use Rattle.draft.specs.Strings.{repeated, textsOf}
 use Rattle.draft.specs.Written.{written, rowsOf}
-use Rattle.reader.specs.declared.Answer.the-variants.{Accepted}
-use Rattle.reader.specs.Answers.{reading, tableOf, Answers}
+use Rattle.read_answer.specs.declared.Answer.the-variants.{Accepted}
+use Rattle.read_answer.specs.Answers.{reading, tableOf, Answers}
 use Rattle.text.proofs.Comparing.{clash}
 use Rattle.demands_reading.specs.Settled.{accepted-read}
 use Rattle.demands_writing.specs.Writing.{Octets, read-writable, read-short}
-use Rattle.writer.specs.declared.Answer.{Answer}
-use Rattle.writer.specs.declared.Answer.the-variants.{Written, Refused}
-use Rattle.writer.specs.Answers.{given, answerTo, formOf, answerOf, Did}
+use Rattle.write_answer.specs.declared.Answer.{Answer}
+use Rattle.write_answer.specs.declared.Answer.the-variants.{Written, Refused}
+use Rattle.write_answer.specs.Answers.{given, answerTo, formOf, answerOf, Did}
 
 -- an answer behind a test
 given-written : (b : Bool) (m : Refusal) (o : Answer) {n : ℕ} → given b m o ≡ Written n → (b ≡ true) × (o ≡ Written n)

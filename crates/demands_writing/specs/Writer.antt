@@ -18,13 +18,13 @@ use Rattle.draft.specs.Strings.{repeated, textsOf}
 use Rattle.draft.specs.Limits.{allowed}
 use Rattle.draft.specs.Writable.{writableTo}
 use Rattle.draft.specs.Written.{written, rowsOf}
-use Rattle.reader.specs.declared.Answer.{Answer as ReaderAnswer}
-use Rattle.reader.specs.declared.Answer.the-variants.{Accepted}
-use Rattle.reader.specs.Answers.{reading, tableOf, Answers}
-use Rattle.reader.specs.Answers as reader
-use Rattle.writer.specs.declared.Answer.{Answer}
-use Rattle.writer.specs.declared.Answer.the-variants.{Written}
-use Rattle.writer.specs.Answers.{formOf, answerOf, Did}
+use Rattle.read_answer.specs.declared.Answer.{Answer as ReaderAnswer}
+use Rattle.read_answer.specs.declared.Answer.the-variants.{Accepted}
+use Rattle.read_answer.specs.Answers.{reading, tableOf, Answers}
+use Rattle.read_answer.specs.Answers as reader
+use Rattle.write_answer.specs.declared.Answer.{Answer}
+use Rattle.write_answer.specs.declared.Answer.the-variants.{Written}
+use Rattle.write_answer.specs.Answers.{formOf, answerOf, Did}
 use Rattle.written.specs.Derivable.{HoldAlike}
 use Rattle.written.proofs.Standing.{from-same}
 use Rattle.written.proofs.Tests.{agreeing}

@@ -20,8 +20,8 @@ use Rattle.draft.specs.Strings.{Text, repeated, kept, position, textsOf}
 use Rattle.draft.specs.Limits.{allowed}
 use Rattle.draft.specs.Writable.{writableWithin, writableTo, writable}
 use Rattle.draft.specs.Written.{written, rowsOf}
-use Rattle.reader.specs.Answers.{reading, tableOf}
-use Rattle.reader.proofs.Limited.{reading-within, got-within}
+use Rattle.read_answer.specs.Answers.{reading, tableOf}
+use Rattle.read_answer.proofs.Limited.{reading-within, got-within}
 use Rattle.exact.proofs.Realising.{counts, same-meaning}
 use Rattle.occurring.specs.Occurring.{bit, times}
 use Rattle.written.specs.Derivable.{DerivesRows, Within}

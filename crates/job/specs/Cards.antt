@@ -6,9 +6,9 @@ use Prim.Native.Nat.{ℕ}
 use lib.ListN.{length, replicate}
 use Rattle.draft.specs.Bytes.{part}
 use Rattle.draft.specs.Refusals.{numberOf}
-use Rattle.reader.specs.declared.Answer.{Answer as ReaderAnswer}
-use Rattle.reader.specs.declared.Answer.the-variants as reader
-use Rattle.reader.specs.Answers.{reading, answerOf, tableOf}
+use Rattle.read_answer.specs.declared.Answer.{Answer as ReaderAnswer}
+use Rattle.read_answer.specs.declared.Answer.the-variants as reader
+use Rattle.read_answer.specs.Answers.{reading, answerOf, tableOf}
 use Rattle.records.specs.declared.Found.{Found}
 use Rattle.records.specs.declared.Found.the-variants as found
 use Rattle.job.specs.declared.Answer.{Answer}

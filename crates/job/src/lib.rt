@@ -24,16 +24,16 @@ pub enum Answer {
     },
 }
 
-fn locate(answer: reader::Answer, start: usize) -> Answer
+fn locate(answer: read_answer::Answer, start: usize) -> Answer
     ensures { λ r. ⌜ r ≡ located start answer ⌝ }
 {
     match answer {
-        reader::Answer::Accepted { rows, used } => Answer::Accepted {
+        read_answer::Answer::Accepted { rows, used } => Answer::Accepted {
             rows,
             used,
             body: start,
         },
-        reader::Answer::Refused { refusal, place } => Answer::Refused { refusal, place },
+        read_answer::Answer::Refused { refusal, place } => Answer::Refused { refusal, place },
     }
 }
 

@@ -16,7 +16,7 @@ use Rattle.draft.specs.Table.{roomOf}
 use Rattle.draft.specs.Writable.{callOrResponse, wholly}
 use Rattle.draft.specs.Written.{written}
 use Rattle.written.proofs.Limiting.{below-at}
-use Rattle.writer.specs.Answers as writer
+use Rattle.write_answer.specs.Answers as writer
 use Rattle.plan_writer.specs.declared.Answer.the-variants as p
 use Rattle.plan_writer.specs.Answers as plan_writer
 use Rattle.certificate.specs.Certificate.{certifiedTexts}

@@ -13,8 +13,8 @@ use Rattle.draft.specs.Strings.{textsOf}
 use Rattle.draft.specs.Table.{roomOf, from}
 use Rattle.draft.specs.Writable.{callOrResponse, wholly}
 use Rattle.draft.specs.Written.{written}
-use Rattle.writer.specs.declared.Answer as W
-use Rattle.writer.specs.Answers as writer
+use Rattle.write_answer.specs.declared.Answer as W
+use Rattle.write_answer.specs.Answers as writer
 use Rattle.plan_writer.specs.declared.Answer as P
 use Rattle.plan_writer.specs.declared.Answer.the-variants as p
 use Rattle.plan_writer.specs.Answers as plan_writer

@@ -3,8 +3,8 @@ use mathlib.Core.List.{List, [], _∷_, _++_}
 use Prim.Native.Nat.{ℕ}
 use Rattle.draft.specs.declared.Row.{Row}
 use Rattle.draft.specs.Refusals.{numberOf}
-use Rattle.reader.specs.declared.Answer.{Answer}
-use Rattle.reader.specs.declared.Answer.the-variants.{Accepted, Refused}
+use Rattle.read_answer.specs.declared.Answer.{Answer}
+use Rattle.read_answer.specs.declared.Answer.the-variants.{Accepted, Refused}
 use Rattle.spelling.specs.Line.{decimal, pair, pairs}
 
 -- the end of a line

@@ -1,7 +1,7 @@
 // The lines that the programs print, each put into a lent line, from its front or from a place on. A function answers where what it put
 // ends; what the line has no room for is dropped.
 use draft::Row;
-use reader::Answer;
+use read_answer::Answer;
 ghost use Rattle.spelling.specs.Line.{Puts, pairs};
 ghost use Rattle.lines.specs.Lines.{space, refusalLine, acceptedLine, cardAcceptedLine, rowLine, cardAnswer, cardLine, countLine};
 

@@ -10,9 +10,9 @@ use Rattle.draft.specs.declared.Row.{Row}
 use Rattle.draft.specs.declared.Refusal.{Refusal}
 use Rattle.draft.specs.Refusals.{numberOf}
 use Rattle.draft.specs.Table.{roomOf, rowAt}
-use Rattle.reader.specs.declared.Answer.{Answer}
-use Rattle.reader.specs.declared.Answer.the-variants.{Accepted, Refused}
-use Rattle.reader.specs.Answers.{reading, Answers}
+use Rattle.read_answer.specs.declared.Answer.{Answer}
+use Rattle.read_answer.specs.declared.Answer.the-variants.{Accepted, Refused}
+use Rattle.read_answer.specs.Answers.{reading, Answers}
 use Rattle.spelling.specs.Line.{line, put, Puts}
 use Rattle.spelling.proofs.Putting.{put-append, puts-both}
 use Rattle.lines.specs.Lines.{refusalLine, acceptedLine, rowLine}

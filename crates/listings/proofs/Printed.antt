@@ -4,7 +4,7 @@ use mathlib.Core.List.{List, [], _∷_}
 use Prim.Native.Nat.{ℕ}
 use Rattle.draft.specs.declared.Refusal.the-variants.{UnsetPosition}
 use Rattle.draft.specs.Table.{place, rowAt}
-use Rattle.reader.specs.declared.Answer.the-variants.{Accepted, Refused}
+use Rattle.read_answer.specs.declared.Answer.the-variants.{Accepted, Refused}
 use Rattle.spelling.specs.Line.{digits}
 use Rattle.listings.specs.Listing.{rowLines, listing}
 

@@ -12,8 +12,8 @@ use lib.Seq.{set-at}
 use Rattle.draft.specs.declared.Row.{Row}
 use Rattle.draft.specs.Refusals.{numberOf}
 use Rattle.draft.specs.Table.{rowAt, roomOf}
-use Rattle.reader.specs.declared.Answer.{Answer}
-use Rattle.reader.specs.declared.Answer.the-variants.{Accepted, Refused}
+use Rattle.read_answer.specs.declared.Answer.{Answer}
+use Rattle.read_answer.specs.declared.Answer.the-variants.{Accepted, Refused}
 use Rattle.spelling.specs.Line.{Line, line, put, putByte, Puts, digits, decimal, pair, pairs}
 use Rattle.lines.specs.Lines.{newline, space, refused, at, rows, used, body, card, bytes, cards, refusalLine, acceptedLine, cardAcceptedLine, rowLine, cardAnswer, cardLine, countLine}
 use Rattle.listings.specs.Listing.{rowLines, tableLines, listing}

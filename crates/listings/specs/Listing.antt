@@ -5,9 +5,9 @@ use Prim.Native.Nat.{ℕ, zero, suc, min}
 use lib.ListN.{length}
 use Rattle.draft.specs.Refusals.{numberOf}
 use Rattle.draft.specs.Table.{roomOf, rowAt}
-use Rattle.reader.specs.declared.Answer.{Answer}
-use Rattle.reader.specs.declared.Answer.the-variants.{Accepted, Refused}
-use Rattle.reader.specs.Answers.{reading, answerOf, tableOf}
+use Rattle.read_answer.specs.declared.Answer.{Answer}
+use Rattle.read_answer.specs.declared.Answer.the-variants.{Accepted, Refused}
+use Rattle.read_answer.specs.Answers.{reading, answerOf, tableOf}
 use Rattle.spelling.specs.Line.{Puts}
 use Rattle.lines.specs.Lines.{refusalLine, acceptedLine, rowLine}
 

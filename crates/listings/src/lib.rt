@@ -1,6 +1,6 @@
 // Whole listings, each put into a lent line: a line for the answer, and one for each row. A function answers where what it put ends; what
 // the line has no room for is dropped.
-use reader::Answer;
+use read_answer::Answer;
 ghost use mathlib.Core.Path.{_≡_};
 ghost use mathlib.Core.List.{_++_};
 ghost use Prim.Native.Nat.{min};

@@ -13,9 +13,9 @@ use Rattle.draft.specs.Limits.{allowed}
 use Rattle.draft.specs.Read.{Reading, got, refused}
 use Rattle.draft.proofs.Limiting.{limit-is}
 use Rattle.wanting.specs.Want.{wantOf}
-use Rattle.reader.specs.declared.Answer.{Answer}
-use Rattle.reader.specs.declared.Answer.the-variants as answer
-use Rattle.reader.specs.Answers.{reading, answerOf}
+use Rattle.read_answer.specs.declared.Answer.{Answer}
+use Rattle.read_answer.specs.declared.Answer.the-variants as answer
+use Rattle.read_answer.specs.Answers.{reading, answerOf}
 use Rattle.rereading.specs.Rereading.{tableRead, Reread}
 use Rattle.room.specs.Room.{taken, Held}
 use Rattle.pieces.specs.declared.PieceRefusal.{PieceRefusal}

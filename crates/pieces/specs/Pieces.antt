@@ -8,7 +8,7 @@ use lib.Dec.{ltb}
 use Rattle.draft.specs.declared.Refusal.the-variants.{TooLong}
 use Rattle.draft.specs.Refusals.{numberOf}
 use Rattle.draft.specs.Read.{Reading, got, refused, pick}
-use Rattle.reader.specs.Answers.{reading}
+use Rattle.read_answer.specs.Answers.{reading}
 use Rattle.rereading.specs.Rereading.{refusedWithOne}
 
 -- all bytes of some pieces

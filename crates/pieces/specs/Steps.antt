@@ -10,7 +10,7 @@ use Rattle.draft.specs.Refusals.{numberOf, refusalOf}
 use Rattle.draft.specs.Limits.{allowed}
 use Rattle.draft.specs.Read.{Reading, got, refused}
 use Rattle.wanting.specs.Want.{wantOf}
-use Rattle.reader.specs.Answers.{reading}
+use Rattle.read_answer.specs.Answers.{reading}
 use Rattle.rereading.specs.Rereading.{pickList, tableRead}
 use Rattle.room.specs.Room.{taken, roomAfter}
 use Rattle.pieces.specs.declared.PieceRefusal.{PieceRefusal}

@@ -1,6 +1,6 @@
 // A message in pieces: they are held in one lent room, and each is answered with more wanted, accepted or refused.
 use draft::Refusal;
-use reader::Answer;
+use read_answer::Answer;
 ghost use mathlib.Core.Path.{_≡_};
 ghost use mathlib.Core.Bool.{true};
 ghost use Prim.Native.Nat.{_≤_};

@@ -3,9 +3,9 @@ use mathlib.Core.Path.{_≡_}
 use Prim.Native.Nat.{ℕ}
 use Rattle.draft.specs.declared.Refusal.{Refusal}
 use Rattle.draft.specs.Refusals.{numberOf}
-use Rattle.reader.specs.declared.Answer as R
-use Rattle.reader.specs.declared.Answer.the-variants as reader
-use Rattle.reader.specs.Answers as readers
+use Rattle.read_answer.specs.declared.Answer as R
+use Rattle.read_answer.specs.declared.Answer.the-variants as reader
+use Rattle.read_answer.specs.Answers as readers
 use Rattle.records.specs.declared.JobRefusal.{JobRefusal}
 use Rattle.records.specs.declared.Found.{Found}
 use Rattle.records.specs.declared.Found.the-variants as found

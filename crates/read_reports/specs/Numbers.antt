@@ -1,6 +1,6 @@
 -- The numbers that reading reports, as one record: documents 01's and 02's numbers. Assumes nothing.
 use Prim.Native.Nat.{ℕ}
-use Rattle.reader.specs.Answers as reader
+use Rattle.read_answer.specs.Answers as reader
 use Rattle.records.specs.declared.Found.{Found}
 use Rattle.records.specs.declared.Found.the-variants.{Body, Missing}
 use Rattle.records.specs.Job.{refusalNumber}

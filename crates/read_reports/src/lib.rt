@@ -1,21 +1,21 @@
 // What reading answered, reported to programs in C and Rust: every number that they lend is set, and the result is 0 or the refusal's number.
 ghost use mathlib.Core.Path.{_≡_};
-ghost use Rattle.reader.specs.Answers as readers;
+ghost use Rattle.read_answer.specs.Answers as readers;
 ghost use Rattle.job.specs.Cards as jobs;
 ghost use Rattle.read_reports.specs.Numbers.{report, cardReport, finding, findingOf};
 
 // Of a message.
-pub fn message(answer: reader::Answer, rows: &mut u64, used: &mut u64, place: &mut u64) -> u8
+pub fn message(answer: read_answer::Answer, rows: &mut u64, used: &mut u64, place: &mut u64) -> u8
     ensures { λ n. ⌜ report n (now (rows .exit)) (now (used .exit)) (now (place .exit)) ≡ readers.reportOf answer ⌝ }
 {
     match answer {
-        reader::Answer::Accepted { rows: n, used: m } => {
+        read_answer::Answer::Accepted { rows: n, used: m } => {
             *rows = n as u64;
             *used = m as u64;
             *place = 0;
             0
         }
-        reader::Answer::Refused { refusal, place: p } => {
+        read_answer::Answer::Refused { refusal, place: p } => {
             *rows = 0;
             *used = 0;
             *place = p as u64;

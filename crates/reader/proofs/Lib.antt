@@ -1,3 +1,1 @@
-pub mod Beginning
 pub mod Messages
-pub mod Limited

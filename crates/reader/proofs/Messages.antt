@@ -1,52 +1,19 @@
 -- What answers each return of the functions that read a whole message. Assumes nothing.
-use mathlib.Core.Path.{_≡_, ap, _∙_}
+use mathlib.Core.Path.{_≡_}
 use mathlib.Core.Bool.{Bool, true, false}
 use mathlib.Core.List.{List}
 use Prim.Native.Nat.{ℕ, _≤_, _<_}
-use native.Mathlib.Nat.{zero-add}
 use lib.ListN.{length, replicate}
 use borrow.Author.Tests.{le-leb, lt-leb}
-use Rattle.draft.specs.declared.Refusal.{Refusal}
 use Rattle.draft.specs.declared.Refusal.the-variants.{Ended, WrongPrefix, TooLong, NoLimit}
-use Rattle.draft.specs.Refusals.{refusalOf}
 use Rattle.draft.specs.Limits.{allowed}
 use Rattle.draft.specs.Codebook.{clear}
 use Rattle.draft.specs.Table.{roomOf}
 use Rattle.draft.specs.Read.{callOrResponse, prefix, agree, message, messageWithin}
 use Rattle.draft.proofs.Limiting.{limit-is}
-use Rattle.draft.proofs.Naming.{number-own}
-use Rattle.codebook.specs.Words.{bookOf}
-use Rattle.codebook.proofs.Recording.{clear-holds}
-use Rattle.item.specs.declared.Step.{Step}
-use Rattle.item.specs.Contract.{Did}
-use Rattle.item.proofs.Readings.{Got, Not, did-next, did-not}
-use Rattle.reader.specs.declared.Answer.{Answer}
-use Rattle.reader.specs.declared.Answer.the-variants as answer
-use Rattle.reader.specs.Answers.{reading, Answers}
-
--- what follows the first bytes, read into zeros with an empty codebook
-module _ (s : List ℕ) (deep words : ℕ) {room from : ℕ} {T T₁ W W₁ : List ℕ} {step : Step} (f : room ≡ roomOf 4096 words) (w : W ≡ replicate 256 0) (d : Did (callOrResponse s room deep 12 0 (bookOf W)) (length s) room from 0 T T₁ W₁ step) where
-  began : callOrResponse s (roomOf 4096 words) deep 12 0 clear ≡ callOrResponse s room deep 12 0 (bookOf W)
-  began = simp (f, w, clear-holds 256)
-
-  pub body-no : (words₁ : ℕ) {T′ : List ℕ} {m : Refusal} → (step .number ≡ 0 → ⊥) → m ≡ refusalOf (step .number) → T′ ≡ replicate words₁ 0 → words₁ ≡ words → Answers (callOrResponse s (roomOf 4096 words) deep 12 0 clear) words T′ (answer.Refused m (step .at))
-  body-no words₁ {T′} {m} n i t k = go (did-not d n)
-    where
-      go : Not (callOrResponse s room deep 12 0 (bookOf W)) step → Answers (callOrResponse s (roomOf 4096 words) deep 12 0 clear) words T′ (answer.Refused m (step .at))
-      go z =
-          let o = began ∙ z .reading in
-          let q : step .at ≡ z .place = ap (λ (x : Step). x .at) (z .says) in
-          let y : m ≡ z .why = i ∙ ap (λ (x : Step). refusalOf (x .number)) (z .says) ∙ number-own (z .why) in
-          record { says = simp (o, q, y); leaves = t ∙ simp (o, k) }
-
-  pub body-got : step .number ≡ 0 → T ≡ replicate words 0 → Answers (callOrResponse s (roomOf 4096 words) deep 12 0 clear) words T₁ (answer.Accepted (step .row) (step .at))
-  body-got e t = go (did-next d e)
-    where
-      go : Got (callOrResponse s room deep 12 0 (bookOf W)) (length s) room from 0 T T₁ W₁ step → Answers (callOrResponse s (roomOf 4096 words) deep 12 0 clear) words T₁ (answer.Accepted (step .row) (step .at))
-      go g =
-          let o = began ∙ g .reading in
-          let n : step .row ≡ length (g .rows) = g .next ∙ zero-add _ in
-          record { says = simp (o, n); leaves = g .wrote ∙ simp (o, f, t) }
+use Rattle.read_answer.specs.declared.Answer.{Answer}
+use Rattle.read_answer.specs.declared.Answer.the-variants as answer
+use Rattle.read_answer.specs.Answers.{reading, Answers}
 
 -- the whole message
 pub read-unlimited : (s : List ℕ) (words limit : ℕ) {T′ : List ℕ} {a : Bool} → a ≡ allowed limit → a ≡ false → T′ ≡ replicate words 0 → Answers (reading limit s words) words T′ (answer.Refused NoLimit 0)
@@ -79,4 +46,4 @@ module _ (s : List ℕ) (words limit : ℕ) (stated : allowed limit ≡ true) wh
 pub zeros : (words words₁ : ℕ) {T : List ℕ} → T ≡ replicate words 0 → words₁ ≡ words → T ≡ replicate words₁ 0
 zeros words words₁ e k = rw k e
 
-pub ruleset whole = (body-no, body-got, limit-is, read-unlimited, read-stated, read-long, read-wrong, read-short, read-on, zeros)
+pub ruleset whole = (limit-is, read-unlimited, read-stated, read-long, read-wrong, read-short, read-on, zeros)

@@ -10,9 +10,9 @@ use borrow.Author.Tests.{lt-ltb, le-ltb, eq-eqb, ne-eqb}
 use Rattle.draft.specs.declared.Refusal.{Refusal}
 use Rattle.draft.specs.Refusals.{numberOf}
 use Rattle.draft.specs.Read.{Reading, got, refused}
-use Rattle.reader.specs.declared.Answer.{Answer}
-use Rattle.reader.specs.declared.Answer.the-variants as answer
-use Rattle.reader.specs.Answers.{reading, answerOf, tableOf, Answers}
+use Rattle.read_answer.specs.declared.Answer.{Answer}
+use Rattle.read_answer.specs.declared.Answer.the-variants as answer
+use Rattle.read_answer.specs.Answers.{reading, answerOf, tableOf, Answers}
 use Rattle.rereading.specs.Rereading.{refusedWithOne, tableTried, tableRead, PartRead, Reread}
 use Rattle.rereading.proofs.Words.{length-table, more-words}
 

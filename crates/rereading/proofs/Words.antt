@@ -13,7 +13,7 @@ use Rattle.draft.specs.Limits.{allowed}
 use Rattle.draft.specs.Table.{roomOf}
 use Rattle.draft.specs.Read.{Reading, got, refused, pick, message, messageWithin}
 use Rattle.table.proofs.Rows.{length-putRows}
-use Rattle.reader.specs.Answers.{reading, tableOf}
+use Rattle.read_answer.specs.Answers.{reading, tableOf}
 use Rattle.exact.proofs.Growing.{no-longer, message-stays}
 use Rattle.exact.proofs.Concluding.{stays-but}
 use Rattle.text.proofs.Comparing.{clash}

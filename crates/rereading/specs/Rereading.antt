@@ -8,8 +8,8 @@ use lib.ListN.{length, drop, replicate}
 use lib.Dec.{ltb, eqb}
 use Rattle.draft.specs.Refusals.{numberOf}
 use Rattle.draft.specs.Read.{Reading, got, refused}
-use Rattle.reader.specs.declared.Answer.{Answer}
-use Rattle.reader.specs.Answers.{reading, answerOf, tableOf}
+use Rattle.read_answer.specs.declared.Answer.{Answer}
+use Rattle.read_answer.specs.Answers.{reading, answerOf, tableOf}
 
 -- refused with 1
 abbrev pub refusedWithOne : Reading → Bool

@@ -1,6 +1,6 @@
 // Reading the bytes of a message again that was refused with 1 when there were fewer of them. A row takes a byte at least, so no more words of
 // the table are used than four for each byte until there is another answer.
-use reader::Answer;
+use read_answer::Answer;
 ghost use Prim.Native.Nat.{_≤_};
 ghost use lib.ListN.{length};
 ghost use Rattle.rereading.specs.Rereading.{tableTried, tableRead, PartRead, Reread};

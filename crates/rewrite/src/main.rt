@@ -13,10 +13,10 @@ fn complain(number: u8, place: usize) {
 fn write_form(table: &[u32], rows: usize, message: &[u8], output: &mut [u8]) {
     let answer = writer::write(table, rows, message, draft::MOST_NESTING, output);
     match answer {
-        writer::Answer::Written { length } => {
+        write_answer::Answer::Written { length } => {
             console::write(content::part(output, 0, length));
         }
-        writer::Answer::Refused(refusal) => {
+        write_answer::Answer::Refused(refusal) => {
             complain(draft::number(refusal), 0);
         }
     }
@@ -27,10 +27,10 @@ fn rewrite(message: &[u8]) {
     let mut output = [0u8; 65536];
     let answer = reader::read(message, &mut table, draft::MOST_NESTING);
     match answer {
-        reader::Answer::Accepted { rows, used: _ } => {
+        read_answer::Answer::Accepted { rows, used: _ } => {
             write_form(&table, rows, message, &mut output);
         }
-        reader::Answer::Refused { refusal, place } => {
+        read_answer::Answer::Refused { refusal, place } => {
             complain(draft::number(refusal), place);
         }
     }

@@ -8,8 +8,8 @@ use Rattle.shares.specs.declared.Share.{Share}
 use Rattle.shares.specs.declared.Share.the-variants.{Words, NotSplit}
 use Rattle.shares.specs.Share.{shareFor}
 use Rattle.shares.proofs.Lent.{lending, lent-answer, lent-table, unlent-answer, unlent-table}
-use Rattle.reader.specs.declared.Answer.{Answer as ReaderAnswer}
-use Rattle.reader.specs.Answers.{reading, Answers}
+use Rattle.read_answer.specs.declared.Answer.{Answer as ReaderAnswer}
+use Rattle.read_answer.specs.Answers.{reading, Answers}
 use Rattle.records.specs.Job.{bodyOf}
 use Rattle.job.specs.declared.Answer.{Answer as JobAnswer}
 use Rattle.job.specs.Cards.{Reads}

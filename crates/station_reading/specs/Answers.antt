@@ -5,8 +5,8 @@ use Prim.Native.Nat.{ℕ}
 use lib.ListN.{length}
 use Rattle.shares.specs.declared.Station.{Station}
 use Rattle.shares.specs.Share.{onShare, tableOn}
-use Rattle.reader.specs.Answers as reader
-use Rattle.reader.specs.Answers.{reading, answerOf, tableOf}
+use Rattle.read_answer.specs.Answers as reader
+use Rattle.read_answer.specs.Answers.{reading, answerOf, tableOf}
 use Rattle.records.specs.Job.{bodyOf}
 use Rattle.job.specs.Cards as job
 use Rattle.job.specs.Cards.{answerFor, tableFor}

@@ -6,7 +6,7 @@ ghost use Rattle.station_reading.specs.Answers.{ReadFor, CardFor};
 
 // What reading a message for a station answers: as for a whole table, or 22.
 pub enum Answer {
-    Answered(reader::Answer),
+    Answered(read_answer::Answer),
     NotSplit,
 }
 

@@ -9,12 +9,12 @@ use Rattle.shares.specs.declared.Share.{Share}
 use Rattle.shares.specs.declared.Share.the-variants as share
 use Rattle.shares.specs.Share.{shareFor, stationOf, splitFor}
 use Rattle.shares.proofs.Lent.{part-ordered}
-use Rattle.reader.specs.declared.Answer as R
-use Rattle.reader.specs.Answers as readers
+use Rattle.read_answer.specs.declared.Answer as R
+use Rattle.read_answer.specs.Answers as readers
 use Rattle.job.specs.declared.Answer as J
 use Rattle.job.specs.Cards as jobs
-use Rattle.writer.specs.declared.Answer as W
-use Rattle.writer.specs.Answers as writers
+use Rattle.write_answer.specs.declared.Answer as W
+use Rattle.write_answer.specs.Answers as writers
 use Rattle.lookup.specs.declared.Answer as L
 use Rattle.lookup.specs.declared.Report.{Report}
 use Rattle.lookup.specs.Reports.{reported}

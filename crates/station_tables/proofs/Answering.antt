@@ -8,8 +8,8 @@ use Rattle.shares.specs.declared.Share.{Share}
 use Rattle.shares.specs.declared.Share.the-variants.{Words, NotSplit}
 use Rattle.shares.specs.Share.{shareFor, onShare}
 use Rattle.shares.proofs.Lent.{lending, lent-answer, unlent-answer}
-use Rattle.writer.specs.declared.Answer.{Answer as WriterAnswer}
-use Rattle.writer.specs.Answers.{formOf, outputOf, Did}
+use Rattle.write_answer.specs.declared.Answer.{Answer as WriterAnswer}
+use Rattle.write_answer.specs.Answers.{formOf, outputOf, Did}
 use Rattle.lookup.specs.declared.Answer.{Answer as FoundAnswer}
 use Rattle.lookup.specs.Answers as lookups
 use Rattle.position.specs.declared.Placed.{Placed}

@@ -6,8 +6,8 @@ use lib.IntN.{pos}
 use lib.ListN.{length}
 use Rattle.shares.specs.declared.Station.{Station}
 use Rattle.shares.specs.Share.{onShare}
-use Rattle.writer.specs.Answers as writer
-use Rattle.writer.specs.Answers.{answerOf, outputOf, formOf}
+use Rattle.write_answer.specs.Answers as writer
+use Rattle.write_answer.specs.Answers.{answerOf, outputOf, formOf}
 use Rattle.lookup.specs.declared.Report as looked
 use Rattle.lookup.specs.Reports as lookup-reports
 use Rattle.lookup.specs.Reports.{plusZero, reported}

@@ -7,7 +7,7 @@ ghost use Rattle.station_tables.specs.Answers.{WroteFor, lookupAnswer, p
 
 // What writing a share answers: as for a whole table, or 22.
 pub enum WriteAnswer {
-    Answered(writer::Answer),
+    Answered(write_answer::Answer),
     NotSplit,
 }
 

@@ -10,7 +10,7 @@ use borrow.Author.Tests.{ltb-true}
 use Rattle.text.proofs.Comparing.{both}
 use Rattle.draft.specs.Bytes.{part}
 use Rattle.draft.specs.Limits.{allowed}
-use Rattle.reader.specs.Answers.{reading}
+use Rattle.read_answer.specs.Answers.{reading}
 use Rattle.rereading.specs.Rereading.{refusedWithOne, pickList, tableTried, tableRead}
 use Rattle.rereading.proofs.Words.{length-table}
 use Rattle.records.specs.declared.Found.{Found}

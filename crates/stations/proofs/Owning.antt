@@ -7,15 +7,15 @@ use lib.ListN.{length}
 use Rattle.shares.specs.declared.Station.{Station}
 use Rattle.shares.specs.Share.{splits, sizeOf, shareOf}
 use Rattle.shares.proofs.Sharing.{share-size, given-there, own-words}
-use Rattle.reader.specs.Answers as reader
-use Rattle.reader.specs.Answers.{reading}
+use Rattle.read_answer.specs.Answers as reader
+use Rattle.read_answer.specs.Answers.{reading}
 use Rattle.records.specs.Job.{bodyOf}
 use Rattle.job.specs.Cards.{answerFor}
 use Rattle.pieces.specs.declared.State.{State}
 use Rattle.pieces.specs.Steps.{atFirst, stateWent, Went, stateClosed}
 use Rattle.pieces.specs.Runs as run
 use Rattle.pieces.specs.Runs.{Runs}
-use Rattle.writer.specs.Answers.{answerOf}
+use Rattle.write_answer.specs.Answers.{answerOf}
 use Rattle.station_reading.specs.declared.Answer.{Answer}
 use Rattle.station_reading.specs.declared.Answer.the-variants as answer
 use Rattle.station_reading.specs.declared.CardAnswer.{CardAnswer}

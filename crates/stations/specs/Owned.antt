@@ -3,15 +3,15 @@
 use mathlib.Core.Path.{_≡_}
 use mathlib.Core.List.{List}
 use Prim.Native.Nat.{ℕ}
-use Rattle.reader.specs.declared.Answer.{Answer as ReaderAnswer}
-use Rattle.reader.specs.Answers.{reading, Answers}
+use Rattle.read_answer.specs.declared.Answer.{Answer as ReaderAnswer}
+use Rattle.read_answer.specs.Answers.{reading, Answers}
 use Rattle.records.specs.Job.{bodyOf}
 use Rattle.job.specs.declared.Answer.{Answer as JobAnswer}
 use Rattle.job.specs.Cards.{Reads}
 use Rattle.pieces.specs.declared.State.{State}
 use Rattle.pieces.specs.Steps.{Went, Closed}
-use Rattle.writer.specs.declared.Answer.{Answer as WriterAnswer}
-use Rattle.writer.specs.Answers.{Did}
+use Rattle.write_answer.specs.declared.Answer.{Answer as WriterAnswer}
+use Rattle.write_answer.specs.Answers.{Did}
 use Rattle.plan_writer.specs.declared.Answer.{Answer as PlannerAnswer}
 use Rattle.plan_writer.specs.Answers as planner
 use Rattle.station_reading.specs.declared.Answer.{Answer}

@@ -3,9 +3,9 @@ use mathlib.Core.Path.{_≡_}
 use Prim.Native.Nat.{ℕ}
 use Rattle.draft.specs.declared.Refusal.{Refusal}
 use Rattle.draft.specs.Refusals.{numberOf}
-use Rattle.writer.specs.declared.Answer as W
-use Rattle.writer.specs.declared.Answer.the-variants as writer
-use Rattle.writer.specs.Answers as writers
+use Rattle.write_answer.specs.declared.Answer as W
+use Rattle.write_answer.specs.declared.Answer.the-variants as writer
+use Rattle.write_answer.specs.Answers as writers
 use Rattle.plan_writer.specs.declared.Answer as P
 use Rattle.plan_writer.specs.declared.Answer.the-variants as planner
 use Rattle.plan_writer.specs.Answers as planners

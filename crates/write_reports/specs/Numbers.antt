@@ -1,6 +1,6 @@
 -- The numbers that writing reports, as one record: documents 01's and 02's numbers. Assumes nothing.
 use Prim.Native.Nat.{ℕ}
-use Rattle.writer.specs.Answers as writer
+use Rattle.write_answer.specs.Answers as writer
 use Rattle.plan_writer.specs.Answers as planner
 
 abbrev pub report : ℕ → ℕ → writer.Report

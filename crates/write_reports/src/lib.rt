@@ -2,18 +2,18 @@
 pub mod plans; // plans.rt: of writing by a plan
 
 ghost use mathlib.Core.Path.{_≡_};
-ghost use Rattle.writer.specs.Answers as writers;
+ghost use Rattle.write_answer.specs.Answers as writers;
 ghost use Rattle.write_reports.specs.Numbers.{report};
 
-pub fn written(answer: writer::Answer, length: &mut u64) -> u8
+pub fn written(answer: write_answer::Answer, length: &mut u64) -> u8
     ensures { λ n. ⌜ report n (now (length .exit)) ≡ writers.reportOf answer ⌝ }
 {
     match answer {
-        writer::Answer::Written { length: n } => {
+        write_answer::Answer::Written { length: n } => {
             *length = n as u64;
             0
         }
-        writer::Answer::Refused(refusal) => {
+        write_answer::Answer::Refused(refusal) => {
             *length = 0;
             draft::number(refusal)
         }

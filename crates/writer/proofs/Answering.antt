@@ -1,36 +1,21 @@
 -- What answers the returns of the functions that give the writer's answer. Assumes nothing.
-use Prim.Native.Nat.{ℕ, _-_, _*_, _≤_, _<_}
+use Prim.Native.Nat.{ℕ, _-_, _≤_, _<_}
 use mathlib.Core.Path.{_≡_, refl, sym, ap, _∙_}
 use mathlib.Core.Bool.{Bool, true, false, cond}
 use mathlib.Core.List.{List, _++_}
-use native.Mathlib.Omega.{arith}
 use lib.ListN.{length, replicate}
 use lib.Dec.{leb}
-use borrow.Author.Tests.{lt-leb, le-leb, leb-true}
+use borrow.Author.Tests.{lt-leb, le-leb}
 use Rattle.draft.specs.declared.Refusal.the-variants.{TooLong, NotWritable, FormTooLong, OutputTooShort, NoLimit}
 use Rattle.draft.specs.Limits.{allowed}
 use Rattle.draft.specs.Table.{roomOf, rowAt, from}
-use Rattle.draft.specs.Writable.{writableWithin, writableTo, writable}
+use Rattle.draft.specs.Writable.{writableTo}
 use Rattle.draft.specs.Written.{written, rowsOf}
-use Rattle.text.proofs.Comparing.{both}
-use Rattle.extents.specs.Asked.{Ready}
 use Rattle.message.specs.Filled.{needed, filled, Filled}
-use Rattle.writer.specs.declared.Answer.{Answer}
-use Rattle.writer.specs.declared.Answer.the-variants.{Written, Refused}
-use Rattle.writer.specs.Answers.{given, answerFor, answerTo, formOf, answerOf, outputOf, Did}
+use Rattle.write_answer.specs.declared.Answer.{Answer}
+use Rattle.write_answer.specs.declared.Answer.the-variants.{Written}
+use Rattle.write_answer.specs.Answers.{given, answerFor, answerTo, formOf, answerOf, outputOf, Did}
 use Rattle.writer.specs.Contract.{RefusedWith}
-
--- the answer, by how many bytes the form needs
-module _ (n room : ℕ) where
-  pub answer-long : 65536 < n → Refused FormTooLong ≡ answerFor n room
-  answer-long h = sym (rw (lt-leb n 65536 h))
-
-  module _ (h : n ≤ 65536) where
-    pub answer-short : room < n → Refused OutputTooShort ≡ answerFor n room
-    answer-short l = sym (rw (le-leb n 65536 h, lt-leb n room l))
-
-    pub answer-written : n ≤ room → Written n ≡ answerFor n room
-    answer-written l = sym (rw (le-leb n 65536 h, le-leb n room l))
 
 -- what is told of a form is enough for the answer, and what is left is what the answer says
 module _ (form : List ℕ) (room : ℕ) where
@@ -82,21 +67,3 @@ module _ (limit : ℕ) (T : List ℕ) (rows : ℕ) (s : List ℕ) {o o′ : List
           says = p ∙ sym (rw (i, le-leb (length s) 65536 h, w));
           leaves = r .leaves ∙ ap (λ (form : List ℕ). filled form (length o)) q ∙ sym (ap (λ (x : Answer). outputOf x (formOf T rows s) (length o)) p ∙ output-filled (formOf T rows s) (length o));
         }
-
-pub ready-is : (limit : ℕ) (T : List ℕ) (rows : ℕ) {room : ℕ} (s : List ℕ) {b : Bool} → b ≡ writableTo limit T rows s → b ≡ true → room ≡ roomOf 4096 (length T) → Ready rows room (length T)
-unfolding writableTo writableWithin
-ready-is limit T rows {room} s e f g =
-    let p = both (leb (length s) 65536) _ (sym e ∙ f) in
-    let q = both (leb 1 rows) _ (p .1) in
-    let u = both (leb rows 4096) _ (q .1) in
-    let v = both (leb (rows * 4) (length T)) _ (u .1) in
-    let m : rows ≤ 4096 = leb-true rows 4096 (u .0) in
-    let w : rows * 4 ≤ length T = leb-true (rows * 4) (length T) (v .0) in
-    record { stated = omega (arith, g); most = omega (arith, g); table = omega (arith, g) }
-
--- of a table that was judged at 32
-pub ready-judged : (T : List ℕ) (rows : ℕ) {room : ℕ} (s : List ℕ) {b : Bool} → b ≡ writable T rows s → b ≡ true → room ≡ roomOf 4096 (length T) → Ready rows room (length T)
-unfolding writable writableTo
-ready-judged T rows s e f g = ready-is 32 T rows s e f g
-
-pub ruleset answering = (answer-long, answer-short, answer-written, did-unlimited, did-long, did-unfit, did-rows, ready-is)

@@ -4,8 +4,8 @@ use mathlib.Core.Path.{_≡_}
 use mathlib.Core.List.{List}
 use lib.ListN.{length, replicate}
 use Rattle.draft.specs.declared.Refusal.{Refusal}
-use Rattle.writer.specs.declared.Answer.{Answer}
-use Rattle.writer.specs.declared.Answer.the-variants.{Refused}
+use Rattle.write_answer.specs.declared.Answer.{Answer}
+use Rattle.write_answer.specs.declared.Answer.the-variants.{Refused}
 
 -- a refusal leaves zeros
 pub record RefusedWith (refusal : Refusal) (out out′ : List ℕ) (answer : Answer) : Type 0 where

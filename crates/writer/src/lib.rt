@@ -1,19 +1,12 @@
 // The writer: a table of rows and the bytes that its texts lie in, into a lent output, in the written form. Here are the refusals and their
 // order; the form itself is put by `form`.
 use draft::Refusal;
+use write_answer::Answer;
 ghost use mathlib.Core.Path.{_≡_};
 ghost use mathlib.Core.Bool.{true};
 ghost use Rattle.draft.specs.Limits.{allowed};
+ghost use Rattle.write_answer.specs.Answers.{Did};
 ghost use Rattle.writer.specs.Contract.{RefusedWith};
-ghost use Rattle.writer.specs.Answers.{answerFor, Did};
-
-// The most bytes that a message may have.
-pub const MOST_BYTES: usize = 65536;
-
-pub enum Answer {
-    Written { length: usize },
-    Refused(Refusal),
-}
 
 // A refusal leaves zeros.
 fn refuse(output: &mut [u8], refusal: Refusal) -> Answer
@@ -23,32 +16,19 @@ fn refuse(output: &mut [u8], refusal: Refusal) -> Answer
     Answer::Refused(refusal)
 }
 
-// The answer for a form that needs n bytes of an output that has so much room.
-fn answer_for(n: usize, room: usize) -> Answer
-    ensures { λ r. ⌜ r ≡ answerFor n room ⌝ }
-{
-    if MOST_BYTES < n {
-        return Answer::Refused(Refusal::FormTooLong);
-    }
-    if room < n {
-        return Answer::Refused(Refusal::OutputTooShort);
-    }
-    Answer::Written { length: n }
-}
-
 // What `write` does by a limit that may be stated.
 fn write_within(table: &[u32], rows: usize, text: &[u8], limit: usize, output: &mut [u8]) -> Answer
     requires { ⌜ allowed limit ≡ true ⌝ }
     ensures { λ r. ⌜ Did limit (now (table .entry)) rows (now (text .entry)) (now (output .entry)) (now (output .exit)) r ⌝ }
 {
-    if MOST_BYTES < text.len() {
+    if write_answer::MOST_BYTES < text.len() {
         return refuse(output, Refusal::TooLong);
     }
     if shape::writable_to(table, rows, text, limit) {
         let room = table::room_of(table.len());
         let size = output.len();
         let n = form::fill(table, room, rows, text, output);
-        return answer_for(n, size);
+        return write_answer::answer_for(n, size);
     }
     refuse(output, Refusal::NotWritable)
 }

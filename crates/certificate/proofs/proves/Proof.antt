@@ -1,5 +1,5 @@
 use Rattle.certificate.proofs.Judging.{unwritable, of-rows, text-short}
-use Rattle.writer.proofs.Answering.{ready-judged}
+use Rattle.shape.proofs.Judged.{ready-judged}
 use borrow.Author.Needs.{needs}
 use Rattle.certificate.proofs.proves.Statement.{statement}
 use Rattle.certificate.proofs.proves.Tie as tie

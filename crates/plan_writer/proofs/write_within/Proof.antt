@@ -1,5 +1,5 @@
 use Rattle.plan_writer.proofs.Answering.{did-long, did-unfit, did-rows}
-use Rattle.writer.proofs.Answering.{ready-is}
+use Rattle.shape.proofs.Judged.{ready-is}
 use borrow.Author.Needs.{needs}
 use Rattle.plan_writer.proofs.write_within.Statement.{statement}
 use Rattle.plan_writer.proofs.write_within.Tie as tie

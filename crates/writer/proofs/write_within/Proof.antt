@@ -1,4 +1,5 @@
-use Rattle.writer.proofs.Answering.{did-long, did-unfit, did-rows, ready-is}
+use Rattle.shape.proofs.Judged.{ready-is}
+use Rattle.writer.proofs.Answering.{did-long, did-unfit, did-rows}
 use borrow.Author.Needs.{needs}
 use Rattle.writer.proofs.write_within.Statement.{statement}
 use Rattle.writer.proofs.write_within.Tie as tie

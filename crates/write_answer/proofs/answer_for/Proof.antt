@@ -1,6 +1,6 @@
-use Rattle.writer.proofs.Answering.{answer-long, answer-short, answer-written}
-use Rattle.writer.proofs.answer_for.Statement.{statement}
-use Rattle.writer.proofs.answer_for.Tie as tie
+use Rattle.write_answer.proofs.Lengths.{answer-long, answer-short, answer-written}
+use Rattle.write_answer.proofs.answer_for.Statement.{statement}
+use Rattle.write_answer.proofs.answer_for.Tie as tie
 
 pub answer-for-spec : {M : Type 1} → statement M
 answer-for-spec = tie.close (tie.spec

@@ -10,7 +10,7 @@ use Rattle.draft.specs.Limits.{allowed}
 use Rattle.draft.specs.Codebook.{Book}
 use Rattle.draft.specs.Table.{roomOf}
 use Rattle.draft.specs.Read.{Reading, got, refused, messageWithin}
-use Rattle.reader.specs.Answers.{reading}
+use Rattle.read_answer.specs.Answers.{reading}
 
 module _ (limit : ℕ) (s : List ℕ) (words : ℕ) where
   -- the reading within the limit

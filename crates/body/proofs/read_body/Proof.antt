@@ -1,7 +1,7 @@
-use Rattle.reader.proofs.Messages.{whole}
+use Rattle.body.proofs.Bodies.{bodies}
 use borrow.Author.Needs.{needs}
-use Rattle.reader.proofs.read_body.Statement.{statement}
-use Rattle.reader.proofs.read_body.Tie as tie
+use Rattle.body.proofs.read_body.Statement.{statement}
+use Rattle.body.proofs.read_body.Tie as tie
 
 pub read-body-spec : {M : Type 1} → statement M
 read-body-spec = tie.close (tie.spec
@@ -11,6 +11,6 @@ read-body-spec = tie.close (tie.spec
     (λ c κs. search needs)  -- clear-requires
     (λ c κs. search needs)  -- refusal-of-requires
     (λ c. search needs)  -- same-length
-    (λ c. search whole)  -- returns
+    (λ c. search bodies)  -- returns
     (λ c. search needs)  -- same-length-2
-    (λ c. search whole))  -- returns-2
+    (λ c. search bodies))  -- returns-2

@@ -1,8 +1,8 @@
 use borrow.Author.Needs.{needs}
 use Prim.Native.Nat.{_-_}
-use Rattle.reader.proofs.Beginning.{beginning, Agreeing}
-use Rattle.reader.proofs.agrees.Statement.{statement}
-use Rattle.reader.proofs.agrees.Tie as tie
+use Rattle.prefix.proofs.Beginning.{beginning, Agreeing}
+use Rattle.prefix.proofs.agrees.Statement.{statement}
+use Rattle.prefix.proofs.agrees.Tie as tie
 
 abbrev Inv-loop : tie.InvT-loop
 Inv-loop s start i₀ i = Agreeing s i

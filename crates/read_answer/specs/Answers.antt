@@ -10,8 +10,8 @@ use Rattle.draft.specs.Refusals.{numberOf}
 use Rattle.draft.specs.Limits.{allowed}
 use Rattle.draft.specs.Table.{roomOf, putRows}
 use Rattle.draft.specs.Read.{Reading, got, refused, pick, messageWithin}
-use Rattle.reader.specs.declared.Answer.{Answer}
-use Rattle.reader.specs.declared.Answer.the-variants.{Accepted, Refused}
+use Rattle.read_answer.specs.declared.Answer.{Answer}
+use Rattle.read_answer.specs.declared.Answer.the-variants.{Accepted, Refused}
 
 -- document 01's limits, 65,536 bytes and 4,096 rows, and nesting to the limit that the call states: 23 'for a limit outside 1 to 32' (02, E11)
 unfoldable pub reading : ℕ → List ℕ → ℕ → Reading

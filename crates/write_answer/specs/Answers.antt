@@ -12,8 +12,8 @@ use Rattle.draft.specs.Refusals.{numberOf}
 use Rattle.draft.specs.Limits.{allowed}
 use Rattle.draft.specs.Writable.{writableTo}
 use Rattle.draft.specs.Written.{written, rowsOf}
-use Rattle.writer.specs.declared.Answer.{Answer}
-use Rattle.writer.specs.declared.Answer.the-variants.{Written, Refused}
+use Rattle.write_answer.specs.declared.Answer.{Answer}
+use Rattle.write_answer.specs.declared.Answer.the-variants.{Written, Refused}
 
 -- where a test holds, and otherwise a refusal
 abbrev pub given : Bool → Refusal → Answer → Answer
