@@ -78,5 +78,10 @@ pub extern "C" fn binmode_next_card(
 ) -> u8
     ensures { λ n. ⌜ finding n (now (start .exit)) (now (size .exit)) (now (place .exit)) ≡ findingOf (find number number from 0 (drop from (now (file .entry)))) ⌝ }
 {
-    read_reports::found(records::find_next(file, number, from), start, size, place)
+    read_reports::found(
+        card_search::find_next(file, number, from),
+        start,
+        size,
+        place,
+    )
 }

@@ -41,7 +41,7 @@ fn locate(answer: read_answer::Answer, start: usize) -> Answer
 pub fn read_card(file: &[u8], number: usize, table: &mut [u32]) -> Answer
     ensures { λ r. ⌜ Reads (now (file .entry)) (length (now (table .entry))) (bodyOf (now (file .entry)) number) (now (table .exit)) r ⌝ }
 {
-    let found = records::find(file, number);
+    let found = card_search::find(file, number);
     match found {
         Found::Missing { refusal, place } => {
             table::clear(table);

@@ -65,7 +65,7 @@ fn list_all(file: &[u8], table: &mut [u32], waiting: &mut [u8]) {
     let mut from = 0;
     let mut at = 0;
     while from <= file.len() {
-        let found = records::find_next(file, number, from);
+        let found = card_search::find_next(file, number, from);
         match found {
             Found::Missing { refusal, place } => {
                 write_end(waiting, at, number, refusal, place);

@@ -35,7 +35,7 @@ fn read_name(
     ensures { λ r. ⌜ Did (string (now (s .entry)) room at row (bookOf (now (book .entry)))) (length (now (s .entry))) room (at + 1) row (now (table .entry)) (now (table .exit)) (now (book .exit)) r ⌝ }
 {
     if is_recalled(s, at) {
-        return strings::read_recalled(s, at, row, room, table, book);
+        return recalled::read_recalled(s, at, row, room, table, book);
     }
     strings::read_sent(s, at, row, room, table, book)
 }

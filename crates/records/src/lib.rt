@@ -1,8 +1,8 @@
-// The records of a job file, and where in it a card lies: records are stepped over one after the other until the card asked for, or the end.
+// The records of a job file, and what one of them says to one who asks for a card.
 ghost use mathlib.Core.Path.{_≡_};
-ghost use Prim.Native.Nat.{_+_, _*_, _≤_, _<_};
-ghost use lib.ListN.{length, drop};
-ghost use Rattle.records.specs.Job.{refusalNumber, kindAt, recordLength, endsWith, pickRefusal, lookAt, find as findFrom, bodyOf};
+ghost use Prim.Native.Nat.{_+_, _≤_, _<_};
+ghost use lib.ListN.{length};
+ghost use Rattle.records.specs.Job.{refusalNumber, kindAt, recordLength, endsWith, pickRefusal, lookAt};
 
 // The kinds of records.
 pub enum Kind {
@@ -31,7 +31,7 @@ pub enum Look {
 }
 
 // Of a record: four bytes of length and two of kind.
-const HEAD: usize = 6;
+pub const HEAD: usize = 6;
 
 pub fn number(refusal: JobRefusal) -> u8
     ensures { λ n. ⌜ n ≡ refusalNumber refusal ⌝ }
@@ -84,7 +84,7 @@ fn missing(refusal: JobRefusal, place: usize) -> Look
 }
 
 // What the record that s begins with says to one who asks for a card: it stands at `at`, with so many cards before it.
-fn look_at(s: &[u8], number: usize, cards: usize, at: usize) -> Look
+pub fn look_at(s: &[u8], number: usize, cards: usize, at: usize) -> Look
     requires { ⌜ (cards ≤ number) × (at + length (now s) < 18446744073709551616) ⌝ }
     ensures { λ r. ⌜ r ≡ lookAt number cards at (now (s .entry)) ⌝ }
 {
@@ -110,46 +110,4 @@ fn look_at(s: &[u8], number: usize, cards: usize, at: usize) -> Look
         Kind::End => missing(end_says(s, cards), at),
         Kind::Other => Look::Onward { cards, length },
     }
-}
-
-// The body of card number `number`, from the record at `from` on, with `before` cards before that.
-fn seek(file: &[u8], number: usize, before: usize, from: usize) -> Found
-    requires { ⌜ before ≤ number ⌝ }
-    ensures { λ r. ⌜ r ≡ findFrom number before from 0 (drop from (now (file .entry))) ⌝ }
-{
-    let mut cards = before;
-    let mut at = from;
-    while at < file.len() {
-        let look = look_at(&file[at..], number, cards, at);
-        match look {
-            Look::Settled(found) => {
-                return found;
-            }
-            Look::Onward {
-                cards: more,
-                length,
-            } => {
-                cards = more;
-                at += length + HEAD;
-            }
-        }
-    }
-    Found::Missing {
-        refusal: JobRefusal::FileEnded,
-        place: at,
-    }
-}
-
-// The body of a card in the file, or why there is none.
-pub fn find(file: &[u8], number: usize) -> Found
-    ensures { λ r. ⌜ r ≡ bodyOf (now (file .entry)) number ⌝ }
-{
-    seek(file, number, 0, 0)
-}
-
-// The body of the next card, for one who goes from card to card: `number` cards stand before the record at `from`.
-pub fn find_next(file: &[u8], number: usize, from: usize) -> Found
-    ensures { λ r. ⌜ r ≡ findFrom number number from 0 (drop from (now (file .entry))) ⌝ }
-{
-    seek(file, number, number, from)
 }

@@ -31,8 +31,8 @@ pub fn read_scalar(
         b'B' => leaves::read_long(s, at, row, Content::Binary, room, table),
         b'O' => others::read_other(s, at, row, room, table, book),
         b'U' => leaves::read_long(s, at, row, Content::Text, room, table),
-        b'>' => strings::read_recorded(s, at, row, room, table, book),
-        b'<' => strings::read_recalled(s, at, row, room, table, book),
+        b'>' => recorded::read_recorded(s, at, row, room, table, book),
+        b'<' => recalled::read_recalled(s, at, row, room, table, book),
         _ => item::refuse(Refusal::UnexpectedByte, at),
     }
 }

@@ -1,9 +1,9 @@
 use borrow.Author.Needs.{needs}
 use Prim.Native.Nat.{_-_}
 use lib.ListN.{length}
-use Rattle.records.proofs.Finding.{seeking, Seeking}
-use Rattle.records.proofs.seek.Statement.{statement}
-use Rattle.records.proofs.seek.Tie as tie
+use Rattle.card_search.proofs.Seeking.{seeking, Seeking}
+use Rattle.card_search.proofs.seek.Statement.{statement}
+use Rattle.card_search.proofs.seek.Tie as tie
 
 abbrev Inv-loop : tie.InvT-loop
 Inv-loop file number before from cards₀ at₀ cards at = Seeking file number before from cards at

@@ -2,8 +2,8 @@ use Prim.Native.Nat.{ℕ, _+_, _<_}
 use native.Mathlib.Omega.{arith}
 use Rattle.item.proofs.Items.{leaves}
 use borrow.Author.Needs.{needs}
-use Rattle.strings.proofs.read_recorded.Statement.{statement}
-use Rattle.strings.proofs.read_recorded.Tie as tie
+use Rattle.recorded.proofs.read_recorded.Statement.{statement}
+use Rattle.recorded.proofs.read_recorded.Tie as tie
 
 six : (n : ℕ) → 0 < n + 6
 six n = omega arith

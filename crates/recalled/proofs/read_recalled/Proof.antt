@@ -1,7 +1,7 @@
 use Rattle.item.proofs.Items.{leaves}
 use borrow.Author.Needs.{needs}
-use Rattle.strings.proofs.read_recalled.Statement.{statement}
-use Rattle.strings.proofs.read_recalled.Tie as tie
+use Rattle.recalled.proofs.read_recalled.Statement.{statement}
+use Rattle.recalled.proofs.read_recalled.Tie as tie
 
 pub read-recalled-spec : {M : Type 1} → statement M
 read-recalled-spec = tie.close (tie.spec
