@@ -56,8 +56,8 @@ use Rattle.layouts.proofs.Tying.{with-table}
 use Rattle.demands_reading.specs.Reading.{sound}
 use Rattle.demands_reading.specs.Settled as settled
 use Rattle.demands_writing.specs.Writing.{Words, Octets}
-use Rattle.demands.specs.Pieces.{table-settled}
-use Rattle.demands.specs.Stations.{own-read}
+use Rattle.demands_pieces.specs.Pieces.{table-settled}
+use Rattle.demands_stations.specs.Stations.{own-read}
 
 -- ---- columns
 

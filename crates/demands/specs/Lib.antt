@@ -1,9 +1,2 @@
 pub mod Columns
-pub mod Defaults
-pub mod Index
-pub mod Jobs
 pub mod Limits
-pub mod Lookups
-pub mod Pieces
-pub mod Plans
-pub mod Stations

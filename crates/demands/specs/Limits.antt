@@ -34,8 +34,8 @@ use Rattle.station_reading.specs.declared.Answer.the-variants as station
 use Rattle.station_reading.specs.Answers.{ReadFor}
 use Rattle.demands_reading.specs.Reading.{growth-of-limits}
 use Rattle.demands_reading.specs.Settled.{accepted-read, accepted-rows, unused-zero}
-use Rattle.demands.specs.Pieces.{as-whole}
-use Rattle.demands.specs.Stations.{own-read}
+use Rattle.demands_pieces.specs.Pieces.{as-whole}
+use Rattle.demands_stations.specs.Stations.{own-read}
 
 -- 1 TO 32 may be stated, and nothing else.
 pub allowed-exactly : (limit : ℕ) → (allowed limit ≡ true) ↔ ((1 ≤ limit) × (limit ≤ 32))

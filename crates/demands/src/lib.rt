@@ -1,1 +1,1 @@
-// What the requests demand, as statements over the definitions: see specs/.
+// What is demanded of all calls, the limit of nesting that they state and the columns of their tables, as statements over the definitions: see specs/.

@@ -50,9 +50,9 @@ use Rattle.stations.specs.Turns.{Turns}
 use Rattle.stations.proofs.Calling as calls
 use Rattle.stations.proofs.Calling.{Same}
 use Rattle.stations.proofs.Owning as owning
-use Rattle.demands.specs.Jobs as jobs
+use Rattle.demands_jobs.specs.Jobs as jobs
 use Rattle.demands_reading.specs.Settled as whole-table
-use Rattle.demands.specs.Pieces as pieces
+use Rattle.demands_pieces.specs.Pieces as pieces
 
 -- A ROW SPLITS a table exactly if it is not 0 and is below the number of whole rows, however many those are.
 pub splits-exactly : (split words : ℕ) → (splits split words ≡ true) ↔ ((0 < split) × (split < words / 4))

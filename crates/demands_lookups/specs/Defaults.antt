@@ -27,7 +27,7 @@ use Rattle.defaults.specs.Defaults.{Source, heldIn, structsThen, rowIn, isWrita
 use Rattle.sources.proofs.Asking.{decimal-other, Agrees, agrees, card-of, card-by, defaults-of, defaults-by, unchanged, Some, of-card, of-defaults, past-refusals}
 use Rattle.meant.specs.Meant.{Meaning, Answers, whole-number, yes-or-no, decimal, text, datetime, binary, array, struct, other, Said, no-member, this-member, later-member, Answered, in-struct, no-struct}
 use Rattle.demands_writing.specs.Writing.{Words, form-derived, judged}
-use Rattle.demands.specs.Lookups.{table-says}
+use Rattle.demands_lookups.specs.Lookups.{table-says}
 
 -- E5's lookup
 abbrev pub looked : Source → List ℕ → Answer

@@ -1,0 +1,1 @@
+// What is demanded of job files, as statements over the definitions: see specs/.
