@@ -196,9 +196,9 @@ pub fn fill_known(
         output,
     );
     if n <= most {
-        output::clear(&mut output[n..]);
+        copying::clear(&mut output[n..]);
         return n;
     }
-    output::clear(output);
+    copying::clear(output);
     told(measure(table, room, rows, text, strings, firsts, spots))
 }

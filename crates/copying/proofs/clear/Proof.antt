@@ -1,10 +1,10 @@
 use lib.ListN.{length-set, length}
 use native.Mathlib.Omega.{arith}
 use borrow.Author.Needs.{needs}
-use Rattle.output.proofs.Putting.{putting, Clearing}
+use Rattle.copying.proofs.Clearing.{clearing, Clearing}
 use Prim.Native.Nat.{_-_}
-use Rattle.output.proofs.clear.Statement.{statement}
-use Rattle.output.proofs.clear.Tie as tie
+use Rattle.copying.proofs.clear.Statement.{statement}
+use Rattle.copying.proofs.clear.Tie as tie
 
 abbrev Inv-loop : tie.InvT-loop
 Inv-loop out₀ i₀ out i = Clearing out₀ i out
@@ -20,6 +20,6 @@ clear-spec = tie.close (tie.spec
     (λ c. search needs)  -- slice-write-out
     (λ c. search needs)  -- add-i
     (λ c. simp length-set (omega arith))  -- loop-less
-    (λ c. search putting)  -- loop-again
+    (λ c. search clearing)  -- loop-again
     (λ c. search needs)  -- same-length
-    (λ c. search putting))  -- returns
+    (λ c. search clearing))  -- returns

@@ -1,7 +1,7 @@
-use Rattle.output.proofs.Putting.{putting}
+use Rattle.copying.proofs.Copying.{copying}
 use borrow.Author.Needs.{needs}
-use Rattle.output.proofs.copy.Statement.{statement}
-use Rattle.output.proofs.copy.Tie as tie
+use Rattle.copying.proofs.copy.Statement.{statement}
+use Rattle.copying.proofs.copy.Tie as tie
 
 pub copy-spec : {M : Type 1} → statement M
 copy-spec = tie.close (tie.spec
@@ -15,4 +15,4 @@ copy-spec = tie.close (tie.spec
     (λ c. search needs)  -- sub-copy-eight
     (λ c κs. search needs)  -- copy-eight-requires-2
     (λ c. search needs)  -- same-length-3
-    (λ c. search putting))  -- returns-3
+    (λ c. search copying))  -- returns-3

@@ -1,9 +1,9 @@
 use lib.ListN.{length-set}
 use native.Mathlib.Omega.{arith}
-use Rattle.output.proofs.Putting.{putting}
+use Rattle.eight_bytes.proofs.Storing.{storing}
 use borrow.Author.Needs.{needs}
-use Rattle.output.proofs.copy_eight.Statement.{statement}
-use Rattle.output.proofs.copy_eight.Tie as tie
+use Rattle.eight_bytes.proofs.copy_eight.Statement.{statement}
+use Rattle.eight_bytes.proofs.copy_eight.Tie as tie
 
 pub copy-eight-spec : {M : Type 1} → statement M
 copy-eight-spec = tie.close (tie.spec
@@ -38,4 +38,4 @@ copy-eight-spec = tie.close (tie.spec
     (λ c. search needs)  -- add-out-7
     (λ c. simp length-set (omega arith))  -- slice-write-out-8
     (λ c. simp length-set)  -- same-length
-    (λ c. search putting))  -- returns
+    (λ c. search storing))  -- returns

@@ -1,9 +1,9 @@
 use borrow.Author.Needs.{needs}
-use Rattle.output.proofs.Putting.{putting, Copying}
+use Rattle.copying.proofs.Copying.{copying, Copying}
 use Prim.Native.Nat.{_-_}
 use lib.ListN.{length}
-use Rattle.output.proofs.copy_singly.Statement.{statement}
-use Rattle.output.proofs.copy_singly.Tie as tie
+use Rattle.copying.proofs.copy_singly.Statement.{statement}
+use Rattle.copying.proofs.copy_singly.Tie as tie
 
 abbrev Inv-loop : tie.InvT-loop
 Inv-loop out₀ t i₀ out i = Copying t out₀ i out
@@ -20,6 +20,6 @@ copy-singly-spec = tie.close (tie.spec
     (λ c. search needs)  -- slice-write-out
     (λ c. search needs)  -- add-i
     (λ c. search needs)  -- loop-less
-    (λ c. search putting)  -- loop-again
+    (λ c. search copying)  -- loop-again
     (λ c. search needs)  -- same-length
-    (λ c. search putting))  -- returns
+    (λ c. search copying))  -- returns
