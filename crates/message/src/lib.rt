@@ -42,7 +42,7 @@ fn row_length(
     if row.kind == 11 {
         return sending::string_length(table, room, text, strings, firsts, spots, j);
     }
-    encoding::item_length(text, row)
+    row_length::item_length(text, row)
 }
 
 // How many bytes the message has.

@@ -34,7 +34,7 @@ pub fn measure(
             j += 1;
             r += 1;
         } else {
-            sum += encoding::item_length(text, row);
+            sum += row_length::item_length(text, row);
             r += 1;
         }
     }

@@ -1,7 +1,7 @@
-use Rattle.encoding.proofs.Items.{items}
+use Rattle.row_item.proofs.Items.{items}
 use borrow.Author.Needs.{needs}
-use Rattle.encoding.proofs.put_item.Statement.{statement}
-use Rattle.encoding.proofs.put_item.Tie as tie
+use Rattle.row_item.proofs.put_item.Statement.{statement}
+use Rattle.row_item.proofs.put_item.Tie as tie
 
 pub put-item-spec : {M : Type 1} → statement M
 put-item-spec = tie.close (tie.spec
