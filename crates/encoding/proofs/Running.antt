@@ -22,7 +22,8 @@ use Rattle.draft.specs.Grammar.{Sent}
 use Rattle.draft.specs.Strings.{textsOf}
 use Rattle.draft.specs.Written.{bytesOf, itemBytes, itemsOf}
 use Rattle.buckets.proofs.Numbered.{from-step}
-use Rattle.output.specs.Contract.{Front, Tried}
+use Rattle.copying.specs.Contract.{Front}
+use Rattle.output.specs.Contract.{Tried}
 use Rattle.output.proofs.Putting.{front-on, front-long, lsb-four, counted-length}
 use Rattle.encoding.specs.Contract.{Between, Ran}
 

@@ -69,7 +69,7 @@ fn fill_prepared(
     if known {
         return message::fill_known(table, room, rows, text, strings, firsts, spots, output);
     }
-    output::clear(output);
+    copying::clear(output);
     message::TOO_LONG
 }
 

@@ -23,7 +23,7 @@ pub const MOST_BYTES: usize = 65536;
 fn refuse(output: &mut [u8], refusal: Refusal) -> Answer
     ensures { λ r. ⌜ RefusedWith refusal (now (output .entry)) (now (output .exit)) r ⌝ }
 {
-    output::clear(output);
+    copying::clear(output);
     Answer::Refused(refusal)
 }
 
@@ -120,10 +120,10 @@ fn fill(
     let most = most_of(room);
     let n = put_form(edition, table, rows, text, limit, most, output);
     if n <= most {
-        output::clear(&mut output[n..]);
+        copying::clear(&mut output[n..]);
         return Answer::Written { length: n };
     }
-    output::clear(output);
+    copying::clear(output);
     answer_for(n, room)
 }
 

@@ -24,7 +24,8 @@ use Rattle.positions.specs.Contract.{told, Ready as Told}
 use Rattle.buckets.proofs.Numbered.{from-step, from-none}
 use Rattle.buckets.proofs.Comparing.{text-short, through}
 use Rattle.positions.proofs.Choosing.{told-is}
-use Rattle.output.specs.Contract.{Front, Put, Tried}
+use Rattle.copying.specs.Contract.{Front}
+use Rattle.output.specs.Contract.{Put, Tried}
 use Rattle.output.proofs.Putting.{front-on, front-long, front-drop, front-take}
 use Rattle.encoding.specs.declared.Run.{Run}
 use Rattle.encoding.specs.Contract.{Between, Ran}

@@ -42,7 +42,7 @@ fn row_length(
     if row.kind == 11 {
         return sending::string_length(table, room, text, strings, firsts, spots, j);
     }
-    encoding::item_length(text, row)
+    row_length::item_length(text, row)
 }
 
 // How many bytes the message has.
@@ -196,9 +196,9 @@ pub fn fill_known(
         output,
     );
     if n <= most {
-        output::clear(&mut output[n..]);
+        copying::clear(&mut output[n..]);
         return n;
     }
-    output::clear(output);
+    copying::clear(output);
     told(measure(table, room, rows, text, strings, firsts, spots))
 }

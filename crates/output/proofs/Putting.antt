@@ -1,123 +1,13 @@
--- What answers the returns and turns of the functions that put bytes to the front of a lent output. Assumes nothing.
-use Prim.Native.Nat.{ℕ, zero, suc, _+_, _-_, _/_, _%_, _≤_, _<_}
+-- What answers the returns of the functions that put bytes to the front of a lent output. Assumes nothing.
+use Prim.Native.Nat.{ℕ, _+_, _-_, _/_, _%_, _≤_, _<_}
 use mathlib.Core.Path.{_≡_, refl, ap, _∙_}
 use mathlib.Core.List.{List, [], _∷_, _++_, append-assoc, append-nil}
 use native.Mathlib.Omega.{arith}
-use native.Mathlib.Numerals.{add-one}
-use lib.ListN.{length, getD, set, take, drop, replicate, length-set, length-append, length-drop, drop-of-length-le}
-use lib.Dec.{ltb}
-use borrow.Author.Tests.{ltb-true, ltb-false}
-use mathlib.Core.Bool.{Bool, true, false}
-use lib.Seq.{take-all, take-suc, drop-cons, set-at, drop-drop, take-at, drop-at, length-take-le}
-use borrow.Author.Fill.{fill-more}
+use lib.ListN.{length, set, take, drop, length-append, length-drop, drop-of-length-le}
+use lib.Seq.{take-all, drop-drop, take-at, drop-at}
 use Rattle.draft.specs.Written.{lsb, counted}
-use Rattle.output.specs.Contract.{Front, Put, Tried, eightAt}
-
--- i bytes of an output o are cleared
-pub record Clearing (o : List ℕ) (i : ℕ) (out : List ℕ) : Type 0 where
-  pub is : out ≡ replicate i 0 ++ drop i o
-  pub within : i ≤ length o
-  pub long : length out ≡ length o
-
-pub clear-first : (o : List ℕ) → Clearing o 0 o
-clear-first o = record { is = refl; within = omega arith; long = refl }
-
-module _ {o out : List ℕ} {i : ℕ} (c : Clearing o i out) where
-  pub clear-again : i < length out → Clearing o (i + 1) (set out i 0)
-  clear-again h =
-      record {
-        is = ap (λ (l : List ℕ). set l i 0) (c .is) ∙ fill-more i 0 o (omega (arith, c .long));
-        within = omega (arith, c .long);
-        long = length-set out i 0 ∙ c .long;
-      }
-
-  pub clear-done : length out ≤ i → out ≡ replicate (length o) 0
-  clear-done h =
-      let q : i ≡ length o = omega (arith, c .long, c .within) in
-      c .is ∙ rw (drop-of-length-le o {i = i} (omega (arith, c .long)), append-nil) (ap (λ (n : ℕ). replicate n 0) q)
-
--- i bytes of t stand in front of an output o
-pub record Copying (t o : List ℕ) (i : ℕ) (out : List ℕ) : Type 0 where
-  pub is : out ≡ take i t ++ drop i o
-  pub within : i ≤ length t
-  pub long : length out ≡ length o
-
-pub copy-first : (t o : List ℕ) → Copying t o 0 o
-copy-first t o = record { is = refl; within = omega arith; long = refl }
-
-module _ {t o out : List ℕ} {i : ℕ} (c : Copying t o i out) where
-  pub copy-again : length t ≤ length o → i < length t → Copying t o (i + 1) (set out i (getD t i 0))
-  copy-again m h =
-      record {
-        is = rw (add-one, c .is, drop-cons o i 0 (omega arith), set-at (take i t) (getD o i 0) (drop (suc i) o) (getD t i 0) i (length-take-le i t (omega arith)), take-suc t i 0 h, append-assoc);
-        within = omega arith;
-        long = length-set out i (getD t i 0) ∙ c .long;
-      }
-
-  pub copy-done : length t ≤ i → Front t o out
-  copy-done h =
-      let q : i ≡ length t = omega (arith, c .within) in
-      record { is = c .is ∙ rw (take-all i t h, q) }
-
--- a byte that was copied is copied again
-set-own : (l : List ℕ) (k : ℕ) {x : ℕ} → x ≡ getD l k 0 → set l k x ≡ l
-set-own [] k e = refl
-set-own (y ∷ l) zero e = rw e
-set-own (y ∷ l) (suc k) e = ap (λ (w : List ℕ). y ∷ w) (set-own l k e)
-
-copied : (t r : List ℕ) (i k : ℕ) → k < i → i ≤ length t → getD t k 0 ≡ getD (take i t ++ r) k 0
-copied [] r i k h l = absurd (omega arith)
-copied (x ∷ t) r zero k h l = absurd (omega arith)
-copied (x ∷ t) r (suc i) zero h l = refl
-copied (x ∷ t) r (suc i) (suc k) h l = copied t r i k (omega arith) (omega arith)
-
--- at least i bytes of t stand in front of an output o
-record Reaching (t o : List ℕ) (i : ℕ) (out : List ℕ) : Type 0 where
-  upto : ℕ
-  far : i ≤ upto
-  copying : Copying t o upto out
-
-module _ {t o : List ℕ} (m : length t ≤ length o) where
-  reach-next : (k : ℕ) {out : List ℕ} (next : ℕ) → next ≡ k + 1 → k < length t → Reaching t o k out → Reaching t o next (set out k (getD t k 0))
-  reach-next k {out} next e h r = go (r .upto) (r .far) (r .copying) (ltb k (r .upto)) refl
-    where
-      go : (j : ℕ) → k ≤ j → Copying t o j out → (b : Bool) → ltb k j ≡ b → Reaching t o next (set out k (getD t k 0))
-      go j l c true f =
-          let q : set out k (getD t k 0) ≡ out = set-own out k (rw (c .is) (copied t (drop j o) j k (ltb-true k j f) (c .within))) in
-          record { upto = j; far = omega (arith, ltb-true k j f); copying = rw q c }
-      go j l c false f =
-          let q : j ≡ k = omega (arith, ltb-false k j f) in
-          let d : Copying t o k out = rw q at c in
-          record { upto = k + 1; far = omega arith; copying = copy-again d m h }
-
-  reach-eight : (at : ℕ) {out : List ℕ} → at + 8 ≤ length t → Reaching t o at out → Reaching t o (at + 8) (eightAt t at out)
-  unfolding eightAt
-  reach-eight at h r =
-      reach-next (at + 7) (at + 8) (omega arith) (omega arith)
-      (reach-next (at + 6) (at + 7) (omega arith) (omega arith)
-      (reach-next (at + 5) (at + 6) (omega arith) (omega arith)
-      (reach-next (at + 4) (at + 5) (omega arith) (omega arith)
-      (reach-next (at + 3) (at + 4) (omega arith) (omega arith)
-      (reach-next (at + 2) (at + 3) (omega arith) (omega arith)
-      (reach-next (at + 1) (at + 2) (omega arith) (omega arith)
-      (reach-next at (at + 1) refl (omega arith) r)))))))
-
-  reach-from : {i j : ℕ} {out : List ℕ} → j ≤ i → Reaching t o i out → Reaching t o j out
-  reach-from h r = record { upto = r .upto; far = omega (arith, r .far); copying = r .copying }
-
-  reach-done : {i : ℕ} {out : List ℕ} → length t ≤ i → Reaching t o i out → Front t o out
-  reach-done h r = copy-done {i = r .upto} (r .copying) (omega (arith, r .far))
-
-  -- the first eight and the last
-  pub copy-both : {out out′ : List ℕ} → 8 ≤ length t → length t ≤ 16 → out ≡ eightAt t 0 o → out′ ≡ eightAt t (length t - 8) out → Front t o out′
-  copy-both {out} {out′} h l e f =
-      let a : Reaching t o 8 out = rw e (reach-eight 0 (omega arith) (record { upto = 0; far = omega arith; copying = copy-first t o })) in
-      let b : Reaching t o (length t - 8 + 8) out′ = rw f (reach-eight (length t - 8) (omega arith) (reach-from (omega arith) a)) in
-      reach-done (omega arith) b
-
-pub eight-at : (t : List ℕ) (at : ℕ) (out : List ℕ) → set (set (set (set (set (set (set (set out at (getD t at 0)) (at + 1) (getD t (at + 1) 0)) (at + 2) (getD t (at + 2) 0)) (at + 3) (getD t (at + 3) 0)) (at + 4) (getD t (at + 4) 0)) (at + 5) (getD t (at + 5) 0)) (at + 6) (getD t (at + 6) 0)) (at + 7) (getD t (at + 7) 0) ≡ eightAt t at out
-unfolding eightAt
-eight-at t at out = refl
+use Rattle.copying.specs.Contract.{Front}
+use Rattle.output.specs.Contract.{Put, Tried}
 
 -- stores at the front
 pub front-four : (n : ℕ) (out : List ℕ) → 4 ≤ length out → Front (lsb n) out (set (set (set (set out 0 (n % 256)) 1 (n / 256 % 256)) 2 (n / 65536 % 256)) 3 (n / 16777216 % 256))
@@ -197,7 +87,7 @@ module _ {o o₁ ys : List ℕ} {k : ℕ} where
     pub put-recorded : (t : List ℕ) → 6 + length t ≤ length o → Front (counted t) (take (length o₁ - 2) (drop 2 o₁)) ys → Put (b ∷ c ∷ counted t) o (take 2 o₁ ++ (ys ++ drop (length o₁ - 2) (drop 2 o₁))) (6 + length t)
     put-recorded t l g = two-on (counted t) (6 + length t) l (omega (arith, counted-length t)) g
 
-pub ruleset putting = (clear-first, clear-again, clear-done, copy-first, copy-again, copy-done, front-four, front-counted, put-one, put-two, put-number, put-long, put-short, put-recorded, copy-both, eight-at)
+pub ruleset putting = (front-four, front-counted, put-one, put-two, put-number, put-long, put-short, put-recorded)
 
 -- what was tried
 pub tried-put : {xs o o′ : List ℕ} {most n : ℕ} → Put xs o o′ n → Tried xs most o o′ n

@@ -1,74 +1,11 @@
 // Bytes, numbers and texts into a lent output. Each function that puts something puts its bytes to the front of the output that it is
 // lent, leaves the rest as it was, and answers how many bytes they are. One that tries puts them only if they are at most so many.
-ghost use mathlib.Core.Path.{_≡_};
 ghost use mathlib.Core.List.{[], _∷_};
 ghost use Prim.Native.Nat.{_+_, _≤_};
-ghost use lib.ListN.{length, replicate};
+ghost use lib.ListN.{length};
 ghost use Rattle.draft.specs.Written.{lsb, counted, size};
-ghost use Rattle.output.specs.Contract.{Front, Put, Tried, eightAt};
-
-// All bytes zero.
-pub fn clear(out: &mut [u8])
-    ensures { λ _. ⌜ now (out .exit) ≡ replicate (length (now (out .entry))) 0 ⌝ }
-{
-    let mut i = 0;
-    while i < out.len() {
-        out[i] = 0;
-        i += 1;
-    }
-}
-
-// Bytes to the front, one after the other.
-fn copy_singly(out: &mut [u8], t: &[u8])
-    requires { ⌜ length (now t) ≤ length (now out) ⌝ }
-    ensures { λ _. ⌜ Front (now (t .entry)) (now (out .entry)) (now (out .exit)) ⌝ }
-{
-    let mut i = 0;
-    while i < t.len() {
-        out[i] = t[i];
-        i += 1;
-    }
-}
-
-// The eight bytes at `at`, to the same place. Compiled, it is one load and one store.
-fn copy_eight(out: &mut [u8], t: &[u8], at: usize)
-    requires { ⌜ (at + 8 ≤ length (now t)) × (length (now t) ≤ length (now out)) ⌝ }
-    ensures { λ _. ⌜ now (out .exit) ≡ eightAt (now (t .entry)) at (now (out .entry)) ⌝ }
-{
-    let a = t[at];
-    let b = t[at + 1];
-    let c = t[at + 2];
-    let d = t[at + 3];
-    let e = t[at + 4];
-    let f = t[at + 5];
-    let g = t[at + 6];
-    let h = t[at + 7];
-    out[at] = a;
-    out[at + 1] = b;
-    out[at + 2] = c;
-    out[at + 3] = d;
-    out[at + 4] = e;
-    out[at + 5] = f;
-    out[at + 6] = g;
-    out[at + 7] = h;
-}
-
-// Bytes to the front. Most texts have 8 to 16: the first eight and the last are all of them, with no loop.
-fn copy(out: &mut [u8], t: &[u8])
-    requires { ⌜ length (now t) ≤ length (now out) ⌝ }
-    ensures { λ _. ⌜ Front (now (t .entry)) (now (out .entry)) (now (out .exit)) ⌝ }
-{
-    if t.len() < 8 {
-        copy_singly(out, t);
-        return;
-    }
-    if 16 < t.len() {
-        copy_singly(out, t);
-        return;
-    }
-    copy_eight(out, t, 0);
-    copy_eight(out, t, t.len() - 8);
-}
+ghost use Rattle.copying.specs.Contract.{Front};
+ghost use Rattle.output.specs.Contract.{Put, Tried};
 
 // A number as four bytes.
 fn put_four(out: &mut [u8], n: usize)
@@ -87,7 +24,7 @@ fn put_counted(out: &mut [u8], t: &[u8])
     ensures { λ _. ⌜ Front (counted (now (t .entry))) (now (out .entry)) (now (out .exit)) ⌝ }
 {
     put_four(out, t.len());
-    copy(&mut out[4..], t);
+    copying::copy(&mut out[4..], t);
 }
 
 // Bytes as they are.
@@ -95,7 +32,7 @@ pub fn put_bytes(out: &mut [u8], t: &[u8]) -> usize
     requires { ⌜ length (now t) ≤ length (now out) ⌝ }
     ensures { λ n. ⌜ Put (now (t .entry)) (now (out .entry)) (now (out .exit)) n ⌝ }
 {
-    copy(out, t);
+    copying::copy(out, t);
     t.len()
 }
 
@@ -132,7 +69,7 @@ fn put_short(out: &mut [u8], b: u8, t: &[u8]) -> usize
     ensures { λ n. ⌜ Put (b ∷ size (now (t .entry)) ∷ now (t .entry)) (now (out .entry)) (now (out .exit)) n ⌝ }
 {
     put_two(out, b, (t.len() % 256) as u8);
-    copy(&mut out[2..], t);
+    copying::copy(&mut out[2..], t);
     2 + t.len()
 }
 

@@ -18,7 +18,8 @@ use Rattle.extents.specs.Asked.{Ready}
 use Rattle.buckets.specs.Numbered.{textAt, Through}
 use Rattle.buckets.proofs.Numbered.{from-step, from-none}
 use Rattle.buckets.proofs.Comparing.{through}
-use Rattle.output.specs.Contract.{Front, Put}
+use Rattle.copying.specs.Contract.{Front}
+use Rattle.output.specs.Contract.{Put}
 use Rattle.output.proofs.Putting.{front-on, front-long}
 use Rattle.sending.specs.Contract.{Collected}
 use Rattle.sending.proofs.Collecting.{strings-there}

@@ -34,7 +34,7 @@ pub fn measure(
             j += 1;
             r += 1;
         } else {
-            sum += encoding::item_length(text, row);
+            sum += row_length::item_length(text, row);
             r += 1;
         }
     }
@@ -144,14 +144,14 @@ pub fn fill(
     ensures { λ m. ⌜ Filled (planned (now (text .entry)) (from (rowAt room (now (table .entry))) 0 rows) (now (plan .entry))) (now (output .entry)) (now (output .exit)) m ⌝ }
 {
     if message::MOST_BYTES < n {
-        output::clear(output);
+        copying::clear(output);
         return message::TOO_LONG;
     }
     if output.len() < n {
-        output::clear(output);
+        copying::clear(output);
         return n;
     }
     let at = put_message(table, room, rows, text, strings, plan, n, output);
-    output::clear(&mut output[at..]);
+    copying::clear(&mut output[at..]);
     n
 }

@@ -26,7 +26,7 @@ pub enum Answer {
 fn refuse(output: &mut [u8], refusal: Answer) -> Answer
     ensures { λ r. ⌜ RefusedWith refusal (now (output .entry)) (now (output .exit)) r ⌝ }
 {
-    output::clear(output);
+    copying::clear(output);
     refusal
 }
 

@@ -12,7 +12,7 @@ ghost use Rattle.writer.specs.Contract.{RefusedWith};
 fn refuse(output: &mut [u8], refusal: Refusal) -> Answer
     ensures { λ r. ⌜ RefusedWith refusal (now (output .entry)) (now (output .exit)) r ⌝ }
 {
-    output::clear(output);
+    copying::clear(output);
     Answer::Refused(refusal)
 }
 
