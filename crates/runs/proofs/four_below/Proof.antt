@@ -1,8 +1,8 @@
--- `ascii::four_below` meets its contract: four eights are 32 bytes. Assumes nothing.
+-- `runs::four_below` meets its contract: four eights are 32 bytes. Assumes nothing.
 use Rattle.text.proofs.Passing.{passing}
 use borrow.Author.Needs.{needs}
-use Rattle.ascii.proofs.four_below.Statement.{statement}
-use Rattle.ascii.proofs.four_below.Tie as tie
+use Rattle.runs.proofs.four_below.Statement.{statement}
+use Rattle.runs.proofs.four_below.Tie as tie
 
 pub four-below-spec : {M : Type 1} → statement M
 four-below-spec = tie.close (tie.spec

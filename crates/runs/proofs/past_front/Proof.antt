@@ -1,8 +1,8 @@
--- `ascii::past_front` meets its contract: one run after another. Assumes nothing.
+-- `runs::past_front` meets its contract: one run after another. Assumes nothing.
 use Rattle.text.proofs.Passing.{passing}
 use borrow.Author.Needs.{needs}
-use Rattle.ascii.proofs.past_front.Statement.{statement}
-use Rattle.ascii.proofs.past_front.Tie as tie
+use Rattle.runs.proofs.past_front.Statement.{statement}
+use Rattle.runs.proofs.past_front.Tie as tie
 
 pub past-front-spec : {M : Type 1} → statement M
 past-front-spec = tie.close (tie.spec

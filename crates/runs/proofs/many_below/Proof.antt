@@ -1,8 +1,8 @@
--- `ascii::many_below` meets its contract: eight eights are 64 bytes. Assumes nothing.
+-- `runs::many_below` meets its contract: eight eights are 64 bytes. Assumes nothing.
 use Rattle.text.proofs.Passing.{passing}
 use borrow.Author.Needs.{needs}
-use Rattle.ascii.proofs.many_below.Statement.{statement}
-use Rattle.ascii.proofs.many_below.Tie as tie
+use Rattle.runs.proofs.many_below.Statement.{statement}
+use Rattle.runs.proofs.many_below.Tie as tie
 
 pub many-below-spec : {M : Type 1} → statement M
 many-below-spec = tie.close (tie.spec

@@ -1,8 +1,8 @@
--- `ascii::past_run` meets its contract: eight bytes, and then runs. Assumes nothing.
+-- `runs::past_run` meets its contract: eight bytes, and then runs. Assumes nothing.
 use Rattle.text.proofs.Passing.{passing}
 use borrow.Author.Needs.{needs}
-use Rattle.ascii.proofs.past_run.Statement.{statement}
-use Rattle.ascii.proofs.past_run.Tie as tie
+use Rattle.runs.proofs.past_run.Statement.{statement}
+use Rattle.runs.proofs.past_run.Tie as tie
 
 pub past-run-spec : {M : Type 1} → statement M
 past-run-spec = tie.close (tie.spec

@@ -1,8 +1,8 @@
--- `ascii::few_below` meets its contract: one byte after another. Assumes nothing.
-use Rattle.ascii.proofs.Ends.{ending}
+-- `short_runs::few_below` meets its contract: one byte after another. Assumes nothing.
+use Rattle.short_runs.proofs.Ends.{ending}
 use borrow.Author.Needs.{needs}
-use Rattle.ascii.proofs.few_below.Statement.{statement}
-use Rattle.ascii.proofs.few_below.Tie as tie
+use Rattle.short_runs.proofs.few_below.Statement.{statement}
+use Rattle.short_runs.proofs.few_below.Tie as tie
 
 pub few-below-spec : {M : Type 1} → statement M
 few-below-spec = tie.close (tie.spec

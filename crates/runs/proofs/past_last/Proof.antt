@@ -1,8 +1,8 @@
--- `ascii::past_last` meets its contract: the last eight bytes have those that are left among them. Assumes nothing.
+-- `runs::past_last` meets its contract: the last eight bytes have those that are left among them. Assumes nothing.
 use Rattle.text.proofs.Passing.{passing}
 use borrow.Author.Needs.{needs}
-use Rattle.ascii.proofs.past_last.Statement.{statement}
-use Rattle.ascii.proofs.past_last.Tie as tie
+use Rattle.runs.proofs.past_last.Statement.{statement}
+use Rattle.runs.proofs.past_last.Tie as tie
 
 pub past-last-spec : {M : Type 1} → statement M
 past-last-spec = tie.close (tie.spec

@@ -1,8 +1,8 @@
--- `ascii::most_below` meets its contract: four times 64 are 256 bytes. Assumes nothing.
+-- `runs::most_below` meets its contract: four times 64 are 256 bytes. Assumes nothing.
 use Rattle.text.proofs.Passing.{passing}
 use borrow.Author.Needs.{needs}
-use Rattle.ascii.proofs.most_below.Statement.{statement}
-use Rattle.ascii.proofs.most_below.Tie as tie
+use Rattle.runs.proofs.most_below.Statement.{statement}
+use Rattle.runs.proofs.most_below.Tie as tie
 
 pub most-below-spec : {M : Type 1} → statement M
 most-below-spec = tie.close (tie.spec

@@ -1,8 +1,8 @@
--- `ascii::past_short` meets its contract: the first and the last bytes are all bytes. Assumes nothing.
-use Rattle.ascii.proofs.Ends.{ending}
+-- `short_runs::past_short` meets its contract: the first and the last bytes are all bytes. Assumes nothing.
+use Rattle.short_runs.proofs.Ends.{ending}
 use borrow.Author.Needs.{needs}
-use Rattle.ascii.proofs.past_short.Statement.{statement}
-use Rattle.ascii.proofs.past_short.Tie as tie
+use Rattle.short_runs.proofs.past_short.Statement.{statement}
+use Rattle.short_runs.proofs.past_short.Tie as tie
 
 pub past-short-spec : {M : Type 1} → statement M
 past-short-spec = tie.close (tie.spec
