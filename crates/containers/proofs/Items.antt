@@ -32,9 +32,9 @@ use Rattle.draft.specs.Read.{textOf}
 use Rattle.draft.specs.Writable.{Walk, floor, then, ruled, fit, closed, leaf, over, integerItem, contentItem, only, string, stringBy, pair, otherItem, arrayItem, structItem, item, items, alike, member, keeping, value, nested}
 use Rattle.keys.specs.Notes.{named, keysOf, Noted, Keeps, Joins}
 use Rattle.keys.proofs.Keeping.{keys-first, noted-move, keeps-none, keeps-then}
+use Rattle.row_ends.specs.Ends.{extentOf}
+use Rattle.row_ends.proofs.Ending.{none-found, some-found}
 use Rattle.extents.specs.Asked.{Ready}
-use Rattle.extents.specs.Ends.{extentOf}
-use Rattle.extents.proofs.Walking.{none-found, some-found}
 use Rattle.key_rows.specs.Contract.{Prepared, Walked, Done, KeyDone, KeyIf}
 use Rattle.key_rows.proofs.Keying.{until-one, no-end, fit-end, ruled-end, closed-end, content-end, only-end, string-end}
 use Rattle.containers.specs.Items.{holdsItems, entry, kept, entries}

@@ -33,9 +33,10 @@ use Rattle.draft.specs.Content.{nameRule}
 use Rattle.draft.specs.Bytes.{part}
 use Rattle.draft.specs.Read.{textOf}
 use Rattle.draft.specs.Writable.{Walk, Nest, floor, under, over, contentItem, string, stringBy, name, pair, arrayItem, structItem, item, value, nested}
-use Rattle.extents.specs.Ends.{extentOf}
+use Rattle.row_ends.specs.Ends.{extentOf}
+use Rattle.row_ends.proofs.Ending.{ending, none-found, some-found}
 use Rattle.extents.specs.Asked.{Checked, Known}
-use Rattle.extents.proofs.Walking.{walking, none-found, some-found, only-there, known-kind}
+use Rattle.extents.proofs.Walking.{walking, only-there, known-kind}
 use Rattle.containers.specs.Items.{holdsItems, entries}
 
 pub pair-no : (f g : Walk) (r : ℕ) {o : Extent} → o ≡ f r → o ≡ Unfit → Unfit ≡ pair f g r
@@ -224,4 +225,4 @@ module _ (row : ℕ → Row) (rows : ℕ) (s : List ℕ) where
   pub struct-here : (k : ℕ) (nest : Nest) (x : Row) (r : ℕ) {e : Extent} → k ≡ 10 → e ≡ item row rows s (itemOf k) nest x r → e ≡ structItem row rows s nest x r
   struct-here k nest x r h i = rw (item-struct h) at i
 
-pub ruleset nesting = (walking, pair-no, pair-on, row-text-is, holds-array, holds-struct, array-holds, struct-holds, string-there, name-no, name-bad, name-fine, scalar-is, scalar-known)
+pub ruleset nesting = (ending, walking, pair-no, pair-on, row-text-is, holds-array, holds-struct, array-holds, struct-holds, string-there, name-no, name-bad, name-fine, scalar-is, scalar-known)

@@ -14,8 +14,8 @@ ghost use Rattle.draft.specs.Rows.{itemOf};
 ghost use Rattle.draft.specs.Table.{rowAt};
 ghost use Rattle.draft.specs.Read.{textOf};
 ghost use Rattle.draft.specs.Writable.{contentItem, only, name, otherItem, item, value, nested, floor, pair, arrayItem, structItem};
+ghost use Rattle.row_ends.specs.Ends.{extentOf};
 ghost use Rattle.extents.specs.Asked.{Ready, Walkable};
-ghost use Rattle.extents.specs.Ends.{extentOf};
 ghost use Rattle.keys.specs.Notes.{named};
 ghost use Rattle.key_rows.specs.Contract.{Prepared, Done};
 ghost use Rattle.containers.specs.Items.{holdsItems as holdsItemsBy, entries};
@@ -77,7 +77,7 @@ fn walk_other(
     ensures { λ e. ⌜ extentOf e ≡ otherItem (rowAt room (now (table .entry))) rows (now (text .entry)) row r ⌝ }
 {
     let next = walk_name_and_binary(table, room, rows, text, good, r + 1);
-    extents::close_holding(2, row, next)
+    row_ends::close_holding(2, row, next)
 }
 
 // A Value that holds no others.
@@ -95,8 +95,8 @@ fn walk_scalar(
 {
     let item = draft::item_of(row.kind);
     match item {
-        Item::Integer => extents::walk_integer(row, r),
-        Item::Boolean => extents::walk_boolean(row, r),
+        Item::Integer => row_ends::walk_integer(row, r),
+        Item::Boolean => row_ends::walk_boolean(row, r),
         Item::Content(content) => extents::walk_content(text, content, row, r, good),
         Item::Other => walk_other(table, room, rows, text, good, row, r),
         Item::Array => 0,
@@ -150,7 +150,7 @@ fn walk_contents(
         r + 1,
         notes,
     );
-    extents::close_over(row, next)
+    row_ends::close_over(row, next)
 }
 
 // n items, one after the other, each behind its key if they have keys. Their Struct is known to the notes by the row where they begin.

@@ -1,83 +1,28 @@
--- What answers each return of the functions that walk items that hold no others, by tests of their rows. Assumes nothing.
+-- What answers each return of the functions that walk rows of content, by tests of them. Assumes nothing.
 use mathlib.Core.Path.{_≡_, refl, sym, _∙_}
-use mathlib.Core.Bool.{Bool, true, false, _&&_}
+use mathlib.Core.Bool.{Bool, true, false}
 use mathlib.Core.List.{List}
-use Prim.Native.Nat.{ℕ, zero, suc, _+_, _-_, _≤_, _<_}
+use Prim.Native.Nat.{ℕ, _+_, _-_, _≤_, _<_}
 use native.Mathlib.Omega.{arith}
 use lib.ListN.{length}
-use lib.Dec.{ltb, leb, eqb}
-use borrow.Author.Tests.{lt-ltb, le-ltb, le-leb, lt-leb, eq-eqb, ne-eqb, ltb-true, leb-true}
+use lib.Dec.{ltb}
+use borrow.Author.Tests.{lt-ltb, le-ltb, le-leb, lt-leb, eq-eqb, ne-eqb, ltb-true}
 use Rattle.draft.specs.declared.Refusal.{Refusal}
 use Rattle.draft.specs.declared.Verdict.{Verdict}
 use Rattle.draft.specs.declared.Verdict.the-variants.{Fine, Bad}
 use Rattle.draft.specs.declared.Content.{Content as ContentOf}
-use Rattle.draft.specs.declared.Content.the-variants.{Double, DateTime, Binary, Text}
+use Rattle.draft.specs.declared.Content.the-variants.{Binary, Text}
 use Rattle.draft.specs.declared.Extent.{Extent}
 use Rattle.draft.specs.declared.Extent.the-variants.{Until, Unfit}
 use Rattle.draft.specs.declared.Row.{Row}
-use Rattle.text.proofs.Comparing.{both, clash}
 use Rattle.draft.specs.Rows.{kindOf}
 use Rattle.draft.specs.Content.{contentRule, verdict}
-use Rattle.draft.specs.Writable.{fit, Walk, closed, leaf, holding, sized, contentItem, only, string, item}
-use Rattle.extents.specs.Asked.{Ready, Checked, isText, isBinary, checkedBefore, Known}
-use Rattle.extents.specs.Ends.{extentOf}
-
--- a test that was made
-module _ (a b : ℕ) (o : Extent) where
-  pub fit-eq : {e : Extent} → a ≡ b → e ≡ o → e ≡ fit (eqb a b) o
-  fit-eq h i = i ∙ rw (eq-eqb a b h)
-
-  pub fit-ne : (a ≡ b → ⊥) → Unfit ≡ fit (eqb a b) o
-  fit-ne h = rw (ne-eqb a b h)
-
-  pub fit-le : {e : Extent} → a ≤ b → e ≡ o → e ≡ fit (leb a b) o
-  fit-le h i = i ∙ rw (le-leb a b h)
-
-  pub fit-gt : b < a → Unfit ≡ fit (leb a b) o
-  fit-gt h = rw (lt-leb a b h)
-
--- an extent, by its number
-pub none-found : {n : ℕ} → n ≡ 0 → extentOf n ≡ Unfit
-none-found h = rw h
-
-pub some-found : {n : ℕ} → (n ≡ 0 → ⊥) → extentOf n ≡ Until n
-some-found {n = zero} h = absurd (h refl)
-some-found {n = suc n} h = refl
-
-pub next-found : (r : ℕ) → extentOf (r + 1) ≡ Until (r + 1)
-next-found r = some-found (λ e. omega arith)
-
--- where an item's row says that it ends
-module _ (x : Row) where
-  pub closed-there : (n : ℕ) → x .end ≡ n → extentOf n ≡ closed x (extentOf n)
-  closed-there zero h = refl
-  closed-there (suc n) h = rw (eq-eqb (x .end) (suc n) h)
-
-  pub closed-else : (n : ℕ) → (x .end ≡ n → ⊥) → Unfit ≡ closed x (extentOf n)
-  closed-else zero h = refl
-  closed-else (suc n) h = rw (ne-eqb (x .end) (suc n) h)
-
-  pub leaf-is : (r : ℕ) {e : Extent} → e ≡ closed x (extentOf (r + 1)) → e ≡ leaf x r
-  leaf-is r h = h ∙ rw (next-found r)
-
--- what an item holds, as it was walked
-pub holding-on : (x : Row) {o p e : Extent} → o ≡ p → (b : ℕ) → e ≡ holding b x o → e ≡ holding b x p
-holding-on x h b i = i ∙ rw h
+use Rattle.draft.specs.Writable.{Walk, leaf, sized, contentItem, only, string}
+use Rattle.asked.specs.Contents.{isBinary, checkedBefore}
+use Rattle.asked.proofs.Asking.{is-binary, before}
+use Rattle.extents.specs.Asked.{Ready, Checked, Known}
 
 -- content
-module _ {c : ContentOf} (n : ℕ) where
-  pub sized-double : c ≡ Double → leb n 255 ≡ sized c n
-  sized-double e = rw e
-
-  pub sized-date : c ≡ DateTime → leb n 255 ≡ sized c n
-  sized-date e = rw e
-
-  pub sized-binary : c ≡ Binary → true ≡ sized c n
-  sized-binary e = rw e
-
-  pub sized-text : c ≡ Text → true ≡ sized c n
-  sized-text e = rw e
-
 module _ (s : List ℕ) (c : ContentOf) (x : Row) (r : ℕ) {b : Bool} (h : b ≡ sized c (x .b)) where
   pub content-large : b ≡ false → Unfit ≡ contentItem s c x r
   unfolding contentItem
@@ -93,12 +38,6 @@ module _ (s : List ℕ) (c : ContentOf) (x : Row) (r : ℕ) {b : Bool} (h : b �
     content-fine k l = l ∙ rw (← h, i, ← j, k)
 
 -- a Binary, which has no rule
-is-binary : (c : ContentOf) → isBinary c ≡ true → c ≡ Binary
-is-binary Double e = clash e refl
-is-binary DateTime e = clash e refl
-is-binary Binary e = refl
-is-binary Text e = clash e refl
-
 module _ (s : List ℕ) (x : Row) (r : ℕ) where
   pub binary-past : length s < x .a → Unfit ≡ contentItem s Binary x r
   unfolding contentItem verdict contentRule
@@ -117,39 +56,6 @@ module _ (s : List ℕ) (x : Row) (r : ℕ) where
   content-binary c h i f = f ∙ rw (is-binary c (sym h ∙ i))
 
 -- content that was checked before
-module _ (c : ContentOf) (n r good : ℕ) where
-  pub checked-past : good ≤ r → false ≡ checkedBefore c n r good
-  unfolding checkedBefore
-  checked-past h = rw (le-ltb r good h)
-
-  module _ (h : r < good) where
-    pub checked-short : n < 512 → false ≡ checkedBefore c n r good
-    unfolding checkedBefore
-    checked-short l = rw (lt-ltb r good h, lt-leb 512 n l)
-
-    pub checked-is : {d : ContentOf} {b : Bool} → 512 ≤ n → c ≡ d → b ≡ isText d → b ≡ checkedBefore c n r good
-    unfolding checkedBefore
-    checked-is l e f = f ∙ rw (lt-ltb r good h, le-leb 512 n l, e)
-
--- such content is a String's, long, and stands before row `good`
-record Before (c : ContentOf) (n r good : ℕ) : Type 0 where
-  text : c ≡ Text
-  long : 512 ≤ n
-  row : r < good
-
-is-text : (c : ContentOf) → isText c ≡ true → c ≡ Text
-is-text Double e = clash e refl
-is-text DateTime e = clash e refl
-is-text Binary e = clash e refl
-is-text Text e = refl
-
-before : {c : ContentOf} {n r good : ℕ} → checkedBefore c n r good ≡ true → Before c n r good
-unfolding checkedBefore
-before {c} {n} {r} {good} e =
-    let p = both (ltb r good) (leb 512 n && isText c) e in
-    let q = both (leb 512 n) (isText c) (p .1) in
-    record { text = is-text c (q .1); long = leb-true 512 n (q .0); row = ltb-true r good (p .0) }
-
 pub content-known : (s : List ℕ) (c : ContentOf) (x : Row) (r : ℕ) {good : ℕ} {b : Bool} {e : Extent} → Known s c x r good → b ≡ checkedBefore c (x .b) r good → b ≡ true → e ≡ leaf x r → e ≡ contentItem s c x r
 unfolding contentItem
 content-known s c x r k h i l =
@@ -206,4 +112,4 @@ row-few h l = omega (arith, h .stated, h .most)
 pub row-room : {r rows room words : ℕ} → Ready rows room words → r < rows → r < room
 row-room h l = omega (arith, h .stated)
 
-pub ruleset walking = (fit-eq, fit-ne, fit-le, fit-gt, none-found, some-found, closed-there, closed-else, leaf-is, holding-on, sized-double, sized-date, sized-binary, sized-text, content-large, content-bad, content-fine, binary-past, binary-short, binary-there, content-binary, checked-past, checked-short, checked-is, content-known, known-only, only-past, only-not, only-else, only-here, only-there, string-is, row-few, row-room)
+pub ruleset walking = (content-large, content-bad, content-fine, binary-past, binary-short, binary-there, content-binary, content-known, known-only, only-past, only-not, only-else, only-here, only-there, string-is, row-few, row-room)

@@ -1,17 +1,17 @@
 -- What the functions that walk rows ask: of the table, and of long texts that were checked before. Assumes nothing.
 use mathlib.Core.Path.{_≡_}
-use mathlib.Core.Bool.{Bool, true, false, _&&_}
+use mathlib.Core.Bool.{true}
 use mathlib.Core.List.{List}
 use Prim.Native.Nat.{ℕ, _*_, _≤_, _<_}
 use lib.ListN.{length}
-use lib.Dec.{ltb, leb}
 use Rattle.draft.specs.declared.Verdict.the-variants.{Fine}
 use Rattle.draft.specs.declared.Content.{Content as ContentOf}
-use Rattle.draft.specs.declared.Content.the-variants.{Double, DateTime, Binary, Text}
+use Rattle.draft.specs.declared.Content.the-variants.{Text}
 use Rattle.draft.specs.declared.Row.{Row}
 use Rattle.draft.specs.Rows.{kindOf}
 use Rattle.draft.specs.Content.{verdict}
 use Rattle.draft.specs.Table.{rowAt}
+use Rattle.asked.specs.Contents.{checkedBefore}
 
 -- the table has room for the stated rows, and its words for that room
 pub record Ready (rows room words : ℕ) : Type 0 where
@@ -27,22 +27,6 @@ pub record Checked (row : ℕ → Row) (s : List ℕ) (good : ℕ) : Type 0 wher
 pub record Walkable (s : List ℕ) (room rows : ℕ) (T : List ℕ) (good : ℕ) : Type 0 where
   pub ready : Ready rows room (length T)
   pub checked : Checked (rowAt room T) s good
-
-abbrev pub isText : ContentOf → Bool
-isText Double = false
-isText DateTime = false
-isText Binary = false
-isText Text = true
-
-abbrev pub isBinary : ContentOf → Bool
-isBinary Double = false
-isBinary DateTime = false
-isBinary Binary = true
-isBinary Text = false
-
--- whether content of n bytes in row r was checked before
-unfoldable pub checkedBefore : ContentOf → ℕ → ℕ → ℕ → Bool
-checkedBefore c n r good = ltb r good && (leb 512 n && isText c)
 
 -- what walking the content of a row asks
 pub record Known (s : List ℕ) (c : ContentOf) (x : Row) (r good : ℕ) : Type 0 where

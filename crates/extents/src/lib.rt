@@ -1,103 +1,19 @@
-// The rows of items that hold no others: what each row must say, and that it ends where the next row begins. Here is also what a
-// row that holds others must say, once they are walked. A walk answers with the row behind what it walked, or 0 where that does not fit:
-// a number stays in a register where an enum would lie in memory. Long Strings in rows before row `good` were checked before.
+// The rows of content: it lies inside the text bytes and keeps its rule, and the row ends where the next begins. A walk answers with the row
+// behind what it walked, or 0 where that does not fit. Long Strings in rows before row `good` were checked before.
+use asked::is_binary;
+use asked::is_checked;
+use asked::sized;
 use draft::Content;
 use draft::Row;
 use draft::Verdict;
+use row_ends::walk_leaf;
 ghost use mathlib.Core.Path.{_≡_};
-ghost use Prim.Native.Nat.{_+_, _<_};
+ghost use Prim.Native.Nat.{_<_};
 ghost use Rattle.draft.specs.Rows.{kindOf};
 ghost use Rattle.draft.specs.Table.{rowAt};
-ghost use Rattle.draft.specs.Writable.{closed, leaf, over, holding, integerItem, booleanItem, sized as sizedBy, contentItem, only, string};
-ghost use Rattle.extents.specs.Asked.{Walkable, Known, isBinary, checkedBefore};
-ghost use Rattle.extents.specs.Ends.{extentOf};
-
-// A String of at least so many bytes is long: it may have been checked before.
-pub const LONG: u32 = 512;
-
-// What an item's row says of where it ends, against where what it holds does.
-fn close(row: Row, next: usize) -> usize
-    ensures { λ e. ⌜ extentOf e ≡ closed row (extentOf next) ⌝ }
-{
-    let end = row.end as usize;
-    if end == next { next } else { 0 }
-}
-
-pub fn close_over(row: Row, next: usize) -> usize
-    ensures { λ e. ⌜ extentOf e ≡ over row (extentOf next) ⌝ }
-{
-    if row.a == 0 { close(row, next) } else { 0 }
-}
-
-pub fn close_holding(b: u32, row: Row, next: usize) -> usize
-    ensures { λ e. ⌜ extentOf e ≡ holding b row (extentOf next) ⌝ }
-{
-    if row.b == b { close_over(row, next) } else { 0 }
-}
-
-// An item with nothing below it.
-fn walk_leaf(row: Row, r: usize) -> usize
-    requires { ⌜ r < 4096 ⌝ }
-    ensures { λ e. ⌜ extentOf e ≡ leaf row r ⌝ }
-{
-    close(row, r + 1)
-}
-
-pub fn walk_integer(row: Row, r: usize) -> usize
-    requires { ⌜ r < 4096 ⌝ }
-    ensures { λ e. ⌜ extentOf e ≡ integerItem row r ⌝ }
-{
-    if row.b == 0 { walk_leaf(row, r) } else { 0 }
-}
-
-pub fn walk_boolean(row: Row, r: usize) -> usize
-    requires { ⌜ r < 4096 ⌝ }
-    ensures { λ e. ⌜ extentOf e ≡ booleanItem row r ⌝ }
-{
-    if row.a <= 1 { walk_integer(row, r) } else { 0 }
-}
-
-// Whether a length goes into the item's field for it.
-fn sized(content: Content, n: u32) -> bool
-    ensures { λ b. ⌜ b ≡ sizedBy content n ⌝ }
-{
-    match content {
-        Content::Double => n <= 255,
-        Content::DateTime => n <= 255,
-        Content::Binary => true,
-        Content::Text => true,
-    }
-}
-
-// Whether content of n bytes in row r was checked before: a String of 512 bytes or more in a row before row `good`.
-fn is_checked(content: Content, n: u32, r: usize, good: usize) -> bool
-    ensures { λ b. ⌜ b ≡ checkedBefore content n r good ⌝ }
-{
-    if good <= r {
-        return false;
-    }
-    if n < LONG {
-        return false;
-    }
-    match content {
-        Content::Double => false,
-        Content::DateTime => false,
-        Content::Binary => false,
-        Content::Text => true,
-    }
-}
-
-// Whether content is a Binary's, which has no rule.
-fn is_binary(content: Content) -> bool
-    ensures { λ b. ⌜ b ≡ isBinary content ⌝ }
-{
-    match content {
-        Content::Double => false,
-        Content::DateTime => false,
-        Content::Binary => true,
-        Content::Text => false,
-    }
-}
+ghost use Rattle.draft.specs.Writable.{contentItem, only, string};
+ghost use Rattle.row_ends.specs.Ends.{extentOf};
+ghost use Rattle.extents.specs.Asked.{Walkable, Known};
 
 // A Binary, whose bytes only have to be there.
 fn walk_binary(text: &[u8], row: Row, r: usize) -> usize

@@ -13,8 +13,8 @@ use borrow.Author.Tests.{le-leb, lt-leb, ne-eqb}
 use Rattle.draft.specs.declared.Row.{Row}
 use Rattle.draft.specs.Table.{roomOf, rowAt}
 use Rattle.draft.specs.Writable.{wholly}
+use Rattle.row_ends.specs.Ends.{extentOf}
 use Rattle.extents.specs.Asked.{Ready, Checked, Walkable}
-use Rattle.extents.specs.Ends.{extentOf}
 use Rattle.keys.proofs.Keeping.{noted-blank}
 use Rattle.key_rows.specs.Contract.{Entries}
 use Rattle.glyph.specs.declared.Edition.{Edition}

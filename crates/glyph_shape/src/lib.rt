@@ -5,8 +5,8 @@ ghost use mathlib.Core.Path.{_≡_};
 ghost use Prim.Native.Nat.{_≤_};
 ghost use lib.ListN.{length, replicate};
 ghost use Rattle.draft.specs.Table.{rowAt};
+ghost use Rattle.row_ends.specs.Ends.{extentOf};
 ghost use Rattle.extents.specs.Asked.{Ready, Checked, Walkable};
-ghost use Rattle.extents.specs.Ends.{extentOf};
 ghost use Rattle.key_rows.specs.Contract.{Entries};
 ghost use Rattle.glyph_form.specs.Writable.{object, writable as writableBy};
 

@@ -11,9 +11,10 @@ use Rattle.draft.specs.declared.Extent.the-variants.{Unfit}
 use Rattle.draft.specs.declared.Row.{Row}
 use Rattle.draft.specs.Table.{rowAt}
 use Rattle.draft.specs.Writable.{holding, integerItem, booleanItem, contentItem}
+use Rattle.row_ends.specs.Ends.{extentOf}
+use Rattle.row_ends.proofs.Ending.{next-found}
 use Rattle.extents.specs.Asked.{Walkable, Known}
-use Rattle.extents.specs.Ends.{extentOf}
-use Rattle.extents.proofs.Walking.{next-found, known-only}
+use Rattle.extents.proofs.Walking.{known-only}
 use Rattle.glyph.specs.declared.Edition.the-variants.{New}
 use Rattle.glyph.specs.declared.Many.the-variants.{List as ListOf, Dict, Ordered}
 use Rattle.glyph.specs.declared.Three.the-variants.{Extension}

@@ -14,9 +14,9 @@ use Rattle.draft.specs.declared.Row.{Row}
 use Rattle.draft.specs.Strings.{Text as TextOf}
 use Rattle.draft.specs.Table.{rowAt}
 use Rattle.draft.specs.Writable.{Walk, closed, leaf, over, integerItem}
+use Rattle.row_ends.specs.Ends.{extentOf}
+use Rattle.row_ends.proofs.Ending.{none-found, some-found}
 use Rattle.extents.specs.Asked.{Walkable}
-use Rattle.extents.specs.Ends.{extentOf}
-use Rattle.extents.proofs.Walking.{none-found, some-found}
 use Rattle.keys.specs.Notes.{named, Noted}
 use Rattle.keys.proofs.Keeping.{noted-move, keeps-none, keeps-then}
 use Rattle.key_rows.specs.Contract.{Prepared, Walked, Done, KeyIf}

@@ -10,8 +10,8 @@ ghost use mathlib.Core.Path.{_≡_};
 ghost use mathlib.Core.Bool.{true};
 ghost use Prim.Native.Nat.{_+_, _<_};
 ghost use Rattle.draft.specs.Table.{rowAt};
+ghost use Rattle.row_ends.specs.Ends.{extentOf};
 ghost use Rattle.extents.specs.Asked.{Walkable};
-ghost use Rattle.extents.specs.Ends.{extentOf};
 ghost use Rattle.keys.specs.Notes.{named};
 ghost use Rattle.key_rows.specs.Contract.{Prepared, Done};
 ghost use Rattle.containers.specs.Items.{entries};
@@ -35,11 +35,11 @@ fn walk_leaf(
 {
     let kind = row.kind;
     match kind {
-        4 => extents::walk_integer(row, r),
-        5 => extents::walk_boolean(row, r),
+        4 => row_ends::walk_integer(row, r),
+        5 => row_ends::walk_boolean(row, r),
         8 => extents::walk_content(text, Content::Binary, row, r, good),
         11 => extents::walk_content(text, Content::Text, row, r, good),
-        13 => extents::close_holding(0, row, r + 1),
+        13 => row_ends::close_holding(0, row, r + 1),
         _ => 0,
     }
 }
@@ -79,7 +79,7 @@ fn walk_container(
             r + 1,
             notes,
         );
-        return extents::close_over(row, next);
+        return row_ends::close_over(row, next);
     }
     0
 }

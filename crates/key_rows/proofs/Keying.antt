@@ -19,8 +19,9 @@ use Rattle.draft.specs.Content.{badIf, keyRule, verdict}
 use Rattle.draft.specs.Table.{rowAt}
 use Rattle.draft.specs.Read.{textOf}
 use Rattle.draft.specs.Writable.{fit, ruled, closed, leaf, sized, contentItem, only, string, stringBy}
-use Rattle.extents.specs.Ends.{extentOf}
-use Rattle.extents.proofs.Walking.{none-found, some-found, only-there}
+use Rattle.row_ends.specs.Ends.{extentOf}
+use Rattle.row_ends.proofs.Ending.{none-found, some-found}
+use Rattle.extents.proofs.Walking.{only-there}
 use Rattle.keys.specs.Notes.{headOf, named, keysOf, joined, Rows, Entry, Placed, Added, Noting, Joins}
 use Rattle.keys.proofs.Chaining.{note-alone}
 use Rattle.key_rows.specs.Contract.{Prepared, Joined, KeyDone, KeyIf}

@@ -10,8 +10,8 @@ use Rattle.draft.specs.Table.{rowAt}
 use Rattle.draft.specs.Writable.{stringBy}
 use Rattle.draft.specs.declared.Extent.{Extent}
 use Rattle.draft.specs.declared.Extent.the-variants.{Until}
+use Rattle.row_ends.specs.Ends.{extentOf}
 use Rattle.extents.specs.Asked.{Ready, Checked}
-use Rattle.extents.specs.Ends.{extentOf}
 use Rattle.keys.specs.Notes.{named, keysOf, Noted, Keeps, Joins}
 
 -- the notes have an entry for each of the stated rows

@@ -16,7 +16,7 @@ fn is_fine(text: &[u8], row: Row, notes: &mut [u16]) -> bool
     if row.kind != 11 {
         return true;
     }
-    if row.b < extents::LONG {
+    if row.b < asked::LONG {
         return true;
     }
     let from = row.a as usize;

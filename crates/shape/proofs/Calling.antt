@@ -22,9 +22,10 @@ use Rattle.draft.specs.Table.{roomOf, rowAt, from}
 use Rattle.draft.specs.Content.{faultRule}
 use Rattle.draft.specs.Read.{heldRows}
 use Rattle.draft.specs.Writable.{only, string, structItem, item, nested, faultStruct, first, callOrResponse, wholly, writableWithin, writable, writableTo}
+use Rattle.row_ends.specs.Ends.{extentOf}
+use Rattle.row_ends.proofs.Ending.{none-found, some-found}
 use Rattle.extents.specs.Asked.{Ready, Checked, Walkable}
-use Rattle.extents.specs.Ends.{extentOf}
-use Rattle.extents.proofs.Walking.{none-found, some-found, only-there}
+use Rattle.extents.proofs.Walking.{only-there}
 use Rattle.keys.proofs.Keeping.{noted-blank, noted-move}
 use Rattle.key_rows.specs.Contract.{Entries, Prepared}
 use Rattle.key_rows.proofs.Keying.{string-end}

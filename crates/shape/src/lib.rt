@@ -6,8 +6,8 @@ ghost use Prim.Native.Nat.{_+_, _≤_, _<_};
 ghost use lib.ListN.{length, replicate};
 ghost use Rattle.draft.specs.Table.{rowAt};
 ghost use Rattle.draft.specs.Writable.{only, string, arrayItem, nested, pair, faultStruct, callOrResponse, writableTo, writable as writableBy};
+ghost use Rattle.row_ends.specs.Ends.{extentOf};
 ghost use Rattle.extents.specs.Asked.{Ready, Checked, Walkable};
-ghost use Rattle.extents.specs.Ends.{extentOf};
 ghost use Rattle.key_rows.specs.Contract.{Entries, Prepared};
 
 // The most bytes that the texts may lie in.
@@ -86,15 +86,15 @@ fn walk_call_or_response(
     match item {
         Item::Call => {
             let next = walk_method_and_array(table, room, rows, text, good, deep, r + 1, notes);
-            extents::close_holding(2, row, next)
+            row_ends::close_holding(2, row, next)
         }
         Item::Response => {
             let next = containers::walk_value(table, room, rows, text, good, deep, r + 1, notes);
-            extents::close_holding(1, row, next)
+            row_ends::close_holding(1, row, next)
         }
         Item::Fault => {
             let next = walk_fault_struct(table, room, rows, text, good, deep, r + 1, notes);
-            extents::close_holding(1, row, next)
+            row_ends::close_holding(1, row, next)
         }
         Item::Integer => 0,
         Item::Boolean => 0,

@@ -1,11 +1,11 @@
 // The text check: well-formed UTF-8 by RFC 3629, with runs of bytes below 128 passed eight at a time, and byte by byte; and that the
 // two answer the same. What a user calls assumes nothing.
 use ascii::is_single;
-use ascii::past_front;
-use ascii::past_more;
 use byte_classes::CLASSES;
 use characters::width_at;
 use eights::eight_below;
+use runs::past_front;
+use runs::past_more;
 use steps::STEPS;
 use steps::eight_steps;
 use steps::step;

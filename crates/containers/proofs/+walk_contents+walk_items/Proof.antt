@@ -15,8 +15,8 @@ use Rattle.containers.proofs.walk_items.Kinds as walk-items-kinds
 use Rattle.containers.proofs.+walk_contents+walk_items.Lts-walk_items as walk-items-lts
 use Rattle.containers.proofs.holds_items.Reads as holds-items-reads
 use Rattle.containers.proofs.walk_scalar.Reads as walk-scalar-reads
-use Rattle.extents.proofs.close_over.Reads as close-over-reads
 use Rattle.key_rows.proofs.walk_key_if.Reads as walk-key-if-reads
+use Rattle.row_ends.proofs.close_over.Reads as close-over-reads
 use Rattle.table.proofs.get_row.Reads as get-row-reads
 use Rattle.containers.proofs.+walk_contents+walk_items.{statement}
 use Rattle.containers.proofs.+walk_contents+walk_items.Tie.{close}

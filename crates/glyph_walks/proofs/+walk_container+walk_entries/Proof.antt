@@ -15,12 +15,12 @@ use Rattle.glyph_walks.proofs.+walk_container+walk_entries.Lts-walk_con
 use Rattle.glyph_walks.proofs.walk_entries.Reads as walk-entries
 use Rattle.glyph_walks.proofs.walk_entries.Kinds as walk-entries-kinds
 use Rattle.glyph_walks.proofs.+walk_container+walk_entries.Lts-walk_entries as walk-entries-lts
-use Rattle.extents.proofs.close_over.Reads as close-over-reads
 use Rattle.glyph_rows.proofs.holds.Reads as holds-reads
 use Rattle.glyph_rows.proofs.is_dict.Reads as is-dict-reads
 use Rattle.glyph_rows.proofs.may_hold.Reads as may-hold-reads
 use Rattle.glyph_walks.proofs.walk_leaf.Reads as walk-leaf-reads
 use Rattle.key_rows.proofs.dict_key_if.Reads as dict-key-if-reads
+use Rattle.row_ends.proofs.close_over.Reads as close-over-reads
 use Rattle.table.proofs.get_row.Reads as get-row-reads
 use Rattle.glyph_walks.proofs.+walk_container+walk_entries.{statement}
 use Rattle.glyph_walks.proofs.+walk_container+walk_entries.Tie.{close}
