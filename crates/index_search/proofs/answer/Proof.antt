@@ -1,7 +1,7 @@
-use Rattle.index.proofs.Stepping.{answering}
+use Rattle.index_search.proofs.Stepping.{answering}
 use borrow.Author.Needs.{needs}
-use Rattle.index.proofs.answer.Statement.{statement}
-use Rattle.index.proofs.answer.Tie as tie
+use Rattle.index_search.proofs.answer.Statement.{statement}
+use Rattle.index_search.proofs.answer.Tie as tie
 
 pub answer-spec : {M : Type 1} → statement M
 answer-spec = tie.close (tie.spec

@@ -1,7 +1,7 @@
-use Rattle.index.proofs.Stepping.{asking}
+use Rattle.index_search.proofs.Stepping.{asking}
 use borrow.Author.Needs.{needs}
-use Rattle.index.proofs.start_of.Statement.{statement}
-use Rattle.index.proofs.start_of.Tie as tie
+use Rattle.index_search.proofs.start_of.Statement.{statement}
+use Rattle.index_search.proofs.start_of.Tie as tie
 
 pub start-of-spec : {M : Type 1} → statement M
 start-of-spec = tie.close (tie.spec

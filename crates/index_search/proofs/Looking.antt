@@ -17,8 +17,8 @@ use Rattle.lookup.specs.Answers.{pick}
 use Rattle.seeking.specs.declared.Search.{Search}
 use Rattle.seeking.specs.Seeking.{over, begun, unused}
 use Rattle.seeking.proofs.Narrowing.{Seeking, seeking-first, seeking-next, seeking-done}
-use Rattle.index.specs.declared.Question.{Question}
-use Rattle.index.specs.Through.{itsRelation, itsMember, foundRow, rowAnswer, throughIf, through, keyAt, reportsOf, judgement, judgedOf, questionAt, asks, keyOf, Rightly, stepFor, answerFor, answered}
+use Rattle.index_search.specs.declared.Question.{Question}
+use Rattle.index_search.specs.Through.{itsRelation, itsMember, foundRow, rowAnswer, throughIf, through, keyAt, reportsOf, judgement, judgedOf, questionAt, asks, keyOf, Rightly, stepFor, answerFor, answered}
 
 module _ (T s keys : List ℕ) (q : Question) (es : List Member) where
   -- where the search stands, `left` steps from its end

@@ -25,9 +25,9 @@ use Rattle.lookup.proofs.Looking.{rows-stated, room-most, room-inside}
 use Rattle.seeking.specs.declared.Search.{Search}
 use Rattle.seeking.specs.Seeking.{between, ended, turned, stepped}
 use Rattle.sorting.specs.Sorting.{keyText}
-use Rattle.index.specs.declared.Question.{Question}
-use Rattle.index.specs.Through.{relationTo, isMember, verified, startOf, judgement, questionOf, judgedOf, questionAt, Rightly, rowAnswer, stepFor, answerFor}
 use Rattle.index.proofs.Storing.{getD-past}
+use Rattle.index_search.specs.declared.Question.{Question}
+use Rattle.index_search.specs.Through.{relationTo, isMember, verified, startOf, judgement, questionOf, judgedOf, questionAt, Rightly, rowAnswer, stepFor, answerFor}
 
 -- ---- how an entry stands
 

@@ -1,7 +1,7 @@
-use Rattle.index.proofs.Stepping.{stepping}
+use Rattle.index_search.proofs.Stepping.{stepping}
 use borrow.Author.Needs.{needs}
-use Rattle.index.proofs.step_in.Statement.{statement}
-use Rattle.index.proofs.step_in.Tie as tie
+use Rattle.index_search.proofs.step_in.Statement.{statement}
+use Rattle.index_search.proofs.step_in.Tie as tie
 
 pub step-in-spec : {M : Type 1} → statement M
 step-in-spec = tie.close (tie.spec

@@ -28,10 +28,11 @@ use Rattle.seeking.specs.Seeking.{over, begun, unused, searched}
 use Rattle.seeking.proofs.Finding.{Outcome, nothing, found, any-list, InOrder, Sought, none, hit, in-order-finds}
 use Rattle.sorting.specs.Sorting.{keyText, sorted, Rising}
 use Rattle.sorting.proofs.Inserting.{before-not, sorted-rising, sorted-length, times, times-sorted, Stands, stands, times-at}
 use Rattle.index.specs.Filling.{keyRows, refusalIn, orderIn, refusalOf, orderOf, entryOf, entries}
-use Rattle.index.specs.Through.{relationTo, isMember, foundRow, rowAnswer, throughIf, through}
+use Rattle.index.proofs.Arranging.{rows-length}
 use Rattle.index.proofs.Storing.{getD-past, entry-here}
-use Rattle.index.proofs.Members.{KeyRow, rows-length, key-row, of-key-row, apart-once, once-apart, Distinct, same-row, found-at, found-none}
+use Rattle.index_search.specs.Through.{relationTo, isMember, foundRow, rowAnswer, throughIf, through}
+use Rattle.index_search.proofs.Members.{KeyRow, key-row, of-key-row, apart-once, once-apart, Distinct, same-row, found-at, found-none}
 
 -- ---- entries
 

@@ -1,7 +1,7 @@
-use Rattle.index.proofs.Stepping.{relating}
+use Rattle.index_search.proofs.Stepping.{relating}
 use borrow.Author.Needs.{needs}
-use Rattle.index.proofs.verify.Statement.{statement}
-use Rattle.index.proofs.verify.Tie as tie
+use Rattle.index_search.proofs.verify.Statement.{statement}
+use Rattle.index_search.proofs.verify.Tie as tie
 
 pub verify-spec : {M : Type 1} → statement M
 verify-spec = tie.close (tie.spec

@@ -15,18 +15,13 @@ use Rattle.member.specs.declared.Found.the-variants.{At, Absent}
 use Rattle.member.specs.Members.{memberOf, hasKey, keysOf, find, sameMember, isAmong}
 use Rattle.member.proofs.Apart.{Apart, none-apart, and-apart}
 use Rattle.sorting.proofs.Inserting.{times, times-at, Stands, stands}
 use Rattle.index.specs.Filling.{keyRows}
 
 -- a key row, and what is known of it
 pub record KeyRow (rows : ℕ) (ms : List Member) (k : ℕ) : Type 0 where
   pub low : 1 ≤ k
   pub inside : k + 1 < rows
   pub among : isAmong (memberOf k (k + 1)) ms ≡ true
-
-pub rows-length : (ms : List Member) → length (keyRows ms) ≡ length ms
-unfolding keyRows
-rows-length [] = refl
-rows-length (m ∷ ms) = ap suc (rows-length ms)
 
 same-one : (k : ℕ) → sameMember (memberOf k (k + 1)) (memberOf k (k + 1)) ≡ true
 unfolding sameMember

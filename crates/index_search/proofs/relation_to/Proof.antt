@@ -1,7 +1,7 @@
-use Rattle.index.proofs.Stepping.{relating}
+use Rattle.index_search.proofs.Stepping.{relating}
 use borrow.Author.Needs.{needs}
-use Rattle.index.proofs.relation_to.Statement.{statement}
-use Rattle.index.proofs.relation_to.Tie as tie
+use Rattle.index_search.proofs.relation_to.Statement.{statement}
+use Rattle.index_search.proofs.relation_to.Tie as tie
 
 pub relation-to-spec : {M : Type 1} → statement M
 relation-to-spec = tie.close (tie.spec

@@ -1,7 +1,7 @@
-use Rattle.index.proofs.Stepping.{judged}
+use Rattle.index_search.proofs.Stepping.{judged}
 use borrow.Author.Needs.{needs}
-use Rattle.index.proofs.step.Statement.{statement}
-use Rattle.index.proofs.step.Tie as tie
+use Rattle.index_search.proofs.step.Statement.{statement}
+use Rattle.index_search.proofs.step.Tie as tie
 
 pub step-spec : {M : Type 1} → statement M
 step-spec = tie.close (tie.spec

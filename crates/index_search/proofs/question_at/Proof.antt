@@ -1,7 +1,7 @@
-use Rattle.index.proofs.Stepping.{asking}
+use Rattle.index_search.proofs.Stepping.{asking}
 use borrow.Author.Needs.{needs}
-use Rattle.index.proofs.question_at.Statement.{statement}
-use Rattle.index.proofs.question_at.Tie as tie
+use Rattle.index_search.proofs.question_at.Statement.{statement}
+use Rattle.index_search.proofs.question_at.Tie as tie
 
 pub question-at-spec : {M : Type 1} → statement M
 question-at-spec = tie.close (tie.spec

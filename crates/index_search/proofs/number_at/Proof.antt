@@ -1,8 +1,8 @@
-use Rattle.index.proofs.Stepping.{asking}
+use Rattle.index_search.proofs.Stepping.{asking}
 use native.Mathlib.Omega.{arith}
 use borrow.Author.Needs.{needs}
-use Rattle.index.proofs.number_at.Statement.{statement}
-use Rattle.index.proofs.number_at.Tie as tie
+use Rattle.index_search.proofs.number_at.Statement.{statement}
+use Rattle.index_search.proofs.number_at.Tie as tie
 
 pub number-at-spec : {M : Type 1} → statement M
 number-at-spec = tie.close (tie.spec

@@ -1,7 +1,7 @@
-use Rattle.index.proofs.Stepping.{answering}
+use Rattle.index_search.proofs.Stepping.{answering}
 use borrow.Author.Needs.{needs}
-use Rattle.index.proofs.report.Statement.{statement}
-use Rattle.index.proofs.report.Tie as tie
+use Rattle.index_search.proofs.report.Statement.{statement}
+use Rattle.index_search.proofs.report.Tie as tie
 
 pub report-spec : {M : Type 1} → statement M
 report-spec = tie.close (tie.spec

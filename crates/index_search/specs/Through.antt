@@ -24,7 +24,7 @@ use Rattle.lookup.specs.Reports.{reportOf}
 use Rattle.seeking.specs.declared.Search.{Search}
 use Rattle.seeking.specs.Seeking.{ended, pick as pickSearch, begun, stepped, searched}
 use Rattle.sorting.specs.Sorting.{keyText}
-use Rattle.index.specs.declared.Question.{Question}
+use Rattle.index_search.specs.declared.Question.{Question}
 
 -- how the text of an entry's key stands to a key; an unused entry counts as after every key
 unfoldable pub relationTo : ℕ → (ℕ → Row) → List ℕ → List ℕ → Member → Relation

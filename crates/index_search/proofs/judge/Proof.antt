@@ -1,7 +1,7 @@
-use Rattle.index.proofs.Stepping.{asking}
+use Rattle.index_search.proofs.Stepping.{asking}
 use borrow.Author.Needs.{needs}
-use Rattle.index.proofs.judge.Statement.{statement}
-use Rattle.index.proofs.judge.Tie as tie
+use Rattle.index_search.proofs.judge.Statement.{statement}
+use Rattle.index_search.proofs.judge.Tie as tie
 
 pub judge-spec : {M : Type 1} → statement M
 judge-spec = tie.close (tie.spec
