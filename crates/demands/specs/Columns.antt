@@ -45,8 +45,8 @@ use Rattle.lookup.specs.Reports.{reportOf}
 use Rattle.position.specs.Placing.{position}
 use Rattle.member.specs.declared.Member.{Member}
 use Rattle.index.specs.Filling.{refusalOf, orderOf, entries, Filled}
-use Rattle.index.specs.Through.{foundRow, rowAnswer, throughIf, through, keyAt, reportsOf}
-use Rattle.index.proofs.Theorems.{getD-from}
+use Rattle.index_search.specs.Through.{foundRow, rowAnswer, throughIf, through, keyAt, reportsOf}
+use Rattle.index_search.proofs.Theorems.{getD-from}
 use Rattle.defaults.specs.Defaults.{Source, chosen}
 use Rattle.layouts.specs.Layouts.{Layout, byRows, Lays, setRowBy, putRowsBy, rowBy, tableBy, FitsIn, SameRows, turned}
 use Rattle.layouts.specs.Asking.{rowsBy, writableBy, writeBy, writtenBy, planBy, plannedBy, certifiedBy, lookupBy, positionBy, refusalBy, orderBy, foundRowBy, rowAnswerBy, throughBy, chosenBy}

@@ -31,8 +31,8 @@ use Rattle.lookup.specs.Reports.{reportOf}
 use Rattle.lookup.proofs.Looking.{rows-stated, room-most}
 use Rattle.seeking.specs.Seeking.{unused}
 use Rattle.index.specs.Filling.{refusalIn, refusalOf, orderOf, entries, Filled}
-use Rattle.index.specs.Through.{throughIf, through, keyAt, reportsOf}
-use Rattle.index.proofs.Theorems as index
+use Rattle.index_search.specs.Through.{throughIf, through, keyAt, reportsOf}
+use Rattle.index_search.proofs.Theorems as index
 use Rattle.meant.proofs.Saying.{standing}
 use Rattle.meant.proofs.Only.{members-stand}
 use Rattle.demands_writing.specs.Writing.{Words, form-derived, judged}

@@ -19,7 +19,7 @@ pub fn read_name(s: &[u8], at: usize, row: usize, room: usize, table: &mut [u32]
     if s[at] != b'u' {
         return glyph_item::refuse(Refusal::UnexpectedByte, at);
     }
-    glyph_leaves::read_unicode(s, at, row, room, table)
+    glyph_texts::read_unicode(s, at, row, room, table)
 }
 
 // The key at `at`, for the dict whose first key has the row `owner`. One that came before in its dict is refused at its place.

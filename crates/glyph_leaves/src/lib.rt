@@ -1,21 +1,15 @@
-// Reading the glyph objects without children: integers, unicode and bytearrays, T, F and N.
+// Reading the glyph objects without children by their letters: integers, unicode and bytearrays, T, F and N.
 // Assumes that the place is in the message and the rows fit the table.
 use glyph::Leaf;
 use glyph::Refusal;
 use item::Step;
-ghost use mathlib.Core.Path.{_≡_};
-ghost use mathlib.Core.Bool.{true};
-ghost use Prim.Native.Nat.{_+_, _≤_, _<_};
+ghost use Prim.Native.Nat.{_+_, _<_};
 ghost use lib.ListN.{length, getD};
-ghost use Rattle.text.specs.Utf8.{wellFormed};
-ghost use Rattle.draft.specs.Bytes.{part};
-ghost use Rattle.glyph.specs.Numbers.{digits, inRange, word};
-ghost use Rattle.glyph.specs.Read.{opened, single, numberFrom, integer, content, lengthened, text, textKind, goodText, leafOf};
+ghost use Rattle.glyph.specs.Read.{opened, single, leafOf};
 ghost use Rattle.item.specs.Contract.{Fitting};
 ghost use Rattle.glyph_bytes.specs.Leafs.{leafBy};
 ghost use Rattle.glyph_item.specs.Contract.{Did};
-ghost use Rattle.glyph_leaves.specs.Signs.{Signed, Slots};
-ghost use Rattle.glyph_leaves.specs.Plain.{Plain};
+ghost use Rattle.glyph_integers.specs.Signs.{Slots};
 
 // A letter and `;`.
 fn read_single(
@@ -39,231 +33,6 @@ fn read_single(
     item::put_leaf(row, at + 2, kind, a, 0, room, table)
 }
 
-// Whether a number with this sign has 32 bits.
-fn in_range(minus: bool, value: usize) -> bool
-    ensures { λ r. ⌜ r ≡ inRange minus value ⌝ }
-{
-    if minus {
-        return value <= 2147483648;
-    }
-    value <= 2147483647
-}
-
-// Its 32 bits.
-fn word_of(minus: bool, value: usize) -> u32
-    requires { ⌜ value ≤ 2147483648 ⌝ }
-    ensures { λ r. ⌜ r ≡ word minus value ⌝ }
-{
-    if minus {
-        if value == 0 {
-            return 0;
-        }
-        return (4294967296 - value) as u32;
-    }
-    value as u32
-}
-
-// The sign at a place, if one stands there.
-pub struct Sign {
-    pub minus: bool,
-    pub size: usize,
-}
-
-fn sign_of(b: u8) -> Sign
-    ensures { λ r. ⌜ Signed b (r .minus) (r .size) ⌝ }
-{
-    match b {
-        b'-' => Sign {
-            minus: true,
-            size: 1,
-        },
-        b'+' => Sign {
-            minus: false,
-            size: 1,
-        },
-        _ => Sign {
-            minus: false,
-            size: 0,
-        },
-    }
-}
-
-// The integer at `at` whose digits begin at `from`.
-fn read_number(
-    s: &[u8],
-    at: usize,
-    row: usize,
-    minus: bool,
-    from: usize,
-    room: usize,
-    table: &mut [u32],
-) -> Step
-    requires { ⌜ (at < from) × (from ≤ length (now s)) × Slots row room (length (now s)) (length (now table)) ⌝ }
-    ensures { λ r. ⌜ Did (numberFrom (now (s .entry)) minus from at row) (length (now (s .entry))) room (at + 1) row (now (table .entry)) (now (table .exit)) r ⌝ }
-{
-    let number = glyph_bytes::count(s, from);
-    let end = number.end;
-    let value = number.value;
-    if s.len() <= end {
-        return glyph_item::refuse(Refusal::Ended, at);
-    }
-    if end <= from {
-        return glyph_item::refuse(Refusal::UnexpectedByte, at);
-    }
-    if s[end] != b';' {
-        return glyph_item::refuse(Refusal::UnexpectedByte, at);
-    }
-    if in_range(minus, value) {
-        item::put_leaf(row, end + 1, 4, word_of(minus, value), 0, room, table)
-    } else {
-        glyph_item::refuse(Refusal::OutOfRange, at)
-    }
-}
-
-// A letter, an optional sign, digits and `;`.
-fn read_integer(s: &[u8], at: usize, row: usize, room: usize, table: &mut [u32]) -> Step
-    requires { ⌜ (at < length (now s)) × Slots row room (length (now s)) (length (now table)) ⌝ }
-    ensures { λ r. ⌜ Did (integer (now (s .entry)) at row) (length (now (s .entry))) room (at + 1) row (now (table .entry)) (now (table .exit)) r ⌝ }
-{
-    if s.len() <= at + 1 {
-        return glyph_item::refuse(Refusal::Ended, at);
-    }
-    let sign = sign_of(s[at + 1]);
-    read_number(s, at, row, sign.minus, at + 1 + sign.size, room, table)
-}
-
-// Whether the n bytes at o are below 128, so far as a look at sixteen bytes tells: at the eight before their end, and at their first eight if
-// they are more. Of fewer than eight some that stand before them are looked at too.
-fn is_plain(s: &[u8], o: usize, n: usize) -> bool
-    requires { ⌜ o + n ≤ length (now s) ⌝ }
-    ensures { λ r. ⌜ Plain (now (s .entry)) o n r ⌝ }
-{
-    let end = o + n;
-    if end < 8 {
-        return false;
-    }
-    if n <= 8 {
-        return eights::eight_below(s, end - 8);
-    }
-    if n <= 16 {
-        return eights::eight_below(s, end - 8) & eights::eight_below(s, o);
-    }
-    false
-}
-
-// Whether the n bytes at o are UTF-8. The loop by itself is called, since `is_utf8` is to have one caller, in which it is compiled.
-fn is_text(s: &[u8], o: usize, n: usize) -> bool
-    requires { ⌜ o + n ≤ length (now s) ⌝ }
-    ensures { λ r. ⌜ r ≡ wellFormed (part (now (s .entry)) o n) ⌝ }
-{
-    if is_plain(s, o, n) {
-        return true;
-    }
-    text_check::walk_from(content::part(s, o, n), 0)
-}
-
-// Whether content, the n bytes at o, is well-formed: a bytearray's always is.
-fn is_good(unicode: bool, s: &[u8], o: usize, n: usize) -> bool
-    requires { ⌜ o + n ≤ length (now s) ⌝ }
-    ensures { λ r. ⌜ r ≡ goodText unicode (part (now (s .entry)) o n) ⌝ }
-{
-    if unicode {
-        return is_text(s, o, n);
-    }
-    true
-}
-
-fn text_kind(unicode: bool) -> u32
-    ensures { λ r. ⌜ r ≡ textKind unicode ⌝ }
-{
-    if unicode { 11 } else { 8 }
-}
-
-// The content of the item at `at`, n bytes at o and `;`.
-fn read_content(
-    s: &[u8],
-    at: usize,
-    row: usize,
-    unicode: bool,
-    o: usize,
-    n: usize,
-    room: usize,
-    table: &mut [u32],
-) -> Step
-    requires { ⌜ (at < o) × (o ≤ length (now s)) × (n ≤ 2147483649) × Slots row room (length (now s)) (length (now table)) ⌝ }
-    ensures { λ r. ⌜ Did (content (now (s .entry)) unicode o n at row) (length (now (s .entry))) room (at + 1) row (now (table .entry)) (now (table .exit)) r ⌝ }
-{
-    let end = o + n;
-    if s.len() <= end {
-        return glyph_item::refuse(Refusal::Ended, at);
-    }
-    if s[end] != b';' {
-        return glyph_item::refuse(Refusal::UnexpectedByte, at);
-    }
-    if is_good(unicode, s, o, n) {
-        item::put_leaf(
-            row,
-            end + 1,
-            text_kind(unicode),
-            o as u32,
-            n as u32,
-            room,
-            table,
-        )
-    } else {
-        glyph_item::refuse(Refusal::BadText, at)
-    }
-}
-
-// A length, `:` and the content.
-fn read_lengthened(
-    s: &[u8],
-    at: usize,
-    row: usize,
-    unicode: bool,
-    room: usize,
-    table: &mut [u32],
-) -> Step
-    requires { ⌜ (at < length (now s)) × Slots row room (length (now s)) (length (now table)) ⌝ }
-    ensures { λ r. ⌜ Did (lengthened (now (s .entry)) unicode at row) (length (now (s .entry))) room (at + 1) row (now (table .entry)) (now (table .exit)) r ⌝ }
-{
-    let number = glyph_bytes::count(s, at + 1);
-    let end = number.end;
-    if s.len() <= end {
-        return glyph_item::refuse(Refusal::Ended, at);
-    }
-    if end <= at + 1 {
-        return glyph_item::refuse(Refusal::UnexpectedByte, at);
-    }
-    if s[end] != b':' {
-        return glyph_item::refuse(Refusal::UnexpectedByte, at);
-    }
-    read_content(s, at, row, unicode, end + 1, number.value, room, table)
-}
-
-// A letter and `;`, or a letter, a length, `:`, the content and `;`.
-fn read_text(s: &[u8], at: usize, row: usize, unicode: bool, room: usize, table: &mut [u32]) -> Step
-    requires { ⌜ (at < length (now s)) × Slots row room (length (now s)) (length (now table)) ⌝ }
-    ensures { λ r. ⌜ Did (text (now (s .entry)) unicode at row) (length (now (s .entry))) room (at + 1) row (now (table .entry)) (now (table .exit)) r ⌝ }
-{
-    if glyph_bytes::goes_on(s, at + 1) {
-        return read_lengthened(s, at, row, unicode, room, table);
-    }
-    let o = at + 1;
-    item::put_leaf(row, at + 2, text_kind(unicode), o as u32, 0, room, table)
-}
-
-// The unicode at `at`, whose letter has been seen.
-pub fn read_unicode(s: &[u8], at: usize, row: usize, room: usize, table: &mut [u32]) -> Step
-    requires { ⌜ (at < length (now s)) × Fitting at row room (length (now s)) (length (now table)) ⌝ }
-    ensures { λ r. ⌜ Did (opened room at row (text (now (s .entry)) true at row)) (length (now (s .entry))) room (at + 1) row (now (table .entry)) (now (table .exit)) r ⌝ }
-{
-    if room <= row {
-        return glyph_item::refuse(Refusal::NoRow, at);
-    }
-    read_text(s, at, row, true, room, table)
-}
-
 // The object at `at`, whose letter is this leaf's.
 pub fn read_leaf(
     s: &[u8],
@@ -280,9 +49,9 @@ pub fn read_leaf(
         return glyph_item::refuse(Refusal::NoRow, at);
     }
     match leaf {
-        Leaf::Integer => read_integer(s, at, row, room, table),
-        Leaf::Unicode => read_text(s, at, row, true, room, table),
-        Leaf::Bytes => read_text(s, at, row, false, room, table),
+        Leaf::Integer => glyph_integers::read_integer(s, at, row, room, table),
+        Leaf::Unicode => glyph_texts::read_text(s, at, row, true, room, table),
+        Leaf::Bytes => glyph_texts::read_text(s, at, row, false, room, table),
         Leaf::True => read_single(s, at, row, 5, 1, room, table),
         Leaf::False => read_single(s, at, row, 5, 0, room, table),
         Leaf::Nil => read_single(s, at, row, 13, 0, room, table),
@@ -299,9 +68,9 @@ pub fn read_in_run(s: &[u8], at: usize, row: usize, room: usize, table: &mut [u3
         return glyph_item::refuse(Refusal::NoRow, at);
     }
     match s[at] {
-        b'i' => read_integer(s, at, row, room, table),
-        b'u' => read_text(s, at, row, true, room, table),
-        b'b' => read_text(s, at, row, false, room, table),
+        b'i' => glyph_integers::read_integer(s, at, row, room, table),
+        b'u' => glyph_texts::read_text(s, at, row, true, room, table),
+        b'b' => glyph_texts::read_text(s, at, row, false, room, table),
         b'T' => read_single(s, at, row, 5, 1, room, table),
         b'F' => read_single(s, at, row, 5, 0, room, table),
         _ => read_single(s, at, row, 13, 0, room, table),

@@ -94,7 +94,7 @@ fn read_first(s: &[u8], edition: Edition, limit: usize, room: usize, table: &mut
 {
     let at = glyph_bytes::past_blanks(s, 0);
     if glyph_bytes::text_at(s, at) {
-        return glyph_leaves::read_unicode(s, at, 0, room, table);
+        return glyph_texts::read_unicode(s, at, 0, room, table);
     }
     read_noted(s, edition, limit, room, table)
 }

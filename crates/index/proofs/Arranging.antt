@@ -10,12 +10,18 @@ use borrow.Author.Tests.{lt-ltb, le-ltb}
 use Rattle.draft.specs.declared.Row.{Row}
 use Rattle.draft.specs.Table.{roomOf, rowAt}
 use Rattle.draft.specs.Writable.{writable}
+use Rattle.member.specs.declared.Member.{Member}
 use Rattle.member.specs.Members.{membersFrom, isStruct, members}
 use Rattle.member.proofs.Counting.{from-none, from-past, from-more}
 use Rattle.sorting.specs.Sorting.{keyText, sorted}
 use Rattle.sorting.proofs.Inserting.{sorted-length}
-use Rattle.index.proofs.Members.{rows-length}
 use Rattle.index.specs.Filling.{keyRows, padded, Gathered, refusalIn, orderIn, Arranged, refusalOf, orderOf, Listed}
+
+-- as many key rows as members
+pub rows-length : (ms : List Member) → length (keyRows ms) ≡ length ms
+unfolding keyRows
+rows-length [] = refl
+rows-length (m ∷ ms) = ap suc (rows-length ms)
 
 -- ---- the loop over the members
 

@@ -16,7 +16,7 @@ use Rattle.member.specs.Members.{memberOf, isStruct, members}
 use Rattle.seeking.specs.Seeking.{unused}
 use Rattle.sorting.specs.Sorting.{keyText, sorted}
 use Rattle.sorting.proofs.Inserting.{sorted-length}
-use Rattle.index.proofs.Members.{rows-length}
+use Rattle.index.proofs.Arranging.{rows-length}
 use Rattle.index.specs.Filling.{keyRows, padded, refusalIn, orderIn, orderOf, Listed, narrowed, Ordered, entryOf, entries}
 
 -- ---- one entry

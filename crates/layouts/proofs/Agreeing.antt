@@ -34,7 +34,7 @@ use Rattle.order.specs.declared.Relation.the-variants.{After}
 use Rattle.order.specs.ByteOrder.{compared, pick as pickRelation}
 use Rattle.sorting.specs.Sorting.{keyText}
 use Rattle.index.specs.Filling.{refusalIn, orderIn}
-use Rattle.index.specs.Through.{relationTo, isMember}
+use Rattle.index_search.specs.Through.{relationTo, isMember}
 use Rattle.defaults.specs.Defaults.{textAt, foundText, heldIn}
 
 -- the same rows below n

@@ -28,7 +28,7 @@ use Rattle.lookup.specs.Answers.{look, answerAt, pick}
 use Rattle.order.specs.declared.Relation.{Relation}
 use Rattle.seeking.specs.Seeking.{begun, searched}
 use Rattle.index.specs.Filling.{refusalIn, orderIn}
-use Rattle.index.specs.Through.{relationTo, isMember}
+use Rattle.index_search.specs.Through.{relationTo, isMember}
 use Rattle.choice.specs.declared.Choice.{Choice}
 use Rattle.choice.specs.declared.Refusal.the-variants as unfit
 use Rattle.choice.specs.Choosing.{preferred}

@@ -28,7 +28,7 @@ use Rattle.position.specs.declared.Placed.{Placed}
 use Rattle.position.specs.Placing.{settled}
 use Rattle.seeking.specs.Seeking.{begun, searched}
 use Rattle.index.specs.Filling.{refusalIn, orderIn}
-use Rattle.index.specs.Through.{relationTo, isMember}
+use Rattle.index_search.specs.Through.{relationTo, isMember}
 use Rattle.choice.specs.declared.Choice.{Choice}
 use Rattle.choice.specs.declared.Refusal.the-variants as unfit
 use Rattle.defaults.specs.Defaults.{Source, unless, structsThen}

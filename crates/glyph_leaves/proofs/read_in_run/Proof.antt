@@ -1,5 +1,4 @@
-use Rattle.glyph_leaves.proofs.Leaves.{leaves}
-use Rattle.glyph_leaves.proofs.Plain.{letters}
+use Rattle.glyph_leaves.proofs.Leaves.{leaves, letters}
 use borrow.Author.Needs.{needs}
 use Rattle.glyph_leaves.proofs.read_in_run.Statement.{statement}
 use Rattle.glyph_leaves.proofs.read_in_run.Tie as tie

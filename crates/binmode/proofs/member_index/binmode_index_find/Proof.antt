@@ -52,20 +52,20 @@ use Rattle.lookup.specs.declared.Report.{Report}
 use Rattle.lookup.specs.Reports.{plusZero, reported, reportOf}
 use Rattle.lookup.proofs.Report as F
 use Rattle.lookup.proofs.Report.Laws as F′
-use Rattle.index.specs.declared.Question.{Question}
-use Rattle.index.specs.Through.{through, keyAt, reportsOf, judgement, judgedOf, questionAt, Rightly, answered}
 use Rattle.index.proofs.Storing.{Stored, stored-first, stored-next, stored-done}
-use Rattle.index.proofs.Looking.{question-rightly, question-answered, reports-all, judged-number}
-use Rattle.index.proofs.Question as Q
-use Rattle.index.proofs.Question.Laws as Q′
-use Rattle.index.proofs.judge as judge
-use Rattle.index.proofs.judge.Symbol as judge-def
-use Rattle.index.proofs.judge.Symbol.{name as #judge}
-use Rattle.index.proofs.judge.Met as judge-thm
-use Rattle.index.proofs.question_at as question-at
-use Rattle.index.proofs.question_at.Symbol as question-at-def
-use Rattle.index.proofs.question_at.Symbol.{name as #question-at}
-use Rattle.index.proofs.question_at.Met as question-at-thm
+use Rattle.index_search.specs.declared.Question.{Question}
+use Rattle.index_search.specs.Through.{through, keyAt, reportsOf, judgement, judgedOf, questionAt, Rightly, answered}
+use Rattle.index_search.proofs.Looking.{question-rightly, question-answered, reports-all, judged-number}
+use Rattle.index_search.proofs.Question as Q
+use Rattle.index_search.proofs.Question.Laws as Q′
+use Rattle.index_search.proofs.judge as judge
+use Rattle.index_search.proofs.judge.Symbol as judge-def
+use Rattle.index_search.proofs.judge.Symbol.{name as #judge}
+use Rattle.index_search.proofs.judge.Met as judge-thm
+use Rattle.index_search.proofs.question_at as question-at
+use Rattle.index_search.proofs.question_at.Symbol as question-at-def
+use Rattle.index_search.proofs.question_at.Symbol.{name as #question-at}
+use Rattle.index_search.proofs.question_at.Met as question-at-thm
 use Rattle.binmode.proofs.member_index.look_through as look-through
 use Rattle.binmode.proofs.member_index.look_through.Symbol as look-through-def
 use Rattle.binmode.proofs.member_index.look_through.Symbol.{name as #look-through}

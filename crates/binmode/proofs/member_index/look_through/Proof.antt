@@ -56,23 +56,23 @@ use Rattle.seeking.specs.declared.Search.{Search}
 use Rattle.seeking.specs.Seeking.{over, begun, unused}
 use Rattle.seeking.proofs.Search as R
 use Rattle.seeking.proofs.Search.Laws as R′
-use Rattle.index.specs.declared.Question.{Question}
-use Rattle.index.specs.Through.{asks, Rightly, stepFor, answerFor, answered}
-use Rattle.index.proofs.Question as Q
-use Rattle.index.proofs.Question.Laws as Q′
-use Rattle.index.proofs.Looking.{Looking, looking-first, looking-next, looking-less, looking-done, looking-writable}
-use Rattle.index.proofs.begin as begin
-use Rattle.index.proofs.begin.Symbol as begin-def
-use Rattle.index.proofs.begin.Symbol.{name as #begin}
-use Rattle.index.proofs.begin.Met as begin-thm
-use Rattle.index.proofs.step as step
-use Rattle.index.proofs.step.Symbol as step-def
-use Rattle.index.proofs.step.Symbol.{name as #step}
-use Rattle.index.proofs.step.Met as step-thm
-use Rattle.index.proofs.report as report
-use Rattle.index.proofs.report.Symbol as report-def
-use Rattle.index.proofs.report.Symbol.{name as #report}
-use Rattle.index.proofs.report.Met as report-thm
+use Rattle.index_search.specs.declared.Question.{Question}
+use Rattle.index_search.specs.Through.{asks, Rightly, stepFor, answerFor, answered}
+use Rattle.index_search.proofs.Question as Q
+use Rattle.index_search.proofs.Question.Laws as Q′
+use Rattle.index_search.proofs.Looking.{Looking, looking-first, looking-next, looking-less, looking-done, looking-writable}
+use Rattle.index_search.proofs.begin as begin
+use Rattle.index_search.proofs.begin.Symbol as begin-def
+use Rattle.index_search.proofs.begin.Symbol.{name as #begin}
+use Rattle.index_search.proofs.begin.Met as begin-thm
+use Rattle.index_search.proofs.step as step
+use Rattle.index_search.proofs.step.Symbol as step-def
+use Rattle.index_search.proofs.step.Symbol.{name as #step}
+use Rattle.index_search.proofs.step.Met as step-thm
+use Rattle.index_search.proofs.report as report
+use Rattle.index_search.proofs.report.Symbol as report-def
+use Rattle.index_search.proofs.report.Symbol.{name as #report}
+use Rattle.index_search.proofs.report.Met as report-thm
 use Rattle.binmode.proofs.Behind.{behind}
 use Rattle.binmode.proofs.member_index.look_through.Key.{name as #look}
 use Rattle.binmode.proofs.member_index.look_through as look′
