@@ -1,8 +1,8 @@
 // An index of a Struct's members, on plain slices and numbers: the key rows in byte order of their texts, the entry of each, and the steps of a search
 // through entries. The functions that have the list itself are in `binmode`; each turn of theirs calls one function of these, which decides everything.
-use lookup::Answer;
-use lookup::Refusal;
-use lookup::Report;
+use lookup_answer::Answer;
+use lookup_answer::Refusal;
+use lookup_answer::Report;
 use member::Member;
 use order::Relation;
 use seeking::Search;
@@ -14,7 +14,7 @@ ghost use lib.ListN.{length, getD};
 ghost use Rattle.draft.specs.Table.{rowAt, from};
 ghost use Rattle.draft.specs.Writable.{writable as writableIn};
 ghost use Rattle.member.specs.Members.{membersFrom, members};
-ghost use Rattle.lookup.specs.Reports.{reportOf};
+ghost use Rattle.lookup_answer.specs.Reports.{reportOf};
 ghost use Rattle.seeking.specs.Seeking.{over, begun, turned};
 ghost use Rattle.sorting.specs.Sorting.{keyText, sorted};
 ghost use Rattle.index.specs.Filling.{keyRows, padded, Gathered, Arranged, Listed, narrowed, Ordered, entryOf};
@@ -348,7 +348,7 @@ fn answer(table: &[u32], text: &[u8], question: Question, st: Search) -> Answer
             return Answer::Refused(Refusal::NoMember);
         }
         let room = table::room_of(table.len());
-        return lookup::row_answer(table, room, text, value);
+        return lookup_answer::row_answer(table, room, text, value);
     }
     Answer::Refused(Refusal::NotWritable)
 }
@@ -358,5 +358,5 @@ pub fn report<'a>(table: &'a [u32], text: &'a [u8], question: Question, st: Sear
     requires { ⌜ Rightly (now table) (now text) question ⌝ }
     ensures { λ r. ⌜ r ≡ reportOf (answerFor (now (table .entry)) (now (text .entry)) question st) ⌝ }
 {
-    lookup::report_of(answer(table, text, question, st))
+    lookup_answer::report_of(answer(table, text, question, st))
 }
