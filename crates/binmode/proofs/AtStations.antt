@@ -7,8 +7,8 @@ use Rattle.shares.specs.Share.{stationOf, splitFor, onShare}
 use Rattle.read_answer.specs.Answers as readers
 use Rattle.job.specs.Cards as jobs
 use Rattle.write_answer.specs.Answers as writers
-use Rattle.lookup.specs.declared.Report.{Report}
-use Rattle.position.specs.declared.Position.{Position}
+use Rattle.lookup_answer.specs.declared.Report.{Report}
+use Rattle.placing.specs.declared.Position.{Position}
 use Rattle.pieces.specs.declared.State.{State}
 use Rattle.station_reading.specs.declared.Answer as SR
 use Rattle.station_reading.specs.declared.CardAnswer as SC

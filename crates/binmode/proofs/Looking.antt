@@ -1,11 +1,11 @@
 -- What answers each return of the exported functions on lookups, positions and job defaults. Assumes nothing.
 use mathlib.Core.Path.{_≡_, ap, _∙_}
 use Prim.Native.Nat.{ℕ}
-use Rattle.lookup.specs.declared.Answer.{Answer}
-use Rattle.lookup.specs.declared.Report.{Report}
-use Rattle.lookup.specs.Reports.{reportOf}
-use Rattle.position.specs.declared.Position.{Position}
-use Rattle.position.specs.declared.Placed.{Placed}
+use Rattle.lookup_answer.specs.declared.Answer.{Answer}
+use Rattle.lookup_answer.specs.declared.Report.{Report}
+use Rattle.lookup_answer.specs.Reports.{reportOf}
+use Rattle.placing.specs.declared.Position.{Position}
+use Rattle.placing.specs.declared.Placed.{Placed}
 use Rattle.choice.specs.declared.Choice.{Choice}
 use Rattle.lookup_reports.specs.Numbers.{PositionReported, TextReport, textReportOf}
 

@@ -1,8 +1,8 @@
 // Looking up members, and positions, for programs in C and Rust. A slice passes as a pointer and then a length, a `&mut` to a number as a pointer.
 ghost use mathlib.Core.Path.{_≡_};
-ghost use Rattle.lookup.specs.Answers.{lookup as lookupIn};
-ghost use Rattle.lookup.specs.Reports.{reported, reportOf};
-ghost use Rattle.position.specs.Placing.{at, position as positionIn};
+ghost use Rattle.lookup_answer.specs.Answers.{lookup as lookupIn};
+ghost use Rattle.lookup_answer.specs.Reports.{reported, reportOf};
+ghost use Rattle.placing.specs.Placing.{at, position as positionIn};
 ghost use Rattle.lookup_reports.specs.Numbers.{PositionReported};
 
 // Looks up a member of the Struct of a row, and reports document 02's numbers: the result is 0, or the refusal's number; every number lent is set.
@@ -21,7 +21,7 @@ pub extern "C" fn binmode_lookup(
 ) -> u8
     ensures { λ n. ⌜ reported n (now (sort .exit)) (now (number .exit)) (now (decimal .exit)) (now (offset .exit)) (now (length .exit)) ≡ reportOf (lookupIn (now (table .entry)) rows (now (text .entry)) row (now (key .entry))) ⌝ }
 {
-    let report = lookup::report_of(lookup::lookup(table, rows, text, row, key));
+    let report = lookup_answer::report_of(lookup::lookup(table, rows, text, row, key));
     lookup_reports::member(report, sort, number, decimal, offset, length)
 }
 

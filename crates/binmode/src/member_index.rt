@@ -1,11 +1,11 @@
 // An index of a Struct's members, for programs in C and Rust: entries in a list that the caller lends, and keys looked up through one. A function that
 // has a slice of structs is proved by a walk of its code by hand, so these are few, and none has a branch but its loop's test.
 use index_search::Question;
-use lookup::Report;
+use lookup_answer::Report;
 use member::Member;
 ghost use mathlib.Core.Path.{_≡_};
 ghost use lib.ListN.{length};
-ghost use Rattle.lookup.specs.Reports.{reportOf};
+ghost use Rattle.lookup_answer.specs.Reports.{reportOf};
 ghost use Rattle.index.specs.Filling.{Filled};
 ghost use Rattle.index_search.specs.Through.{reportsOf, judgement, Rightly, answered};
 

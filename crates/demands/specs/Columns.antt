@@ -40,9 +40,9 @@ use Rattle.write_answer.specs.Answers as writer
 use Rattle.plan_writer.specs.declared.Answer.{Answer as PlanAnswer}
 use Rattle.plan_writer.specs.Answers as plan_writer
 use Rattle.certificate.specs.Certificate.{certified}
-use Rattle.lookup.specs.Answers.{lookup}
-use Rattle.lookup.specs.Reports.{reportOf}
-use Rattle.position.specs.Placing.{position}
+use Rattle.lookup_answer.specs.Answers.{lookup}
+use Rattle.lookup_answer.specs.Reports.{reportOf}
+use Rattle.placing.specs.Placing.{position}
 use Rattle.member.specs.declared.Member.{Member}
 use Rattle.index.specs.Filling.{refusalOf, orderOf, entries, Filled}
 use Rattle.index_search.specs.Through.{foundRow, rowAnswer, throughIf, through, keyAt, reportsOf}

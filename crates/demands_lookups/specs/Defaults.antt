@@ -14,9 +14,9 @@ use Rattle.draft.specs.Grammar.{Cell}
 use Rattle.member.specs.declared.Found.{Found}
 use Rattle.member.specs.declared.Found.the-variants as found
 use Rattle.member.specs.Members.{isStruct, members, find}
-use Rattle.lookup.specs.declared.Answer.{Answer}
-use Rattle.lookup.specs.declared.Answer.the-variants as answer
-use Rattle.lookup.specs.Answers.{look, lookup}
+use Rattle.lookup_answer.specs.declared.Answer.{Answer}
+use Rattle.lookup_answer.specs.declared.Answer.the-variants as answer
+use Rattle.lookup_answer.specs.Answers.{look, lookup}
 use Rattle.choice.specs.declared.Held.{Held}
 use Rattle.choice.specs.declared.Refusal.{Refusal}
 use Rattle.choice.specs.declared.Refusal.the-variants.{NotWritable}

@@ -22,13 +22,13 @@ use Rattle.member.proofs.Apart.{Apart, apart-half}
 use Rattle.order.specs.ByteOrder.{compared}
 use Rattle.order.specs.declared.Relation.the-variants.{Before}
 use Rattle.order.proofs.Ordering.{compared-self, before-equal}
-use Rattle.lookup.specs.declared.Report.{Report}
-use Rattle.lookup.specs.declared.Refusal.the-variants.{NotWritable, NoMember}
-use Rattle.lookup.specs.declared.Answer.{Answer}
-use Rattle.lookup.specs.declared.Answer.the-variants.{Refused}
-use Rattle.lookup.specs.Answers.{lookup}
-use Rattle.lookup.specs.Reports.{reportOf}
-use Rattle.lookup.proofs.Looking.{rows-stated, room-most}
+use Rattle.lookup_answer.specs.declared.Report.{Report}
+use Rattle.lookup_answer.specs.declared.Refusal.the-variants.{NotWritable, NoMember}
+use Rattle.lookup_answer.specs.declared.Answer.{Answer}
+use Rattle.lookup_answer.specs.declared.Answer.the-variants.{Refused}
+use Rattle.lookup_answer.specs.Answers.{lookup}
+use Rattle.lookup_answer.specs.Reports.{reportOf}
+use Rattle.shape.proofs.Judged.{rows-stated, room-most}
 use Rattle.seeking.specs.Seeking.{unused}
 use Rattle.index.specs.Filling.{refusalIn, refusalOf, orderOf, entries, Filled}
 use Rattle.index_search.specs.Through.{throughIf, through, keyAt, reportsOf}

@@ -32,14 +32,14 @@ use Rattle.written.proofs.Concluding.{rows-length}
 use Rattle.member.specs.declared.Member.{Member}
 use Rattle.member.specs.declared.Found.the-variants.{At, Absent}
 use Rattle.member.specs.Members.{members, keysOf, hasKey, find}
-use Rattle.lookup.specs.declared.Refusal as Why
-use Rattle.lookup.specs.declared.Refusal.the-variants.{NotWritable, NoMember, TooManyDigits}
-use Rattle.lookup.specs.declared.Answer.the-variants.{Decimal, Refused}
-use Rattle.lookup.specs.Answers.{lookup}
-use Rattle.lookup.specs.Reports.{plusZero}
-use Rattle.position.specs.declared.Outcome.the-variants as outcome
-use Rattle.position.specs.Placing.{at, acceptedAt, refusedWith, position, Lengthy}
-use Rattle.position.proofs.Together.{accepted-of, accepted-by, zeros-of, unwritable-of, long-of}
+use Rattle.lookup_answer.specs.declared.Refusal as Why
+use Rattle.lookup_answer.specs.declared.Refusal.the-variants.{NotWritable, NoMember, TooManyDigits}
+use Rattle.lookup_answer.specs.declared.Answer.the-variants.{Decimal, Refused}
+use Rattle.lookup_answer.specs.Answers.{lookup}
+use Rattle.lookup_answer.specs.Reports.{plusZero}
+use Rattle.placing.specs.declared.Outcome.the-variants as outcome
+use Rattle.placing.specs.Placing.{at, acceptedAt, refusedWith, position, Lengthy}
+use Rattle.placing.proofs.Together.{accepted-of, accepted-by, zeros-of, unwritable-of, long-of}
 use Rattle.meant.specs.Parts.{Parts}
 use Rattle.meant.proofs.Parting.{double-parts}
 use Rattle.meant.specs.Meant.{membersOf, Said, StructAt, Answered}

@@ -21,8 +21,8 @@ use Rattle.records.specs.declared.JobRefusal.{JobRefusal}
 use Rattle.records.specs.Job.{bodyOf}
 use Rattle.job.specs.declared.Answer.the-variants as job
 use Rattle.read_answer.specs.Answers.{reading}
-use Rattle.lookup.specs.Answers as lookups
-use Rattle.position.specs.Placing.{position}
+use Rattle.lookup_answer.specs.Answers as lookups
+use Rattle.placing.specs.Placing.{position}
 use Rattle.pieces.specs.declared.State.{State}
 use Rattle.pieces.specs.Pieces.{joined}
 use Rattle.pieces.specs.Steps.{told}

@@ -10,10 +10,10 @@ use borrow.Author.Tests.{eq-eqb, eqb-true}
 use Rattle.draft.specs.Table.{from}
 use Rattle.draft.specs.Writable.{writable}
 use Rattle.member.specs.declared.Member.{Member}
-use Rattle.lookup.specs.Reports.{reportOf}
-use Rattle.lookup.specs.declared.Answer.the-variants.{Refused}
-use Rattle.lookup.specs.declared.Refusal.the-variants.{NotWritable}
-use Rattle.lookup.specs.Answers.{pick}
+use Rattle.lookup_answer.specs.Reports.{reportOf}
+use Rattle.lookup_answer.specs.declared.Answer.the-variants.{Refused}
+use Rattle.lookup_answer.specs.declared.Refusal.the-variants.{NotWritable}
+use Rattle.lookup_answer.specs.Answers.{pick}
 use Rattle.seeking.specs.declared.Search.{Search}
 use Rattle.seeking.specs.Seeking.{over, begun, unused}
 use Rattle.seeking.proofs.Narrowing.{Seeking, seeking-first, seeking-next, seeking-done}

@@ -15,13 +15,13 @@ use Rattle.member.specs.Members.{members, isAmong}
 use Rattle.order.specs.declared.Relation.{Relation}
 use Rattle.order.specs.declared.Relation.the-variants.{Before, Equal, After}
 use Rattle.order.specs.ByteOrder.{compared}
-use Rattle.lookup.specs.declared.Refusal.the-variants.{NotWritable, NoMember}
-use Rattle.lookup.specs.declared.Answer.{Answer}
-use Rattle.lookup.specs.declared.Answer.the-variants.{Refused}
-use Rattle.lookup.specs.Answers.{answerAt}
-use Rattle.lookup.specs.declared.Report.{Report}
-use Rattle.lookup.specs.Reports.{reportOf}
-use Rattle.lookup.proofs.Looking.{rows-stated, room-most, room-inside}
+use Rattle.lookup_answer.specs.declared.Refusal.the-variants.{NotWritable, NoMember}
+use Rattle.lookup_answer.specs.declared.Answer.{Answer}
+use Rattle.lookup_answer.specs.declared.Answer.the-variants.{Refused}
+use Rattle.lookup_answer.specs.Answers.{answerAt}
+use Rattle.lookup_answer.specs.declared.Report.{Report}
+use Rattle.lookup_answer.specs.Reports.{reportOf}
+use Rattle.shape.proofs.Judged.{rows-stated, room-most, room-inside}
 use Rattle.seeking.specs.declared.Search.{Search}
 use Rattle.seeking.specs.Seeking.{between, ended, turned, stepped}
 use Rattle.sorting.specs.Sorting.{keyText}

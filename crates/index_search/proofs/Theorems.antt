@@ -20,10 +20,10 @@ use Rattle.order.specs.declared.Relation.{Relation}
 use Rattle.order.specs.declared.Relation.the-variants.{Before, Equal, After}
 use Rattle.order.specs.ByteOrder.{compared}
 use Rattle.order.proofs.Ordering.{Less, turned, compared-self, compared-equal, compared-turned, after-less, less-le, le-less, before-after, equal-after}
-use Rattle.lookup.specs.declared.Refusal.the-variants.{NoMember}
-use Rattle.lookup.specs.declared.Answer.{Answer}
-use Rattle.lookup.specs.declared.Answer.the-variants.{Refused}
-use Rattle.lookup.specs.Answers.{answerAt, foundAnswer, pick, look, lookup}
+use Rattle.lookup_answer.specs.declared.Refusal.the-variants.{NoMember}
+use Rattle.lookup_answer.specs.declared.Answer.{Answer}
+use Rattle.lookup_answer.specs.declared.Answer.the-variants.{Refused}
+use Rattle.lookup_answer.specs.Answers.{answerAt, foundAnswer, pick, look, lookup}
 use Rattle.seeking.specs.Seeking.{over, begun, unused, searched}
 use Rattle.seeking.proofs.Finding.{Outcome, nothing, found, any-list, InOrder, Sought, none, hit, in-order-finds}
 use Rattle.sorting.specs.Sorting.{keyText, sorted, Rising}

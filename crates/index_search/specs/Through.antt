@@ -15,12 +15,12 @@ use Rattle.member.specs.Members.{members, isAmong}
 use Rattle.order.specs.declared.Relation.{Relation}
 use Rattle.order.specs.declared.Relation.the-variants.{After}
 use Rattle.order.specs.ByteOrder.{compared, pick as pickRelation}
-use Rattle.lookup.specs.declared.Refusal.the-variants.{NotWritable, NoMember}
-use Rattle.lookup.specs.declared.Answer.{Answer}
-use Rattle.lookup.specs.declared.Answer.the-variants.{Refused}
-use Rattle.lookup.specs.Answers.{answerAt, pick}
-use Rattle.lookup.specs.declared.Report.{Report}
-use Rattle.lookup.specs.Reports.{reportOf}
+use Rattle.lookup_answer.specs.declared.Refusal.the-variants.{NotWritable, NoMember}
+use Rattle.lookup_answer.specs.declared.Answer.{Answer}
+use Rattle.lookup_answer.specs.declared.Answer.the-variants.{Refused}
+use Rattle.lookup_answer.specs.Answers.{answerAt, pick}
+use Rattle.lookup_answer.specs.declared.Report.{Report}
+use Rattle.lookup_answer.specs.Reports.{reportOf}
 use Rattle.seeking.specs.declared.Search.{Search}
 use Rattle.seeking.specs.Seeking.{ended, pick as pickSearch, begun, stepped, searched}
 use Rattle.sorting.specs.Sorting.{keyText}

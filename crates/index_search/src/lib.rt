@@ -1,8 +1,8 @@
 // A key looked up through entries, on plain slices and numbers: the steps of a search, and what it answers. The functions that have the list itself are
 // in `binmode`; each turn of theirs calls one function of these, which decides everything.
-use lookup::Answer;
-use lookup::Refusal;
-use lookup::Report;
+use lookup_answer::Answer;
+use lookup_answer::Refusal;
+use lookup_answer::Report;
 use member::Member;
 use order::Relation;
 use seeking::Search;
@@ -12,7 +12,7 @@ ghost use Prim.Native.Nat.{_-_, _*_, _≤_, _<_};
 ghost use lib.ListN.{length, getD};
 ghost use Rattle.draft.specs.Table.{rowAt};
 ghost use Rattle.draft.specs.Writable.{writable as writableIn};
-ghost use Rattle.lookup.specs.Reports.{reportOf};
+ghost use Rattle.lookup_answer.specs.Reports.{reportOf};
 ghost use Rattle.seeking.specs.Seeking.{over, begun, turned};
 ghost use Rattle.index_search.specs.Through.{relationTo, isMember, verified, judgedOf, startOf, questionAt, asks, Rightly, stepFor, answerFor};
 
@@ -175,7 +175,7 @@ fn answer(table: &[u32], text: &[u8], question: Question, st: Search) -> Answer
             return Answer::Refused(Refusal::NoMember);
         }
         let room = table::room_of(table.len());
-        return lookup::row_answer(table, room, text, value);
+        return lookup_answer::row_answer(table, room, text, value);
     }
     Answer::Refused(Refusal::NotWritable)
 }
@@ -185,5 +185,5 @@ pub fn report<'a>(table: &'a [u32], text: &'a [u8], question: Question, st: Sear
     requires { ⌜ Rightly (now table) (now text) question ⌝ }
     ensures { λ r. ⌜ r ≡ reportOf (answerFor (now (table .entry)) (now (text .entry)) question st) ⌝ }
 {
-    lookup::report_of(answer(table, text, question, st))
+    lookup_answer::report_of(answer(table, text, question, st))
 }

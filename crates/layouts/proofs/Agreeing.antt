@@ -29,7 +29,7 @@ use Rattle.member.specs.declared.Member.{Member}
 use Rattle.member.specs.declared.Found.{Found}
 use Rattle.member.specs.declared.Found.the-variants.{At, Absent}
 use Rattle.member.specs.Members.{memberOf, membersFrom, isStruct, members, hasKey, find, pickFound, isAmong}
-use Rattle.lookup.specs.Answers.{answerAt, foundAnswer, look}
+use Rattle.lookup_answer.specs.Answers.{answerAt, foundAnswer, look}
 use Rattle.order.specs.declared.Relation.the-variants.{After}
 use Rattle.order.specs.ByteOrder.{compared, pick as pickRelation}
 use Rattle.sorting.specs.Sorting.{keyText}

@@ -21,10 +21,10 @@ use Rattle.plan_writer.specs.declared.Answer.the-variants as p
 use Rattle.plan_writer.specs.Answers as plan_writer
 use Rattle.certificate.specs.Certificate.{certifiedTexts}
 use Rattle.member.specs.declared.Member.{Member}
-use Rattle.lookup.specs.declared.Answer.{Answer}
-use Rattle.lookup.specs.declared.Answer.the-variants as l
-use Rattle.lookup.specs.declared.Refusal.the-variants as why
-use Rattle.lookup.specs.Answers.{look, answerAt, pick}
+use Rattle.lookup_answer.specs.declared.Answer.{Answer}
+use Rattle.lookup_answer.specs.declared.Answer.the-variants as l
+use Rattle.lookup_answer.specs.declared.Refusal.the-variants as why
+use Rattle.lookup_answer.specs.Answers.{look, answerAt, pick}
 use Rattle.order.specs.declared.Relation.{Relation}
 use Rattle.seeking.specs.Seeking.{begun, searched}
 use Rattle.index.specs.Filling.{refusalIn, orderIn}

@@ -20,12 +20,12 @@ use Rattle.plan_writer.specs.declared.Answer.the-variants as p
 use Rattle.plan_writer.specs.Answers as plan_writer
 use Rattle.certificate.specs.Certificate.{certifiedTexts}
 use Rattle.member.specs.declared.Member.{Member}
-use Rattle.lookup.specs.declared.Answer as L
-use Rattle.lookup.specs.declared.Answer.the-variants as l
-use Rattle.lookup.specs.declared.Refusal.the-variants as why
-use Rattle.lookup.specs.Answers.{look, answerAt, pick}
-use Rattle.position.specs.declared.Placed.{Placed}
-use Rattle.position.specs.Placing.{settled}
+use Rattle.lookup_answer.specs.declared.Answer as L
+use Rattle.lookup_answer.specs.declared.Answer.the-variants as l
+use Rattle.lookup_answer.specs.declared.Refusal.the-variants as why
+use Rattle.lookup_answer.specs.Answers.{look, answerAt, pick}
+use Rattle.placing.specs.declared.Placed.{Placed}
+use Rattle.placing.specs.Placing.{settled}
 use Rattle.seeking.specs.Seeking.{begun, searched}
 use Rattle.index.specs.Filling.{refusalIn, orderIn}
 use Rattle.index_search.specs.Through.{relationTo, isMember}

@@ -1,3 +1,2 @@
 -- The laws of `lookup`.
 pub mod Looking
-pub mod Reporting

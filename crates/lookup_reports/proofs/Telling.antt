@@ -9,10 +9,10 @@ use Rattle.choice.specs.declared.Refusal.{Refusal}
 use Rattle.choice.specs.declared.Choice.{Choice}
 use Rattle.choice.specs.declared.Choice.the-variants.{Card, Defaults, Refused}
 use Rattle.choice.specs.Choosing.{numberOf}
-use Rattle.lookup.specs.declared.Report.{Report}
-use Rattle.lookup.specs.Reports.{reported}
-use Rattle.position.specs.declared.Placed.{Placed}
-use Rattle.position.specs.Placing.{outcomeNumber, at}
+use Rattle.lookup_answer.specs.declared.Report.{Report}
+use Rattle.lookup_answer.specs.Reports.{reported}
+use Rattle.placing.specs.declared.Placed.{Placed}
+use Rattle.placing.specs.Placing.{outcomeNumber, at}
 use Rattle.lookup_reports.specs.Numbers.{PositionReported, textReport, textReportOf}
 
 pub tells-member : (r : Report) → SFits w64 (r .whole)

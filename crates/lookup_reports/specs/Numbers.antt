@@ -2,9 +2,9 @@
 -- two has it, and where it lies there. Assumes nothing.
 use mathlib.Core.Path.{_≡_}
 use Prim.Native.Nat.{ℕ}
-use Rattle.position.specs.declared.Position.{Position}
-use Rattle.position.specs.declared.Placed.{Placed}
-use Rattle.position.specs.Placing.{outcomeNumber}
+use Rattle.placing.specs.declared.Position.{Position}
+use Rattle.placing.specs.declared.Placed.{Placed}
+use Rattle.placing.specs.Placing.{outcomeNumber}
 use Rattle.choice.specs.declared.Choice.{Choice}
 use Rattle.choice.specs.declared.Choice.the-variants.{Card, Defaults, Refused}
 use Rattle.choice.specs.Choosing.{choiceNumber, sourceOf}

@@ -1,10 +1,10 @@
 // What a lookup answered, reported to programs in C and Rust: every number that they lend is set, and the result is 0 or the refusal's number.
 use choice::Choice;
-use lookup::Report;
-use position::Placed;
+use lookup_answer::Report;
+use placing::Placed;
 ghost use mathlib.Core.Path.{_≡_};
-ghost use Rattle.lookup.specs.Reports.{reported};
-ghost use Rattle.position.specs.Placing.{at};
+ghost use Rattle.lookup_answer.specs.Reports.{reported};
+ghost use Rattle.placing.specs.Placing.{at};
 ghost use Rattle.lookup_reports.specs.Numbers.{PositionReported, textReport, textReportOf};
 
 // Of a member.
@@ -36,7 +36,7 @@ pub fn position(placed: Placed, x: &mut f64, y: &mut f64, turn: &mut f64) -> u8
     *y = position.y;
     *turn = position.turn;
     let outcome = placed.outcome;
-    position::number(outcome)
+    placing::number(outcome)
 }
 
 // Of a text with defaults behind it: since no slice can be returned, it is told by which bytes it lies in, its offset and its length.

@@ -20,10 +20,10 @@ use Rattle.draft.specs.Grammar.{Payload, holding, Cell, cell, Sent, content-cel
 use Rattle.draft.specs.Meaning.{says-holding, says-number, says-contents, Means, means, Realises, no-more, and-then}
 use Rattle.member.specs.declared.Found.the-variants.{At}
 use Rattle.member.specs.Members.{memberOf, membersFrom, isStruct, members, pickFound, hasKey, find}
-use Rattle.lookup.specs.declared.Refusal.the-variants as why
-use Rattle.lookup.specs.declared.Answer.{Answer}
-use Rattle.lookup.specs.declared.Answer.the-variants.{Refused}
-use Rattle.lookup.specs.Answers.{answerAt, foundAnswer, look}
+use Rattle.lookup_answer.specs.declared.Refusal.the-variants as why
+use Rattle.lookup_answer.specs.declared.Answer.{Answer}
+use Rattle.lookup_answer.specs.declared.Answer.the-variants.{Refused}
+use Rattle.lookup_answer.specs.Answers.{answerAt, foundAnswer, look}
 use Rattle.meant.specs.Meant.{Meaning, membersOf, Answers, whole-number, yes-or-no, decimal, text, datetime, binary, array as array-answer, struct as struct-answer, other as other-answer, Said, no-member, this-member, later-member, StructAt, Answered, in-struct, no-struct}
 use Rattle.meant.proofs.Structs.{kindAt, derived-structs, struct-kind}
 

@@ -10,10 +10,10 @@ use Rattle.draft.specs.declared.Content.the-variants as content
 use Rattle.draft.specs.Bytes.{part}
 use Rattle.draft.specs.Read.{Texts}
 use Rattle.draft.specs.Grammar.{Cell, Sent, integer-cell, boolean-cell, content-cell, array-cell, struct-cell, other-cell, Pairs, no-pairs, more-pairs, pair}
-use Rattle.lookup.specs.declared.Refusal.the-variants as why
-use Rattle.lookup.specs.declared.Answer.{Answer}
-use Rattle.lookup.specs.declared.Answer.the-variants.{Whole, Truth, Text, Row, Refused}
-use Rattle.lookup.specs.Answers.{signed, decimalAnswer}
+use Rattle.lookup_answer.specs.declared.Refusal.the-variants as why
+use Rattle.lookup_answer.specs.declared.Answer.{Answer}
+use Rattle.lookup_answer.specs.declared.Answer.the-variants.{Whole, Truth, Text, Row, Refused}
+use Rattle.lookup_answer.specs.Answers.{signed, decimalAnswer}
 
 -- a member: the text of its key, and what its value means
 pub record Meaning : Type 0 where

@@ -1,3 +1,2 @@
 -- The laws of `position`.
-pub mod Settling
-pub mod Together
+pub mod Judging

@@ -27,3 +27,14 @@ ready-is limit T rows {room} s e f g =
 pub ready-judged : (T : List ℕ) (rows : ℕ) {room : ℕ} (s : List ℕ) {b : Bool} → b ≡ writable T rows s → b ≡ true → room ≡ roomOf 4096 (length T) → Ready rows room (length T)
 unfolding writable writableTo
 ready-judged T rows s e f g = ready-is 32 T rows s e f g
+
+-- the same, one by one
+module _ (T : List ℕ) (rows : ℕ) (s : List ℕ) {b : Bool} (e : b ≡ writable T rows s) (f : b ≡ true) {room : ℕ} (g : room ≡ roomOf 4096 (length T)) where
+  pub rows-stated : rows ≤ room
+  rows-stated = ready-judged T rows s e f g .stated
+
+  pub room-most : room ≤ 4096
+  room-most = ready-judged T rows s e f g .most
+
+  pub room-inside : room * 4 ≤ length T
+  room-inside = ready-judged T rows s e f g .table

@@ -18,10 +18,10 @@ use Rattle.member.specs.declared.Member.{Member}
 use Rattle.member.specs.declared.Found.{Found}
 use Rattle.member.specs.declared.Found.the-variants as found
 use Rattle.member.specs.Members.{members, find}
-use Rattle.lookup.specs.declared.Refusal.the-variants as why
-use Rattle.lookup.specs.declared.Answer.{Answer}
-use Rattle.lookup.specs.declared.Answer.the-variants as answer
-use Rattle.lookup.specs.Answers.{decimalAnswer, itemAnswer, answerAt, foundAnswer, look}
+use Rattle.lookup_answer.specs.declared.Refusal.the-variants as why
+use Rattle.lookup_answer.specs.declared.Answer.{Answer}
+use Rattle.lookup_answer.specs.declared.Answer.the-variants as answer
+use Rattle.lookup_answer.specs.Answers.{decimalAnswer, itemAnswer, answerAt, foundAnswer, look}
 use Rattle.choice.specs.declared.Held.{Held}
 use Rattle.choice.specs.declared.Held.the-variants.{Absent, NoText, Text}
 use Rattle.choice.specs.declared.Refusal.{Refusal}

@@ -15,13 +15,13 @@ use Rattle.job.specs.declared.Answer as J
 use Rattle.job.specs.Cards as jobs
 use Rattle.write_answer.specs.declared.Answer as W
 use Rattle.write_answer.specs.Answers as writers
-use Rattle.lookup.specs.declared.Answer as L
-use Rattle.lookup.specs.declared.Report.{Report}
-use Rattle.lookup.specs.Reports.{reported}
-use Rattle.lookup.specs.Reports as lookups
-use Rattle.position.specs.declared.Placed.{Placed}
-use Rattle.position.specs.declared.Position.{Position}
-use Rattle.position.specs.Placing.{at}
+use Rattle.lookup_answer.specs.declared.Answer as L
+use Rattle.lookup_answer.specs.declared.Report.{Report}
+use Rattle.lookup_answer.specs.Reports.{reported}
+use Rattle.lookup_answer.specs.Reports as lookups
+use Rattle.placing.specs.declared.Placed.{Placed}
+use Rattle.placing.specs.declared.Position.{Position}
+use Rattle.placing.specs.Placing.{at}
 use Rattle.pieces.specs.declared.State.{State}
 use Rattle.station_reading.specs.declared.Answer as SR
 use Rattle.station_reading.specs.declared.Answer.the-variants as answer

@@ -4,7 +4,7 @@ use mathlib.Core.List.{List}
 use Prim.Native.Nat.{ℕ, _-_}
 use Rattle.shares.specs.declared.Share.{Share}
 use Rattle.shares.specs.declared.Share.the-variants as share
-use Rattle.position.specs.declared.Position.{Position}
+use Rattle.placing.specs.declared.Position.{Position}
 use Rattle.station_pieces.specs.declared.Answer.{Answer as PieceAnswer}
 use Rattle.station_pieces.specs.declared.Answer.the-variants.{Stands, NotSplit}
 use Rattle.station_tables.specs.declared.PositionAnswer.{PositionAnswer}

@@ -8,8 +8,8 @@ use station_tables::PositionAnswer;
 use station_tables::WriteAnswer;
 ghost use mathlib.Core.Path.{_≡_};
 ghost use Rattle.shares.specs.Share.{stationOf, splitFor, shareFor};
-ghost use Rattle.lookup.specs.Reports.{reported};
-ghost use Rattle.position.specs.Placing.{at};
+ghost use Rattle.lookup_answer.specs.Reports.{reported};
+ghost use Rattle.placing.specs.Placing.{at};
 ghost use Rattle.station_reading.specs.Answers.{reportOf, cardReportOf};
 ghost use Rattle.station_tables.specs.Answers.{writeReportOf, lookupReportOf};
 ghost use Rattle.station_plans.specs.Answers as plans;
@@ -127,7 +127,7 @@ pub fn member(
     match answer {
         LookupAnswer::Answered(own) => {
             lookup_reports::member(
-                lookup::report_of(own),
+                lookup_answer::report_of(own),
                 sort,
                 number,
                 decimal,

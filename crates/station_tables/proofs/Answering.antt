@@ -10,10 +10,10 @@ use Rattle.shares.specs.Share.{shareFor, onShare}
 use Rattle.shares.proofs.Lent.{lending, lent-answer, unlent-answer}
 use Rattle.write_answer.specs.declared.Answer.{Answer as WriterAnswer}
 use Rattle.write_answer.specs.Answers.{formOf, outputOf, Did}
-use Rattle.lookup.specs.declared.Answer.{Answer as FoundAnswer}
-use Rattle.lookup.specs.Answers as lookups
-use Rattle.position.specs.declared.Placed.{Placed}
-use Rattle.position.specs.Placing.{position}
+use Rattle.lookup_answer.specs.declared.Answer.{Answer as FoundAnswer}
+use Rattle.lookup_answer.specs.Answers as lookups
+use Rattle.placing.specs.declared.Placed.{Placed}
+use Rattle.placing.specs.Placing.{position}
 use Rattle.station_tables.specs.declared.WriteAnswer.the-variants as write
 use Rattle.station_tables.specs.declared.LookupAnswer.the-variants as lookup
 use Rattle.station_tables.specs.declared.PositionAnswer.the-variants as place

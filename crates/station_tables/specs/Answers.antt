@@ -8,12 +8,12 @@ use Rattle.shares.specs.declared.Station.{Station}
 use Rattle.shares.specs.Share.{onShare}
 use Rattle.write_answer.specs.Answers as writer
 use Rattle.write_answer.specs.Answers.{answerOf, outputOf, formOf}
-use Rattle.lookup.specs.declared.Report as looked
-use Rattle.lookup.specs.Reports as lookup-reports
-use Rattle.lookup.specs.Reports.{plusZero, reported}
-use Rattle.lookup.specs.Answers as lookups
-use Rattle.position.specs.declared.Position.{Position}
-use Rattle.position.specs.Placing.{at, outcomeNumber, position}
+use Rattle.lookup_answer.specs.declared.Report as looked
+use Rattle.lookup_answer.specs.Reports as lookup-reports
+use Rattle.lookup_answer.specs.Reports.{plusZero, reported}
+use Rattle.lookup_answer.specs.Answers as lookups
+use Rattle.placing.specs.declared.Position.{Position}
+use Rattle.placing.specs.Placing.{at, outcomeNumber, position}
 use Rattle.station_tables.specs.declared.WriteAnswer.{WriteAnswer}
 use Rattle.station_tables.specs.declared.WriteAnswer.the-variants as write
 use Rattle.station_tables.specs.declared.LookupAnswer.{LookupAnswer}

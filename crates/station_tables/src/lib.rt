@@ -13,13 +13,13 @@ pub enum WriteAnswer {
 
 // What looking up a member in a share answers.
 pub enum LookupAnswer {
-    Answered(lookup::Answer),
+    Answered(lookup_answer::Answer),
     NotSplit,
 }
 
 // What looking for a position in a share answers.
 pub enum PositionAnswer {
-    Answered(position::Placed),
+    Answered(placing::Placed),
     NotSplit,
 }
 

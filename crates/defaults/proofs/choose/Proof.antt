@@ -1,4 +1,4 @@
-use Rattle.lookup.proofs.Looking.{rows-stated, room-most, room-inside}
+use Rattle.shape.proofs.Judged.{rows-stated, room-most, room-inside}
 use Rattle.defaults.proofs.Judging.{judging}
 use borrow.Author.Needs.{needs}
 use Rattle.defaults.proofs.choose.Statement.{statement}

@@ -1,5 +1,5 @@
 use Rattle.lookup.proofs.Looking.{looking}
-use Rattle.position.proofs.Settling.{placing}
+use Rattle.position.proofs.Judging.{placing}
 use borrow.Author.Needs.{needs}
 use Rattle.position.proofs.position_of.Statement.{statement}
 use Rattle.position.proofs.position_of.Tie as tie

@@ -48,10 +48,10 @@ use denote.Triple.Clauses.{ensured, lasts}
 use denote.Exit.{yes}
 use Rattle.member.specs.declared.Member.{Member}
 use Rattle.member.proofs.Member as S
-use Rattle.lookup.specs.declared.Report.{Report}
-use Rattle.lookup.specs.Reports.{plusZero, reported, reportOf}
-use Rattle.lookup.proofs.Report as F
-use Rattle.lookup.proofs.Report.Laws as F′
+use Rattle.lookup_answer.specs.declared.Report.{Report}
+use Rattle.lookup_answer.specs.Reports.{plusZero, reported, reportOf}
+use Rattle.lookup_answer.proofs.Report as F
+use Rattle.lookup_answer.proofs.Report.Laws as F′
 use Rattle.index.proofs.Storing.{Stored, stored-first, stored-next, stored-done}
 use Rattle.index_search.specs.declared.Question.{Question}
 use Rattle.index_search.specs.Through.{through, keyAt, reportsOf, judgement, judgedOf, questionAt, Rightly, answered}

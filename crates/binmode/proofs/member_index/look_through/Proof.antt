@@ -48,10 +48,10 @@ use Rattle.draft.specs.Writable.{writable}
 use Rattle.member.specs.declared.Member.{Member}
 use Rattle.member.proofs.Member as S
 use Rattle.member.proofs.Member.Laws as S′
-use Rattle.lookup.specs.declared.Report.{Report}
-use Rattle.lookup.specs.Reports.{reportOf}
-use Rattle.lookup.proofs.Report as F
-use Rattle.lookup.proofs.Report.Laws as F′
+use Rattle.lookup_answer.specs.declared.Report.{Report}
+use Rattle.lookup_answer.specs.Reports.{reportOf}
+use Rattle.lookup_answer.proofs.Report as F
+use Rattle.lookup_answer.proofs.Report.Laws as F′
 use Rattle.seeking.specs.declared.Search.{Search}
 use Rattle.seeking.specs.Seeking.{over, begun, unused}
 use Rattle.seeking.proofs.Search as R

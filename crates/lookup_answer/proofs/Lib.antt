@@ -1,0 +1,3 @@
+-- The laws of `lookup_answer`.
+pub mod Answering
+pub mod Reporting

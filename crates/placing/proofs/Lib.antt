@@ -1,0 +1,3 @@
+-- The laws of `placing`.
+pub mod Settling
+pub mod Together
