@@ -369,53 +369,51 @@ fn answer_writing(
     answer_table(line, &table[0..words], text, output)
 }
 
+// The buffers have room for one byte over a message's or a text's limit, and for more words and bytes than a table or an output needs. A line
+// that asks for more is ill-formed.
+fn answer_read(line: &[u8]) -> bool {
+    let mut message = [0u8; 65537];
+    let mut table = [0u32; 20000];
+    answer_reading(line, &mut message, &mut table)
+}
+
+fn answer_write(line: &[u8]) -> bool {
+    let mut message = [0u8; 65537];
+    let mut list = [0u32; 20000];
+    let mut table = [0u32; 20000];
+    let mut output = [0u8; 70000];
+    answer_writing(line, &mut message, &mut list, &mut table, &mut output)
+}
+
 // Writes a line's answer, if it is well-formed, and says whether it is.
-fn answer(
-    line: &[u8],
-    message: &mut [u8],
-    list: &mut [u32],
-    table: &mut [u32],
-    output: &mut [u8],
-) -> bool {
+fn answer(line: &[u8]) -> bool {
     let name = field(line, 0);
     if names::equal(name, b"read") {
-        return answer_reading(line, message, table);
+        return answer_read(line);
     }
     if names::equal(name, b"write") {
-        return answer_writing(line, message, list, table, output);
+        return answer_write(line);
     }
     false
 }
 
 // For each line its answer, or that it is ill-formed.
-fn answer_all(
-    input: &[u8],
-    message: &mut [u8],
-    list: &mut [u32],
-    table: &mut [u32],
-    output: &mut [u8],
-) {
+fn answer_all(input: &[u8]) {
     let mut at = 0;
     while at < input.len() {
         let end = until(input, at, b'\n');
-        if !answer(&input[at..end], message, list, table, output) {
+        if !answer(&input[at..end]) {
             console::write(b"ill-formed\n");
         }
         at = end + 1;
     }
 }
 
-fn answer_input(
-    room: &mut [u8],
-    message: &mut [u8],
-    list: &mut [u32],
-    table: &mut [u32],
-    output: &mut [u8],
-) {
+fn answer_input(room: &mut [u8]) {
     let input = console::read_all(STDIN_FILENO, room);
     match input {
         Input::Bytes(n) => {
-            answer_all(content::part(room, 0, n), message, list, table, output);
+            answer_all(content::part(room, 0, n));
         }
         Input::Failed => {
             os::fail(b"standard input");
@@ -423,13 +421,8 @@ fn answer_input(
     }
 }
 
-// Messages and texts have room for one byte over their limit, tables and outputs for more than theirs. A line that asks for more is
-// ill-formed. What of the input is past its first 400,000 bytes is dropped.
+// What of the input is past its first 400,000 bytes is dropped.
 fn main() {
     let mut room = [0u8; 400000];
-    let mut message = [0u8; 65537];
-    let mut list = [0u32; 20000];
-    let mut table = [0u32; 20000];
-    let mut output = [0u8; 70000];
-    answer_input(&mut room, &mut message, &mut list, &mut table, &mut output);
+    answer_input(&mut room);
 }

@@ -1,15 +1,14 @@
 use borrow.Author.Needs.{needs}
-use Prim.Native.Nat.{_-_}
-use mathlib.Core.Path.{_≡_}
+use Prim.Native.Nat.{_-_, _≤_}
 use lib.ListN.{length}
 use Rattle.answers.proofs.answer_all.Statement.{statement}
 use Rattle.answers.proofs.answer_all.Tie as tie
 
 abbrev Inv-loop : tie.InvT-loop
-Inv-loop input message₀ list₀ table₀ output₀ at₀ t7 message list table output at = (length message ≡ length message₀) × (length list ≡ length list₀) × (length table ≡ length table₀) × (length output ≡ length output₀)
+Inv-loop input at₀ t7 at = 0 ≤ at
 
 abbrev μ-loop : tie.MeasureT-loop
-μ-loop input message₀ list₀ table₀ output₀ at₀ t7 message list table output at = length input - at
+μ-loop input at₀ t7 at = length input - at
 
 pub answer-all-spec : {M : Type 1} → statement M
 answer-all-spec = tie.close (tie.spec
@@ -26,8 +25,4 @@ answer-all-spec = tie.close (tie.spec
     (λ c. search needs)  -- add-at
     (λ c. search needs)  -- loop-less
     (λ c. search needs)  -- loop-again
-    (λ c. search needs)  -- same-length
-    (λ c. search needs)  -- same-length-2
-    (λ c. search needs)  -- same-length-3
-    (λ c. search needs)  -- same-length-4
     (λ c. search needs))  -- returns
