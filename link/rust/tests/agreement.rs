@@ -172,7 +172,7 @@ fn structs() {
     };
     for (rattle, c, rust) in [
         ("member/src/lib.rt", "entry", "Entry"),
-        ("lookup/src/lib.rt", "report", "Report"),
+        ("lookup_answer/src/lib.rt", "report", "Report"),
     ] {
         let source = text(format!("../../crates/{rattle}"));
         let name = if c == "entry" { "Member" } else { "Report" };
