@@ -1,2 +1,1 @@
-pub mod Columns
-pub mod Limits
+-- What is demanded and proved, a page each: the three demands, and the requests E1 to E14.

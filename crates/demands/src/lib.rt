@@ -1,1 +1,1 @@
-// What is demanded of all calls, the limit of nesting that they state and the columns of their tables, as statements over the definitions: see specs/.
+// What is demanded, as pages of statements: see specs/. No function.

@@ -35,8 +35,8 @@ use Rattle.index_search.specs.Through.{throughIf, through, keyAt, reportsOf}
 use Rattle.index_search.proofs.Theorems as index
 use Rattle.meant.proofs.Saying.{standing}
 use Rattle.meant.proofs.Only.{members-stand}
-use Rattle.demands_writing.specs.Writing.{Words, form-derived, judged}
-use Rattle.demands_lookups.specs.Lookups.{distinct-members}
+use Rattle.demands_writing.proofs.Writing.{Words, form-derived, judged}
+use Rattle.demands_lookups.proofs.Lookups.{distinct-members}
 
 -- UNWRITABLE first: filling is refused with 11, and so is every key looked up, through whatever list.
 pub unwritable-fill : (T : List ℕ) (rows : ℕ) (s : List ℕ) (r n : ℕ) → writable T rows s ≡ false → refusalOf T rows s r n ≡ 11

@@ -17,7 +17,7 @@ use Rattle.read_answer.specs.declared.Answer.{Answer}
 use Rattle.read_answer.specs.declared.Answer.the-variants.{Accepted, Refused}
 use Rattle.read_answer.specs.Answers.{reading, answerOf, tableOf, Answers}
 use Rattle.read_answer.proofs.Limited.{got-within}
-use Rattle.demands_reading.specs.Reading.{sound}
+use Rattle.demands_reading.proofs.Reading.{sound}
 
 -- SETTLED. Two calls with one message, one limit and equally large tables answer alike and leave the same words, whatever lay there before.
 pub settled : (limit : ℕ) (s : List ℕ) (words : ℕ) {T T′ : List ℕ} {a a′ : Answer} → Answers (reading limit s words) words T a → Answers (reading limit s words) words T′ a′ → (a ≡ a′) × (T ≡ T′)

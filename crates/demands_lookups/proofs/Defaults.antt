@@ -1,7 +1,7 @@
 -- Document 02's job defaults: what `defaults::choose` and `defaults::text_of` promise (`Defaults.chosen`, `Choosing.Handed`) is E5's lookup in the card,
 -- and only if its Struct lacks the key, in the defaults; and where the part lies. Assumes nothing.
-use mathlib.Core.Path.{_≡_, sym, ap, _∙_}
-use mathlib.Core.Bool.{true, false}
+use mathlib.Core.Path.{_≡_, refl, sym, ap, _∙_}
+use mathlib.Core.Bool.{Bool, true, false, _&&_}
 use mathlib.Core.Logic.{_↔_}
 use mathlib.Core.List.{List, []}
 use Prim.Native.Nat.{ℕ, _+_, _≤_, min}
@@ -18,16 +18,17 @@ use Rattle.lookup_answer.specs.declared.Answer.{Answer}
 use Rattle.lookup_answer.specs.declared.Answer.the-variants as answer
 use Rattle.lookup_answer.specs.Answers.{look, lookup}
 use Rattle.choice.specs.declared.Held.{Held}
+use Rattle.choice.specs.declared.Held.the-variants as held
 use Rattle.choice.specs.declared.Refusal.{Refusal}
-use Rattle.choice.specs.declared.Refusal.the-variants.{NotWritable}
+use Rattle.choice.specs.declared.Refusal.the-variants.{NotWritable, NoMember}
 use Rattle.choice.specs.declared.Choice.{Choice}
 use Rattle.choice.specs.declared.Choice.the-variants.{Card, Defaults, Refused}
 use Rattle.choice.specs.Choosing.{numberOf, preferred, byteOf, Handed}
-use Rattle.defaults.specs.Defaults.{Source, heldIn, structsThen, rowIn, isWritable, chosen}
+use Rattle.defaults.specs.Defaults.{Source, heldIn, structsThen, rowIn, isWritable, chosen, unless}
 use Rattle.sources.proofs.Asking.{decimal-other, Agrees, agrees, card-of, card-by, defaults-of, defaults-by, unchanged, Some, of-card, of-defaults, past-refusals}
 use Rattle.meant.specs.Meant.{Meaning, Answers, whole-number, yes-or-no, decimal, text, datetime, binary, array, struct, other, Said, no-member, this-member, later-member, Answered, in-struct, no-struct}
-use Rattle.demands_writing.specs.Writing.{Words, form-derived, judged}
-use Rattle.demands_lookups.specs.Lookups.{table-says}
+use Rattle.demands_writing.proofs.Writing.{Words, form-derived, judged}
+use Rattle.demands_lookups.proofs.Lookups.{table-says}
 
 -- E5's lookup
 abbrev pub looked : Source → List ℕ → Answer
@@ -163,3 +164,29 @@ module _ {card defaults r : RefT (List ℕ)} {number from : ℕ} where
   refused-lies h =
       let m : min 0 (length (now card)) ≡ 0 = omega arith in
       (h .gives .bytes, h .gives .lies ∙ ap (byteOf card) m, h .says, h .names)
+
+-- REFUSED EXACTLY. 11 only if one of the two tables is not writable; so every other refusal is 18.
+pub eleven-only : (card defaults : Source) (key : List ℕ) → chosen card defaults key ≡ Refused NotWritable → (isWritable card && isWritable defaults) ≡ false
+unfolding chosen structsThen
+eleven-only card defaults key e =
+    through (isWritable card) (isWritable defaults) (isStruct (rowIn card) (card .rows) (card .row)) (isStruct (rowIn defaults) (defaults .rows) (defaults .row))
+    (preferred (own card defaults key) (theirs card defaults key)) (never (own card defaults key) (theirs card defaults key)) e
+  where
+    wrong : Refused NoMember ≡ Refused NotWritable → ⊥
+    wrong e = let z : numberOf NoMember ≡ numberOf NotWritable = cc in omega (arith, z)
+
+    never : (x y : Held) → preferred x y ≡ Refused NotWritable → ⊥
+    never (held.Text o n) y e = let z : _≡_ {A = ℕ} 0 1 = cc in omega arith
+    never held.NoText y e = wrong e
+    never held.Absent held.Absent e = wrong e
+    never held.Absent held.NoText e = wrong e
+    never held.Absent (held.Text o n) e = let z : _≡_ {A = ℕ} 0 1 = cc in omega arith
+
+    through :
+        (a b c d : Bool) (x : Choice) → (x ≡ Refused NotWritable → ⊥)
+        → unless a NotWritable (unless b NotWritable (unless c NoMember (unless d NoMember x))) ≡ Refused NotWritable → (a && b) ≡ false
+    through false b c d x n e = refl
+    through true false c d x n e = refl
+    through true true false d x n e = absurd (wrong e)
+    through true true true false x n e = absurd (wrong e)
+    through true true true true x n e = absurd (n e)

@@ -53,11 +53,11 @@ use Rattle.layouts.specs.Asking.{rowsBy, writableBy, writeBy, writtenBy, planBy
 use Rattle.layouts.proofs.Storing.{rows-lay, columns-lay, read-same, turned-same}
 use Rattle.layouts.proofs.Tying as tying
 use Rattle.layouts.proofs.Tying.{with-table}
-use Rattle.demands_reading.specs.Reading.{sound}
-use Rattle.demands_reading.specs.Settled as settled
-use Rattle.demands_writing.specs.Writing.{Words, Octets}
-use Rattle.demands_pieces.specs.Pieces.{table-settled}
-use Rattle.demands_stations.specs.Stations.{own-read}
+use Rattle.demands_reading.proofs.Reading.{sound}
+use Rattle.demands_reading.proofs.Settled as settled
+use Rattle.demands_writing.proofs.Writing.{Words, Octets}
+use Rattle.demands_pieces.proofs.Pieces.{table-settled}
+use Rattle.demands_stations.proofs.Stations.{own-read}
 
 -- ---- columns
 

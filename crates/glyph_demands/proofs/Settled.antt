@@ -3,11 +3,14 @@
 -- answer a. Assumes nothing.
 use mathlib.Core.Path.{_≡_, refl, sym, ap, _∙_}
 use mathlib.Core.List.{List}
-use Prim.Native.Nat.{ℕ}
+use mathlib.Core.Logic.{_≢_}
+use Prim.Native.Nat.{ℕ, zero, suc, _≤_, _<_}
 use native.Mathlib.Omega.{arith}
-use lib.ListN.{length, replicate, length-replicate}
+use lib.ListN.{length, getD, replicate, length-replicate}
 use Rattle.draft.specs.declared.Row.{Row}
-use Rattle.draft.specs.Table.{roomOf, putRows}
+use Rattle.draft.specs.Table.{roomOf, place, putRows, rowsAt}
+use Rattle.table.proofs.Stored.{rows-there, words-other}
+use Rattle.glyph.specs.declared.Refusal.the-variants.{TooDeep, NoRow, BadLimit}
 use Rattle.table.proofs.Rows.{length-putRows}
 use Rattle.glyph.specs.declared.Refusal.{Refusal}
 use Rattle.glyph.specs.declared.Edition.{Edition}
@@ -16,7 +19,7 @@ use Rattle.glyph.specs.declared.Answer.the-variants.{Accepted, Refused}
 use Rattle.glyph.specs.Refusals.{numberOf}
 use Rattle.glyph.specs.Read.{Reading, got, refused}
 use Rattle.glyph.specs.Answers.{reading, answerOf, tableOf, Answers}
-use Rattle.glyph_demands.specs.Reading.{Derived, sound, Meant, refusals-true}
+use Rattle.glyph_demands.proofs.Reading.{Derived, sound, Meant, refusals-true, growth-of-limits}
 
 module _ (e : Edition) (limit : ℕ) (s : List ℕ) (words : ℕ) where
   -- SETTLED. Two calls with one edition, limit and message and equally large tables answer alike and leave the same words, whatever lay there before.
@@ -80,3 +83,70 @@ module _ (e : Edition) (limit : ℕ) (s : List ℕ) (words : ℕ) where
     pub derived : Derived e limit s (roomOf 4096 words) (accepted-read .rows) used
     unfolding reading
     derived = sound e limit s (roomOf 4096 words) (accepted-read .is)
+
+-- E11 of the function's own answers
+module _
+    (e : Edition) (s : List ℕ) {limit later words words′ : ℕ} (higher : limit ≤ later) (most : later ≤ 32) (larger : words ≤ words′)
+    {T T′ : List ℕ} {a b : Answer} (d : Answers (reading e limit s words) words T a) (d′ : Answers (reading e later s words′) words′ T′ b)
+  where
+    pub answer-stays :
+        ((p : ℕ) → a ≢ Refused 8 p) → ((p : ℕ) → a ≢ Refused 9 p) → ((p : ℕ) → a ≢ Refused 23 p) → b ≡ a
+    unfolding reading
+    answer-stays f g h =
+        d′ .says
+        ∙ ap answerOf
+        (growth-of-limits e s (omega arith) higher most
+        (λ p z. f p (d .says ∙ ap answerOf z))
+        (λ p z. g p (d .says ∙ ap answerOf z))
+        (λ p z. h p (d .says ∙ ap answerOf z)))
+        ∙ sym (d .says)
+
+module _ (e : Edition) (limit : ℕ) (s : List ℕ) (words : ℕ) {T : List ℕ} {n used : ℕ} (d : Answers (reading e limit s words) words T (Accepted n used)) where
+  pub accepted-rows : rowsAt (roomOf 4096 words) T 0 n ≡ accepted-read e limit s words d .rows
+  accepted-rows =
+      ap (rowsAt (roomOf 4096 words) T 0) (sym (accepted-read e limit s words d .count))
+      ∙ ap (λ (l : List ℕ). rowsAt (roomOf 4096 words) l 0 (length (accepted-read e limit s words d .rows))) (stored e limit s words d)
+      ∙ rows-there (roomOf 4096 words) (replicate words 0) 0 (accepted-read e limit s words d .rows) (omega (arith, derived e limit s words d .fits)) (omega (arith, length-replicate {A = ℕ} words 0))
+
+  pub unused-zero : (i : ℕ) → ((r j : ℕ) → r < n → j < 4 → i ≡ place (roomOf 4096 words) r j → ⊥) → getD T i 0 ≡ 0
+  unused-zero i h =
+      ap (λ (l : List ℕ). getD l i 0) (stored e limit s words d)
+      ∙ words-other (roomOf 4096 words) (replicate words 0) 0 (accepted-read e limit s words d .rows) i (λ r j x b. h r j (omega (arith, accepted-read e limit s words d .count)))
+      ∙ zeros words i
+    where
+      zeros : (m k : ℕ) → _≡_ {A = ℕ} (getD (replicate m 0) k 0) 0
+      zeros zero k = refl
+      zeros (suc m) zero = refl
+      zeros (suc m) (suc k) = zeros m k
+
+-- the rows stay, and the words that are none of theirs are zero in the larger table
+module _
+    (e : Edition) (s : List ℕ) {limit later words words′ : ℕ} (higher : limit ≤ later) (most : later ≤ 32) (larger : words ≤ words′)
+    {T T′ : List ℕ} {n used : ℕ} {b : Answer} (d : Answers (reading e limit s words) words T (Accepted n used)) (d′ : Answers (reading e later s words′) words′ T′ b)
+  where
+    pub accepted-stays : b ≡ Accepted n used
+    accepted-stays =
+        answer-stays e s higher most larger d d′
+        (λ p z. let k : _≡_ {A = ℕ} 0 1 = cc in omega arith)
+        (λ p z. let k : _≡_ {A = ℕ} 0 1 = cc in omega arith)
+        (λ p z. let k : _≡_ {A = ℕ} 0 1 = cc in omega arith)
+
+    again : Answers (reading e later s words′) words′ T′ (Accepted n used)
+    again = rw accepted-stays at d′
+
+    pub rows-stay : rowsAt (roomOf 4096 words′) T′ 0 n ≡ rowsAt (roomOf 4096 words) T 0 n
+    unfolding reading
+    rows-stay =
+        let g = accepted-read e limit s words d in
+        let k = accepted-read e later s words′ again in
+        let o : reading e later s words′ ≡ reading e limit s words =
+        growth-of-limits e s (omega arith) higher most
+        (λ p z. let w : got (g .rows) used ≡ refused TooDeep p = sym (g .is) ∙ z in let v : _≡_ {A = ℕ} 0 1 = cc in omega arith)
+        (λ p z. let w : got (g .rows) used ≡ refused NoRow p = sym (g .is) ∙ z in let v : _≡_ {A = ℕ} 0 1 = cc in omega arith)
+        (λ p z. let w : got (g .rows) used ≡ refused BadLimit p = sym (g .is) ∙ z in let v : _≡_ {A = ℕ} 0 1 = cc in omega arith) in
+        let i : got (k .rows) used ≡ got (g .rows) used = sym (k .is) ∙ o ∙ g .is in
+        let j : k .rows ≡ g .rows = cc in
+        accepted-rows e later s words′ again ∙ j ∙ sym (accepted-rows e limit s words d)
+
+    pub added-zero : (i : ℕ) → ((r j : ℕ) → r < n → j < 4 → i ≡ place (roomOf 4096 words′) r j → ⊥) → getD T′ i 0 ≡ 0
+    added-zero = unused-zero e later s words′ again

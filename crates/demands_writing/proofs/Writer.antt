@@ -28,8 +28,8 @@ use Rattle.write_answer.specs.Answers.{formOf, answerOf, Did}
 use Rattle.written.specs.Derivable.{HoldAlike}
 use Rattle.written.proofs.Standing.{from-same}
 use Rattle.written.proofs.Tests.{agreeing}
-use Rattle.demands_writing.specs.Writing.{Words, Octets, ReadsBack, writable-derivable, reading-back, shortest, one-form, read-rows}
-use Rattle.demands_writing.specs.Accepting.{AcceptedFor, accepted-exactly, written-whole}
+use Rattle.demands_writing.proofs.Writing.{Words, Octets, ReadsBack, writable-derivable, reading-back, shortest, one-form, read-rows}
+use Rattle.demands_writing.proofs.Accepting.{AcceptedFor, accepted-exactly, written-whole}
 
 -- a call that answered `Written n`
 module _ (limit : ℕ) (T : List ℕ) (rows : ℕ) (s out₀ out : List ℕ) {n : ℕ} (d : Did limit T rows s out₀ out (Written n)) where

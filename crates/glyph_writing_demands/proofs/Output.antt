@@ -26,8 +26,8 @@ use Rattle.glyph.specs.Tree.{Tree, cells}
 use Rattle.glyph.specs.Grammar.{Blanks, no-blanks, Root}
 use Rattle.glyph.specs.Answers as reader
 use Rattle.glyph.specs.Answers.{reading, Answers}
-use Rattle.glyph_demands.specs.Reading.{complete, one-meaning}
-use Rattle.glyph_demands.specs.Settled.{derived}
+use Rattle.glyph_demands.proofs.Reading.{complete, one-meaning}
+use Rattle.glyph_demands.proofs.Settled.{derived}
 use Rattle.glyph_form.specs.declared.Answer.{Answer}
 use Rattle.glyph_form.specs.declared.Answer.the-variants.{Written, Refused}
 use Rattle.glyph_form.specs.Writable.{writable}
@@ -38,9 +38,9 @@ use Rattle.glyph_back.proofs.Back.{read-back as read-form}
 use Rattle.glyph_back.proofs.Sizes.{size}
 use Rattle.glyph_told.proofs.Deeper.{deeper}
 use Rattle.glyph_told.specs.Tables.{Words, treeOf, Derivable}
-use Rattle.glyph_written.specs.Back.{Means, read-back-same}
-use Rattle.glyph_writing_demands.specs.Tables.{writable-exactly, told, writable-means, writable-rows, writable-higher, form-told, one-form, read-told}
-use Rattle.glyph_writing_demands.specs.Writer.{AcceptedFor, accepted-exactly, written-whole}
+use Rattle.glyph_written.proofs.Back.{Means, read-back-same}
+use Rattle.glyph_writing_demands.proofs.Tables.{writable-exactly, told, writable-means, writable-rows, writable-higher, form-told, one-form, read-told}
+use Rattle.glyph_writing_demands.proofs.Writer.{AcceptedFor, accepted-exactly, written-whole}
 
 -- what a table tells that was made of a message with this meaning
 read-of :

@@ -34,19 +34,21 @@ use Rattle.member.specs.declared.Found.the-variants.{At, Absent}
 use Rattle.member.specs.Members.{members, keysOf, hasKey, find}
 use Rattle.lookup_answer.specs.declared.Refusal as Why
 use Rattle.lookup_answer.specs.declared.Refusal.the-variants.{NotWritable, NoMember, TooManyDigits}
+use Rattle.lookup_answer.specs.declared.Answer.{Answer}
 use Rattle.lookup_answer.specs.declared.Answer.the-variants.{Decimal, Refused}
 use Rattle.lookup_answer.specs.Answers.{lookup}
 use Rattle.lookup_answer.specs.Reports.{plusZero}
 use Rattle.placing.specs.declared.Outcome.the-variants as outcome
-use Rattle.placing.specs.Placing.{at, acceptedAt, refusedWith, position, Lengthy}
+use Rattle.placing.specs.Placing.{at, acceptedAt, refusedWith, position, settled, together, isAny, Lengthy, a-decimal, too-long}
+use Rattle.lookup_answer.specs.Answers.{decimalAnswer}
 use Rattle.placing.proofs.Together.{accepted-of, accepted-by, zeros-of, unwritable-of, long-of}
 use Rattle.meant.specs.Parts.{Parts}
 use Rattle.meant.proofs.Parting.{double-parts}
 use Rattle.meant.specs.Meant.{membersOf, Said, StructAt, Answered}
 use Rattle.meant.proofs.Saying.{standing, struct-said, answered}
 use Rattle.meant.proofs.Only.{members-distinct, found-only}
-use Rattle.demands_reading.specs.Reading.{sound, one-meaning, Distinct}
-use Rattle.demands_writing.specs.Writing.{Words, Octets, form-derived, judged, read-rows, read-writable}
+use Rattle.demands_reading.proofs.Reading.{sound, one-meaning, Distinct}
+use Rattle.demands_writing.proofs.Writing.{Words, Octets, form-derived, judged, read-rows, read-writable}
 
 -- UNWRITABLE first: an unwritable table is refused with 11, and one whose text bytes are too many is unwritable.
 pub unwritable-first : (T : List ℕ) (rows : ℕ) (s : List ℕ) (r : ℕ) (key : List ℕ) → writable T rows s ≡ false → lookup T rows s r key ≡ Refused NotWritable
@@ -163,3 +165,27 @@ module _ (T : List ℕ) (rows : ℕ) (s : List ℕ) (r : ℕ) where
       → Lengthy (lookup T rows s r (bytes "x")) × Lengthy (lookup T rows s r (bytes "y")) × Lengthy (lookup T rows s r (bytes "turn"))
   unfolding position
   position-long e = long-of (lookup T rows s r (bytes "x")) (lookup T rows s r (bytes "y")) (lookup T rows s r (bytes "turn")) e
+
+  -- 19 if each of the three is a decimal or has too many digits, and they are not three decimals.
+  pub position-nineteen :
+      Lengthy (lookup T rows s r (bytes "x")) → Lengthy (lookup T rows s r (bytes "y")) → Lengthy (lookup T rows s r (bytes "turn"))
+      → ((x y turn : Float) → position T rows s r ≡ acceptedAt (at x y turn) → ⊥) → position T rows s r ≡ refusedWith TooManyDigits
+  unfolding position settled together isAny
+  position-nineteen h i j n = by h i j n
+    where
+      by :
+          {a b c : Answer} → Lengthy a → Lengthy b → Lengthy c → ((x y turn : Float) → settled a b c ≡ acceptedAt (at x y turn) → ⊥)
+          → settled a b c ≡ refusedWith TooManyDigits
+      by (a-decimal {x = x}) (a-decimal {x = y}) (a-decimal {x = z}) n = absurd (n x y z refl)
+      by a-decimal a-decimal too-long n = refl
+      by a-decimal too-long a-decimal n = refl
+      by a-decimal too-long too-long n = refl
+      by too-long a-decimal a-decimal n = refl
+      by too-long a-decimal too-long n = refl
+      by too-long too-long a-decimal n = refl
+      by too-long too-long too-long n = refl
+
+-- A Double of too many digits answers 19.
+pub long-nineteen : (t : List ℕ) → held t ≡ false → decimalAnswer (decimalOf t) ≡ Refused TooManyDigits
+unfolding decimalOf
+long-nineteen t e = rw e

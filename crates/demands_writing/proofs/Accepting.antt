@@ -23,8 +23,8 @@ use Rattle.draft.specs.Written.{written, rowsOf}
 use Rattle.read_answer.specs.declared.Answer.the-variants.{Accepted}
 use Rattle.read_answer.specs.Answers.{reading, tableOf, Answers}
 use Rattle.text.proofs.Comparing.{clash}
-use Rattle.demands_reading.specs.Settled.{accepted-read}
-use Rattle.demands_writing.specs.Writing.{Octets, read-writable, read-short}
+use Rattle.demands_reading.proofs.Settled.{accepted-read}
+use Rattle.demands_writing.proofs.Writing.{Octets, read-writable, read-short}
 use Rattle.write_answer.specs.declared.Answer.{Answer}
 use Rattle.write_answer.specs.declared.Answer.the-variants.{Written, Refused}
 use Rattle.write_answer.specs.Answers.{given, answerTo, formOf, answerOf, Did}

@@ -6,7 +6,7 @@
 use mathlib.Core.Path.{_≡_, refl, sym, ap, _∙_}
 use mathlib.Core.Bool.{true, false}
 use mathlib.Core.Logic.{_↔_}
-use mathlib.Core.List.{List}
+use mathlib.Core.List.{List, [], _∷_}
 use Prim.Native.Nat.{ℕ, _+_, _*_, _/_, _≤_, _<_}
 use native.Mathlib.Omega.{arith}
 use lib.ListN.{length, drop, replicate}
@@ -20,11 +20,11 @@ use Rattle.read_answer.specs.declared.Answer.the-variants as reader
 use Rattle.records.specs.declared.JobRefusal.{JobRefusal}
 use Rattle.records.specs.Job.{bodyOf}
 use Rattle.job.specs.declared.Answer.the-variants as job
-use Rattle.read_answer.specs.Answers.{reading}
+use Rattle.read_answer.specs.Answers.{reading, tableOf}
 use Rattle.lookup_answer.specs.Answers as lookups
 use Rattle.placing.specs.Placing.{position}
 use Rattle.pieces.specs.declared.State.{State}
-use Rattle.pieces.specs.Pieces.{joined}
+use Rattle.pieces.specs.Pieces.{joined, outcome, through, roomWith, soFar}
 use Rattle.pieces.specs.Steps.{told}
 use Rattle.pieces.specs.Runs.{begun}
 use Rattle.cuts.proofs.Running.{Ends}
@@ -50,9 +50,9 @@ use Rattle.stations.specs.Turns.{Turns}
 use Rattle.stations.proofs.Calling as calls
 use Rattle.stations.proofs.Calling.{Same}
 use Rattle.stations.proofs.Owning as owning
-use Rattle.demands_jobs.specs.Jobs as jobs
-use Rattle.demands_reading.specs.Settled as whole-table
-use Rattle.demands_pieces.specs.Pieces as pieces
+use Rattle.demands_jobs.proofs.Jobs as jobs
+use Rattle.demands_reading.proofs.Settled as whole-table
+use Rattle.demands_pieces.proofs.Pieces as pieces
 
 -- A ROW SPLITS a table exactly if it is not 0 and is below the number of whole rows, however many those are.
 pub splits-exactly : (split words : ℕ) → (splits split words ≡ true) ↔ ((0 < split) × (split < words / 4))
@@ -249,3 +249,19 @@ pieces-alike limit fine station other-station split other-split T U ok ok′ R�
     let i = pieces-whole limit fine station split T ok R₀ W₀ h ps x few c in
     let j = pieces-whole limit fine other-station other-split U ok′ Q₀ V₀ k qs y (rw e at few) d in
     (i .says ∙ rw (e, l) (sym (j .says)), i .table ∙ rw (e, l) (sym (j .table)))
+
+-- after each piece, at a station
+pub share-after-each :
+    (limit : ℕ) (fine : allowed limit ≡ true) (station : Station) (R₀ W₀ : List ℕ) → 65536 ≤ length R₀ → (ps : List (List ℕ)) {state : State} {R W : List ℕ}
+    → Turns limit station ps begun R₀ W₀ state R W
+    → (told state ≡ soFar (outcome limit (through limit (length W₀) [] ps) (length W₀))) × (R ≡ roomWith (through limit (length W₀) [] ps) R₀)
+share-after-each limit fine station R₀ W₀ long ps ts = (
+  pieces.after-each limit fine R₀ W₀ long ps (owning.turns-run ts),
+  pieces.room-holds limit fine R₀ W₀ long ps (owning.turns-run ts),
+)
+
+pub share-settled :
+    (limit : ℕ) (fine : allowed limit ≡ true) (station : Station) (R₀ W₀ : List ℕ) → 65536 ≤ length R₀ → (p : List ℕ) (ps : List (List ℕ)) {state : State} {R W : List ℕ}
+    → Turns limit station (p ∷ ps) begun R₀ W₀ state R W
+    → W ≡ tableOf (length W₀) (outcome limit (through limit (length W₀) [] (p ∷ ps)) (length W₀))
+share-settled limit fine station R₀ W₀ long p ps ts = pieces.table-settled limit fine R₀ W₀ long p ps (owning.turns-run ts)

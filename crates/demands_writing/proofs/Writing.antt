@@ -29,7 +29,7 @@ use Rattle.occurring.proofs.Repeating.{repeated-once}
 use Rattle.written.proofs.Concluding as conclude
 use Rattle.written.proofs.Returning as return
 use Rattle.written.proofs.Sending.{position-below}
-use Rattle.demands_reading.specs.Reading.{complete, got-deeper}
+use Rattle.demands_reading.proofs.Reading.{complete, got-deeper}
 
 -- a table is words of 32 bits, and text bytes are bytes
 abbrev pub Words : List ℕ → Type 0

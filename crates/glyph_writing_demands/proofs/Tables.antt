@@ -20,8 +20,8 @@ use Rattle.glyph.specs.declared.Answer.the-variants.{Accepted}
 use Rattle.glyph.specs.Read.{got, message}
 use Rattle.glyph.specs.Tree.{Tree, leaf, many, plain, ordered, cells}
 use Rattle.glyph.specs.Answers.{reading, answerOf, tableOf, Answers}
-use Rattle.glyph_demands.specs.Reading.{one-meaning, growth-of-limits}
-use Rattle.glyph_demands.specs.Settled.{whole, accepted-read, stored, derived}
+use Rattle.glyph_demands.proofs.Reading.{one-meaning, growth-of-limits}
+use Rattle.glyph_demands.proofs.Settled.{whole, accepted-read, stored, derived}
 use Rattle.glyph_form.specs.Writable.{writable}
 use Rattle.glyph_form.specs.Form.{bytesOf, written, formWithin, formOf}
 use Rattle.glyph_order.specs.Same.{Same}
@@ -29,7 +29,7 @@ use Rattle.glyph_told.specs.Tables.{Words, treeOf, Derivable}
 use Rattle.glyph_told.proofs.Concluding as conclude
 use Rattle.glyph_told.proofs.Deeper.{deeper}
 use Rattle.glyph_told.proofs.Shorter.{no-longer}
-use Rattle.glyph_written.specs.Back.{Means, one-form-one-meaning}
+use Rattle.glyph_written.proofs.Back.{Means, one-form-one-meaning}
 
 -- a table with a stated number of rows, and text bytes
 module _ (e : Edition) (limit : ℕ) (T : List ℕ) (rows : ℕ) (s : List ℕ) where

@@ -8,7 +8,7 @@ use mathlib.Core.List.{List, [], _++_, append-nil}
 use Prim.Native.Nat.{ℕ, _+_, _*_, _-_, _≤_, _<_}
 use native.Mathlib.Omega.{arith}
 use lib.Dec.{leb, eqb}
-use lib.ListN.{length, take, drop, replicate, take-append-drop}
+use lib.ListN.{length, take, drop, getD, replicate, take-append-drop}
 use lib.Seq.{take-at}
 use borrow.Author.Tests.{leb-true, leb-false, le-leb, lt-leb}
 use Rattle.text.proofs.Comparing.{both}
@@ -16,7 +16,8 @@ use Rattle.draft.specs.declared.Refusal.{Refusal}
 use Rattle.draft.specs.declared.Refusal.the-variants.{TooLong, NotWritable, FormTooLong, OutputTooShort, NoLimit}
 use Rattle.draft.specs.declared.Row.{Row}
 use Rattle.draft.specs.Codebook.{Book}
-use Rattle.draft.specs.Table.{roomOf}
+use Rattle.draft.specs.Table.{roomOf, place, rowAt}
+use Rattle.draft.specs.Refusals.{numberOf}
 use Rattle.draft.specs.Read.{got, message}
 use Rattle.draft.specs.Meaning.{MeanSame}
 use Rattle.draft.specs.Strings.{Text, repeated, textsOf, costs}
@@ -39,8 +40,12 @@ use Rattle.written.specs.Derivable.{DerivesRows}
 use Rattle.written.proofs.Concluding.{rows-length, begins-with, writable-means}
 use Rattle.planning.proofs.Taking.{sents-texts, taken-fit, fit-taken}
 use Rattle.planning.proofs.Concluding as plan
-use Rattle.demands_reading.specs.Reading.{complete, mean-same}
-use Rattle.demands_writing.specs.Writing.{Words, Octets, ReadsBack, form-derived, shortest, one-form, read-rows}
+use Rattle.demands_reading.proofs.Reading.{complete, mean-same}
+use Rattle.text.proofs.Comparing.{clash}
+use Rattle.written.specs.Derivable.{HoldAlike}
+use Rattle.written.proofs.Tests.{agreeing}
+use Rattle.demands_reading.proofs.Settled.{Read, accepted-read}
+use Rattle.demands_writing.proofs.Writing.{Words, Octets, ReadsBack, form-derived, shortest, one-form, read-rows, read-writable, read-short, writable-derivable}
 
 -- the byte string t is read, with refusals 8, 9 and 10 put aside, with the meaning that the rows have with their bytes s
 pub record ReadAs (t s : List ℕ) (rows : List Row) : Type 0 where
@@ -265,6 +270,37 @@ module _ (limit : ℕ) (T : List ℕ) (rows : ℕ) (s p out₀ out : List ℕ) {
       → message t room deep ≡ got others used book → MeanSame s t (rowsOf 4096 T rows) others → (n ≤ used) × (used ≤ length t)
   no-shorter few t room deep e z = let h = shortest limit T rows s was-writable few t room deep e z in (omega (arith, never-longer .0, h .0), h .1)
 
+  -- WHICH. 'The shorter of the plan's message and 01's form is written, 01's if equal.'
+  pub which :
+      (length (written s (rowsOf 4096 T rows)) ≤ length (planned s (rowsOf 4096 T rows) p) → take n out ≡ written s (rowsOf 4096 T rows))
+      × (length (planned s (rowsOf 4096 T rows) p) < length (written s (rowsOf 4096 T rows)) → take n out ≡ planned s (rowsOf 4096 T rows) p)
+  unfolding messageFor chosen shorter
+  which = (
+    λ h. first-bytes ∙ rw (le-leb (length (written s (rowsOf 4096 T rows))) (length (planned s (rowsOf 4096 T rows) p)) h),
+    λ h. first-bytes ∙ rw (lt-leb (length (written s (rowsOf 4096 T rows))) (length (planned s (rowsOf 4096 T rows) p)) h),
+  )
+
+  -- THE FORM up to 256 texts: what is written is document 01's form, whatever plan is taken.
+  pub form-written : Words T → length (repeated (textsOf s (rowsOf 4096 T rows))) ≤ 256 → take n out ≡ written s (rowsOf 4096 T rows)
+  unfolding messageFor chosen shorter
+  form-written w few = first-bytes ∙ go (leb (length form) (length other)) refl
+    where
+      form : List ℕ
+      form = written s (rowsOf 4096 T rows)
+
+      other : List ℕ
+      other = planned s (rowsOf 4096 T rows) p
+
+      at-most : length form ≤ length other
+      at-most =
+          let r = plan.derived-reads (plan-derived limit T rows s was-writable w p (was-accepted .takes)) [] (length (rowsOf 4096 T rows)) limit (omega arith) (omega arith) in
+          let q : other ++ [] ≡ other = append-nil other in
+          shortest limit T rows s was-writable few other (length (rowsOf 4096 T rows)) limit (rw q at (r .2)) (rw q at (r .3)) .0
+
+      go : (b : Bool) → leb (length form) (length other) ≡ b → cond b form other ≡ form
+      go true e = refl
+      go false e = absurd (omega (arith, at-most, leb-false (length form) (length other) e))
+
   -- READ BACK. Any message of at most 65,536 bytes that begins with those n bytes, whatever follows, is read by `reader::read` with any limit
   -- that is not lower, up to 32, into any table with room for the rows, with as many rows and n bytes used; and the rows that it leaves mean the same as the table that was written.
   pub read-back :
@@ -340,3 +376,77 @@ module _ (T : List ℕ) (rows : ℕ) (s p prices : List ℕ) (yes : certified T 
   written-shortest limit out₀ out d t o room deep e z =
       let h = certified-shortest t o room deep e z in
       (omega (arith, never-longer limit T rows s p out₀ out d .1, h .0), h .1)
+
+-- from the reader, with a plan
+still-writable :
+    (limit : ℕ) (s : List ℕ) (words later : ℕ) {T : List ℕ} {n used : ℕ} {xs : List Row} {book : Book} → Octets s → limit ≤ later
+    → (e : reading limit s words ≡ got xs used book) → T ≡ tableOf words (got xs used book) → length xs ≡ n → writableTo later T n s ≡ true
+still-writable limit s words later o h e t l = rw (t, sym l) (read-writable limit s words e o later h)
+
+still-short :
+    (limit : ℕ) (s : List ℕ) (words : ℕ) {T : List ℕ} {n used : ℕ} {xs : List Row} {book : Book}
+    → (e : reading limit s words ≡ got xs used book) → T ≡ tableOf words (got xs used book) → length xs ≡ n
+    → length (repeated (textsOf s (rowsOf 4096 T n))) ≤ 256 → length (written s (rowsOf 4096 T n)) ≤ 65536
+still-short limit s words {T} {n} {used} {xs} {book} e t l few =
+    let k = read-short limit s words e (rw (t, sym l) at few) in
+    let z : length (written s (rowsOf 4096 (tableOf words (got xs used book)) (length xs))) ≤ 65536 = omega (arith, k .0, k .1, k .2) in
+    rw (t, sym l) z
+
+pub plan-from-the-reader :
+    (limit : ℕ) (s : List ℕ) (words later : ℕ) {T : List ℕ} {n used : ℕ} (p out₀ out : List ℕ) {m : Refusal} → Octets s → limit ≤ later
+    → Answers (reading limit s words) words T (Accepted n used) → Did later T n s p out₀ out (Refused m)
+    → (numberOf m ≡ 11 → ⊥) × (length (repeated (textsOf s (rowsOf 4096 T n))) ≤ 256 → numberOf m ≡ 12 → ⊥)
+unfolding messageFor chosen shorter
+plan-from-the-reader limit s words later {T} {n} {used} p out₀ out {m} o h c d = go (outcome later T n s p (length out₀))
+  where
+    form : List ℕ
+    form = written s (rowsOf 4096 T n)
+
+    other : List ℕ
+    other = planned s (rowsOf 4096 T n) p
+
+    g : Read limit s words n used
+    g = accepted-read limit s words c
+
+    t : T ≡ tableOf words (got (g .rows) used (g .book))
+    t = c .leaves ∙ ap (tableOf words) (g .is)
+
+    short : length (repeated (textsOf s (rowsOf 4096 T n))) ≤ 256 → length (messageFor T n s p) ≤ 65536
+    short few = by (leb (length form) (length other)) refl (still-short limit s words (g .is) t (g .count) few)
+      where
+        by : (b : Bool) → leb (length form) (length other) ≡ b → length form ≤ 65536 → length (cond b form other) ≤ 65536
+        by true e l = l
+        by false e l = omega (arith, l, leb-false (length form) (length other) e)
+
+    by : {a : Answer} → RefusedFor later T n s p (length out₀) a → Refused m ≡ a → (numberOf m ≡ 11 → ⊥) × (length (repeated (textsOf s (rowsOf 4096 T n))) ≤ 256 → numberOf m ≡ 12 → ⊥)
+    by (no-limit i) e = let z : m ≡ NoLimit = cc in rw z (λ q. omega arith, λ few q. omega arith)
+    by (long-text i a) e = let z : m ≡ TooLong = cc in rw z (λ q. omega arith, λ few q. omega arith)
+    by (not-writable i a b) e = absurd (clash (still-writable limit s words later o h (g .is) t (g .count)) b)
+    by (not-taken i a b f) e = let z : _≡_ {A = ℕ} 0 1 = cc in absurd (omega arith)
+    by (long-message i a b f l) e = let z : numberOf m ≡ 12 = cc in (λ q. omega (arith, z), λ few q. omega (arith, short few, l))
+    by (short-output i a b f l r) e = let z : m ≡ OutputTooShort = cc in rw z (λ q. omega arith, λ few q. omega arith)
+
+    go : Outcome later T n s p (length out₀) → (numberOf m ≡ 11 → ⊥) × (length (repeated (textsOf s (rowsOf 4096 T n))) ≤ 256 → numberOf m ≡ 12 → ⊥)
+    go (accepted {n = k} a) = let e : Refused m ≡ Written k = d .says ∙ accepted-exactly later T n s p (length out₀) k .1 a in absurd (never e)
+    go (refused {a = a} r) = by r (d .says ∙ refused-so r)
+
+-- no word but those of the stated rows, with a plan
+plan-writable-over :
+    (limit : ℕ) (T T′ : List ℕ) (rows : ℕ) (s : List ℕ) → Words T → Words T′ → Octets s → (rows * 4 ≤ length T → rows * 4 ≤ length T′)
+    → rowsOf 4096 T rows ≡ rowsOf 4096 T′ rows → writableTo limit T rows s ≡ true → writableTo limit T′ rows s ≡ true
+unfolding writableTo
+plan-writable-over limit T T′ rows s w w′ o over same e =
+    let h = writable-derivable 65536 4096 limit rows w o .0 e in
+    writable-derivable 65536 4096 limit rows w′ o .1
+    (record { text = h .0 .text; some-row = h .0 .some-row; few = h .0 .few; there = over (h .0 .there) }, rw same at (h .1))
+
+pub plan-stated-rows :
+    (limit : ℕ) (T T′ : List ℕ) (rows : ℕ) (s p out₀ out₁ out out′ : List ℕ) {a a′ : Answer} → Words T → Words T′ → Octets s
+    → HoldAlike rows T T′ → length out₀ ≡ length out₁ → Did limit T rows s p out₀ out a → Did limit T′ rows s p out₁ out′ a′
+    → rowsOf 4096 T rows ≡ rowsOf 4096 T′ rows → (a ≡ a′) × (out ≡ out′)
+unfolding answerOf messageFor
+plan-stated-rows limit T T′ rows s p out₀ out₁ out out′ {a} {a′} w w′ o hold l d d′ same =
+    let v : writableTo limit T rows s ≡ writableTo limit T′ rows s =
+    agreeing (writableTo limit T rows s) (writableTo limit T′ rows s) (plan-writable-over limit T T′ rows s w w′ o (hold .0) same) (plan-writable-over limit T′ T rows s w′ w o (hold .1) (sym same)) in
+    let e : a ≡ a′ = d .says ∙ rw (l, v, same) (sym (d′ .says)) in
+    (e, d .leaves ∙ rw (e, l, same) (sym (d′ .leaves)))

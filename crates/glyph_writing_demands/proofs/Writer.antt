@@ -24,7 +24,7 @@ use Rattle.glyph_form.specs.declared.Answer.the-variants.{Written, Refused}
 use Rattle.glyph_form.specs.Writable.{writable}
 use Rattle.glyph_form.specs.Form.{formOf}
 use Rattle.glyph_form.specs.Answers.{given, answerOf, Did}
-use Rattle.glyph_writing_demands.specs.Tables.{read-writable, read-short}
+use Rattle.glyph_writing_demands.proofs.Tables.{read-writable, read-short}
 
 -- an answer behind a test
 given-written : (b : Bool) (m : Refusal) (o : Answer) {n : ℕ} → given b m o ≡ Written n → (b ≡ true) × (o ≡ Written n)

@@ -3,9 +3,9 @@
 -- `WroteFor e limit T station split rows s out out′ a` that of `glyph_stations::write`. `shareOf station split T` are the share's words. Assumes nothing.
 use mathlib.Core.Path.{_≡_, refl, sym, ap, _∙_}
 use mathlib.Core.Bool.{Bool, true, false}
-use mathlib.Core.Logic.{_↔_}
+use mathlib.Core.Logic.{_↔_, _≢_}
 use mathlib.Core.List.{List}
-use Prim.Native.Nat.{ℕ, _*_, _/_}
+use Prim.Native.Nat.{ℕ, _*_, _/_, _≤_}
 use native.Mathlib.Omega.{arith}
 use lib.ListN.{length, drop, replicate}
 use Rattle.shares.specs.declared.Station.{Station}
@@ -19,7 +19,7 @@ use Rattle.glyph.specs.Answers.{reading, answerOf, Answers}
 use Rattle.glyph_form.specs.declared.Answer as written
 use Rattle.glyph_form.specs.Answers as writer
 use Rattle.glyph_form.specs.Answers.{Did}
-use Rattle.glyph_demands.specs.Settled as whole-table
+use Rattle.glyph_demands.proofs.Settled as whole-table
 use Rattle.glyph_stations.specs.declared.StationAnswer.{StationAnswer}
 use Rattle.glyph_stations.specs.declared.StationAnswer.the-variants.{Answered, NotSplit}
 use Rattle.glyph_stations.specs.declared.WriteAnswer.{WriteAnswer}
@@ -167,3 +167,18 @@ read-alike station other-station split other-split T U ok ok′ size e limit s c
     let y = rw (← size) at (own-read other-station other-split U ok′ e limit s d) in
     let z = whole-table.settled e limit s (sizeOf station split (length T)) (x .did) (y .did) in
     (x .is ∙ ap Answered (z .0) ∙ sym (y .is), z .1)
+
+-- E11 at stations: an answer other than 8, 9, 22 and 23 stays under a higher limit and in a larger share
+pub station-stays :
+    (here there : Station) (split split′ : ℕ) (T U : List ℕ) → splits split (length T) ≡ true → splits split′ (length U) ≡ true
+    → (e : Edition) (s : List ℕ) {limit later : ℕ} → limit ≤ later → later ≤ 32 → sizeOf here split (length T) ≤ sizeOf there split′ (length U)
+    → {T′ U′ : List ℕ} {a b : StationAnswer} → ReadFor e limit s here split T T′ a → ReadFor e later s there split′ U U′ b
+    → ((p : ℕ) → a ≢ Answered (answer.Refused 8 p)) → ((p : ℕ) → a ≢ Answered (answer.Refused 9 p)) → ((p : ℕ) → a ≢ Answered (answer.Refused 23 p)) → b ≡ a
+station-stays here there split split′ T U is is′ e s {limit} {later} higher most larger c d f g h =
+    let x = own-read here split T is e limit s c in
+    let y = own-read there split′ U is′ e later s d in
+    y .is
+    ∙ ap Answered
+    (whole-table.answer-stays e s higher most larger (x .did) (y .did)
+    (λ p z. f p (x .is ∙ ap Answered z)) (λ p z. g p (x .is ∙ ap Answered z)) (λ p z. h p (x .is ∙ ap Answered z)))
+    ∙ sym (x .is)

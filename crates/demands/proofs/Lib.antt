@@ -1,0 +1,1 @@
+-- That the pages hold, each by laws of the crates below.
