@@ -1,4 +1,4 @@
-use Rattle.buckets.proofs.Comparing.{comparing}
+use Rattle.buckets.proofs.Comparing.{comparing, texts-one, texts-equal}
 use borrow.Author.Needs.{needs}
 use Rattle.buckets.proofs.equal_texts.Statement.{statement}
 use Rattle.buckets.proofs.equal_texts.Tie as tie
@@ -13,7 +13,7 @@ equal-texts-spec = tie.close (tie.spec
     (λ c. search needs)  -- shared-slice-read-wide-2
     (λ c κs. search needs)  -- wide-requires-2
     (λ c κs. (search comparing, search needs, search needs))  -- get-row-requires-2
-    (λ c. search comparing)  -- returns
+    (λ c. search texts-one)  -- returns
     (λ c. search needs)  -- cast-part
     (λ c. search needs)  -- cast-part-2
     (λ c κs. search needs)  -- part-requires
@@ -21,4 +21,4 @@ equal-texts-spec = tie.close (tie.spec
     (λ c. search needs)  -- cast-part-4
     (λ c κs. search needs)  -- part-requires-2
     (λ c κs. search needs)  -- equal-requires
-    (λ c. search comparing))  -- returns-2
+    (λ c. search texts-equal))  -- returns-2

@@ -1,6 +1,6 @@
 use Prim.Native.Nat.{_-_}
 use Rattle.draft.specs.Table.{rowAt}
-use Rattle.encoding.proofs.Running.{running, Running}
+use Rattle.encoding.proofs.Running.{running, run-string, Running}
 use borrow.Author.Needs.{needs}
 use Rattle.encoding.proofs.put_run.Statement.{statement}
 use Rattle.encoding.proofs.put_run.Tie as tie
@@ -18,7 +18,7 @@ put-run-spec = tie.close (tie.spec
     (λ c. search running)  -- loop-holds
     (λ c κs. search needs)  -- get-row-requires
     (λ c. search needs)  -- same-length
-    (λ c. search running)  -- returns
+    (λ c. search run-string)  -- returns
     (λ c. search running)  -- sub-left
     (λ c. search running)  -- sub-put-item
     (λ c. search running)  -- part-put-item-start

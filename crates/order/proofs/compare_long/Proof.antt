@@ -1,4 +1,4 @@
-use Rattle.order.proofs.Comparing.{by-eights, ByEights}
+use Rattle.order.proofs.Comparing.{by-eights, ByEights, last-before, last-after}
 use Prim.Native.Nat.{_-_}
 use borrow.Author.Needs.{needs}
 use Rattle.order.proofs.compare_long.Statement.{statement}
@@ -25,7 +25,7 @@ compare-long-spec = tie.close (tie.spec
     (λ c. search (needs, by-eights))  -- loop-again
     (λ c κs. search (needs, by-eights))  -- rank-at-requires-3
     (λ c κs. search (needs, by-eights))  -- rank-at-requires-4
-    (λ c. search (needs, by-eights))  -- returns-3
-    (λ c. search (needs, by-eights))  -- returns-4
+    (λ c. search last-before fits 20000)  -- returns-3
+    (λ c. search last-after)  -- returns-4
     (λ c κs. search (needs, by-eights))  -- compare-lengths-requires
     (λ c. search (needs, by-eights)))  -- returns-5

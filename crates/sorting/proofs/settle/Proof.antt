@@ -4,7 +4,7 @@ use native.Mathlib.Omega.{arith}
 use borrow.Author.Needs.{needs}
 use Rattle.draft.specs.Table.{rowAt}
 use Rattle.sorting.specs.Sorting.{keyText}
-use Rattle.sorting.proofs.Settling.{Settling, settling}
+use Rattle.sorting.proofs.Settling.{Settling, settling, settle-again}
 use Rattle.sorting.proofs.settle.Statement.{statement}
 use Rattle.sorting.proofs.settle.Tie as tie
 
@@ -35,7 +35,7 @@ settle-spec = tie.close (tie.spec
     (λ c. search needs)  -- slice-write-rows-2
     (λ c. search needs)  -- add-i
     (λ c. simp length-set (omega arith))  -- loop-less
-    (λ c. search settling)  -- loop-again
+    (λ c. search settle-again)  -- loop-again
     (λ c. search needs)  -- mul-rows-4
     (λ c. search needs)  -- slice-write-rows-3
     (λ c. search needs)  -- same-length-2

@@ -2,7 +2,7 @@
 use Prim.Native.Nat.{_-_}
 use lib.ListN.{length}
 use borrow.Author.Needs.{needs}
-use Rattle.text_check.proofs.Turning.{At, turning}
+use Rattle.text_check.proofs.Turning.{At, at-run, turning}
 use Rattle.text_check.proofs.walk_runs.Statement.{statement}
 use Rattle.text_check.proofs.walk_runs.Tie as tie
 
@@ -27,7 +27,7 @@ walk-runs-spec = tie.close (tie.spec
     (λ c. search needs)  -- add-past-more
     (λ c κs. search needs)  -- past-more-requires
     (λ c. search needs)  -- loop-less-2
-    (λ c. search turning)  -- loop-again-2
+    (λ c. at-run {below = c .before .before .eight-below .result} (c .before .before .before .before .before .loop .inv) (search needs) (search needs) (search needs) (search needs) (search needs))  -- loop-again-2
     (λ c κs. search needs)  -- eight-steps-requires
     (λ c. search needs)  -- add-at-2
     (λ c. search needs)  -- loop-less-3
