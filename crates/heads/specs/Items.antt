@@ -4,16 +4,14 @@ use Prim.Native.Nat.{ℕ, _+_, _≤_, _<_}
 use mathlib.Core.Path.{_≡_}
 use mathlib.Core.Bool.{Bool, true, false, _||_}
 use mathlib.Core.List.{List, []}
-use lib.ListN.{length, getD}
+use lib.ListN.{length}
 use lib.Dec.{leb, ltb, eqb}
 use Rattle.draft.specs.declared.Refusal.the-variants.{Ended, TooDeep, NoRow}
 use Rattle.draft.specs.declared.Row.{Row}
 use Rattle.draft.specs.Bytes.{unsignedAt}
-use Rattle.draft.specs.Read.{Reader, Texts, items, alike, nothing, member, keeping, over, value}
-use Rattle.codebook.specs.Words.{bookOf}
+use Rattle.draft.specs.Read.{Reader, Texts, items, alike, nothing, member, keeping, over}
 use Rattle.item.specs.declared.Step.{Step}
-use Rattle.item.specs.Contract.{refusedAt, readTo, Did}
-use Rattle.member_keys.specs.Contract.{KeyIf}
+use Rattle.item.specs.Contract.{refusedAt, readTo}
 
 abbrev pub pickStep : Bool → Step → Step → Step
 pickStep true x y = x
@@ -60,10 +58,3 @@ pub record Begun (s : List ℕ) (room deep at r : ℕ) : Type 0 where
   pub count : at + 5 ≤ length s
   pub row : r < room
   pub level : 0 < deep
-
--- what reading an item's key, if items have keys, and looking at the item's first byte came to: the key is refused; the item is; or neither,
--- and the item is there, and may begin if it is an Array or a Struct
-pub data Entered (keyed : Bool) (s : List ℕ) (room deep owner at r : ℕ) (T T′ W W′ N N′ : List ℕ) : Step → Type 0 where
-  no-key : {step : Step} → KeyIf keyed s room owner at r T T′ W W′ N N′ step → (step .number ≡ 0 → ⊥) → Entered keyed s room deep owner at r T T′ W W′ N N′ step
-  no-item : {key step : Step} → KeyIf keyed s room owner at r T T′ W W′ N N′ key → key .number ≡ 0 → Did (value s room deep (key .at) (key .row) (bookOf W′)) (length s) room (key .at + 1) (key .row) T′ T′ W′ step → (step .number ≡ 0 → ⊥) → Entered keyed s room deep owner at r T T′ W W′ N N′ step
-  item : {step : Step} → KeyIf keyed s room owner at r T T′ W W′ N N′ step → step .number ≡ 0 → step .at < length s → (holdsItems (getD s (step .at) 0) ≡ true → Begun s room deep (step .at) (step .row)) → Entered keyed s room deep owner at r T T′ W W′ N N′ step

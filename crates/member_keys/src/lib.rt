@@ -3,14 +3,14 @@
 use draft::Refusal;
 use item::Step;
 ghost use mathlib.Core.Path.{_≡_};
-ghost use mathlib.Core.Bool.{_&&_, true};
+ghost use mathlib.Core.Bool.{_&&_};
 ghost use Prim.Native.Nat.{_+_, _≤_, _<_};
 ghost use lib.ListN.{length, getD};
 ghost use lib.Dec.{ltb, eqb};
 ghost use Rattle.draft.specs.Read.{string};
 ghost use Rattle.codebook.specs.Words.{bookOf};
 ghost use Rattle.item.specs.Contract.{Ready, Did};
-ghost use Rattle.member_keys.specs.Contract.{Prepared, KeyDone, KeyIf};
+ghost use Rattle.member_keys.specs.Contract.{Prepared, KeyDone};
 
 // Whether a recalled String stands at a place.
 fn is_recalled(s: &[u8], at: usize) -> bool
@@ -41,7 +41,7 @@ fn read_name(
 }
 
 // The key at `at`, for the Struct whose first key has the row `owner`. One that came before in its Struct is refused at its place.
-fn read_key(
+pub fn read_key(
     s: &[u8],
     at: usize,
     row: usize,
@@ -67,25 +67,4 @@ fn read_key(
     }
     keys::join(notes, owner, row, h);
     step
-}
-
-// The same where items have keys; else nothing.
-pub fn read_key_if(
-    keyed: bool,
-    s: &[u8],
-    at: usize,
-    row: usize,
-    room: usize,
-    table: &mut [u32],
-    book: &mut [u32],
-    notes: &mut [u16],
-    owner: usize,
-) -> Step
-    requires { ⌜ (keyed ≡ true → 0 < owner) × (owner ≤ row) × Prepared (now s) at row room (now table) (now book) (now notes) ⌝ }
-    ensures { λ r. ⌜ KeyIf keyed (now (s .entry)) room owner at row (now (table .entry)) (now (table .exit)) (now (book .entry)) (now (book .exit)) (now (notes .entry)) (now (notes .exit)) r ⌝ }
-{
-    if keyed {
-        return read_key(s, at, row, room, table, book, notes, owner);
-    }
-    Step { number: 0, at, row }
 }

@@ -7,7 +7,7 @@ ghost use mathlib.Core.Path.{_≡_};
 ghost use Prim.Native.Nat.{_+_, _*_, _≤_, _<_};
 ghost use lib.ListN.{length};
 ghost use Rattle.draft.specs.Table.{rowAt};
-ghost use Rattle.draft.specs.Read.{textOf, pair, longItem, only, name, otherItem};
+ghost use Rattle.draft.specs.Read.{textOf, pair, longItem, only, string, name, otherItem};
 ghost use Rattle.codebook.specs.Words.{bookOf};
 ghost use Rattle.item.specs.Contract.{Fitting, Ready, Did, Stored};
 
@@ -35,6 +35,27 @@ fn row_text<'a>(s: &'a [u8], table: &[u32], room: usize, r: usize) -> &'a [u8]
     content::part(s, row.a as usize, row.b as usize)
 }
 
+// A String, as `strings::read_string` reads it. Called once, it is compiled into its caller, where that of a Call's method is not.
+fn read_type(
+    s: &[u8],
+    at: usize,
+    row: usize,
+    room: usize,
+    table: &mut [u32],
+    book: &mut [u32],
+) -> Step
+    requires { ⌜ Ready at row room (length (now s)) (length (now table)) (length (now book)) ⌝ }
+    ensures { λ r. ⌜ Did (string (now (s .entry)) room at row (bookOf (now (book .entry)))) (length (now (s .entry))) room (at + 1) row (now (table .entry)) (now (table .exit)) (now (book .exit)) r ⌝ }
+{
+    if s.len() <= at {
+        return item::refuse(Refusal::Ended, at);
+    }
+    match s[at] {
+        b'<' => recalled::read_recalled(s, at, row, room, table, book),
+        _ => strings::read_sent(s, at, row, room, table, book),
+    }
+}
+
 // The name of the Other at o.
 fn read_name(
     s: &[u8],
@@ -48,7 +69,7 @@ fn read_name(
     requires { ⌜ Ready at row room (length (now s)) (length (now table)) (length (now book)) ⌝ }
     ensures { λ r. ⌜ Did (name (now (s .entry)) room o at row (bookOf (now (book .entry)))) (length (now (s .entry))) room (at + 1) row (now (table .entry)) (now (table .exit)) (now (book .exit)) r ⌝ }
 {
-    let step = strings::read_string(s, at, row, room, table, book);
+    let step = read_type(s, at, row, room, table, book);
     if step.number != 0 {
         return step;
     }

@@ -36,3 +36,57 @@ pub fn read_scalar(
         _ => item::refuse(Refusal::UnexpectedByte, at),
     }
 }
+
+// The same for the values of an Array, and for those of a Struct's pairs. A function that is called once is always compiled into its caller,
+// so each loop has its own; place and row are named as there.
+pub fn read_item(
+    s: &[u8],
+    next: usize,
+    free: usize,
+    room: usize,
+    table: &mut [u32],
+    book: &mut [u32],
+) -> Step
+    requires { ⌜ (next < length (now s)) × (getD (now s) next 0 ≡ 65 → ⊥) × (getD (now s) next 0 ≡ 83 → ⊥) × Ready next free room (length (now s)) (length (now table)) (length (now book)) ⌝ }
+    ensures { λ r. ⌜ Did (item (now (s .entry)) room (tagOf (getD (now (s .entry)) next 0)) floor next free (bookOf (now (book .entry)))) (length (now (s .entry))) room (next + 1) free (now (table .entry)) (now (table .exit)) (now (book .exit)) r ⌝ }
+{
+    match s[next] {
+        b'I' => leaves::read_integer(s, next, free, room, table),
+        b't' => leaves::read_boolean(s, next, free, 1, room, table),
+        b'f' => leaves::read_boolean(s, next, free, 0, room, table),
+        b'D' => leaves::read_short(s, next, free, Content::Double, room, table),
+        b'8' => leaves::read_short(s, next, free, Content::DateTime, room, table),
+        b'B' => leaves::read_long(s, next, free, Content::Binary, room, table),
+        b'O' => others::read_other(s, next, free, room, table, book),
+        b'U' => leaves::read_long(s, next, free, Content::Text, room, table),
+        b'>' => recorded::read_recorded(s, next, free, room, table, book),
+        b'<' => recalled::read_recalled(s, next, free, room, table, book),
+        _ => item::refuse(Refusal::UnexpectedByte, next),
+    }
+}
+
+pub fn read_member(
+    s: &[u8],
+    next: usize,
+    free: usize,
+    room: usize,
+    table: &mut [u32],
+    book: &mut [u32],
+) -> Step
+    requires { ⌜ (next < length (now s)) × (getD (now s) next 0 ≡ 65 → ⊥) × (getD (now s) next 0 ≡ 83 → ⊥) × Ready next free room (length (now s)) (length (now table)) (length (now book)) ⌝ }
+    ensures { λ r. ⌜ Did (item (now (s .entry)) room (tagOf (getD (now (s .entry)) next 0)) floor next free (bookOf (now (book .entry)))) (length (now (s .entry))) room (next + 1) free (now (table .entry)) (now (table .exit)) (now (book .exit)) r ⌝ }
+{
+    match s[next] {
+        b'I' => leaves::read_integer(s, next, free, room, table),
+        b't' => leaves::read_boolean(s, next, free, 1, room, table),
+        b'f' => leaves::read_boolean(s, next, free, 0, room, table),
+        b'D' => leaves::read_short(s, next, free, Content::Double, room, table),
+        b'8' => leaves::read_short(s, next, free, Content::DateTime, room, table),
+        b'B' => leaves::read_long(s, next, free, Content::Binary, room, table),
+        b'O' => others::read_other(s, next, free, room, table, book),
+        b'U' => leaves::read_long(s, next, free, Content::Text, room, table),
+        b'>' => recorded::read_recorded(s, next, free, room, table, book),
+        b'<' => recalled::read_recalled(s, next, free, room, table, book),
+        _ => item::refuse(Refusal::UnexpectedByte, next),
+    }
+}

@@ -28,7 +28,7 @@ use Rattle.value.proofs.Taking.{scalar-takes}
 use Rattle.value.proofs.Turns.{Turn, turn-first, after, again-by, refused-by, turn-done}
 
 -- nothing is kept of what was refused
-after-not : {t t′ : ℕ → Text} {N N′ : List ℕ} {first : ℕ} {step : Step} → (step .number ≡ 0 → ⊥) → After t t′ N N′ first step
+pub after-not : {t t′ : ℕ → Text} {N N′ : List ℕ} {first : ℕ} {step : Step} → (step .number ≡ 0 → ⊥) → After t t′ N N′ first step
 after-not n = record { keeps = λ e. absurd (n e); behind = λ e. absurd (n e) }
 
 -- a Value that holds no others leaves the notes
@@ -233,23 +233,8 @@ module _ {s : List ℕ} {f : Reader} {n at₀ r₀ room : ℕ} {T₀ W₀ N₀ :
           let q = k .none refl in
           value-again i (rw (q .says, q .table, q .book) at d) h (rw (q .says, q .table, q .notes) at a) z
 
--- one item without a key
-then-got : (o : Reading) → then o (λ rows at book. got ([] ++ rows) at book) ≡ o
-then-got (refused m p) = refl
-then-got (got rows at book) = refl
-
-entries-one : (s : List ℕ) (room : ℕ) (f : Reader) (at r : ℕ) (book : Book) → entries s room false f 1 at r book ≡ f at r book
-unfolding entries items alike nothing
-entries-one s room f at r book = then-got (f at (r + length {A = Row} []) book) ∙ rw (add-zero r)
-
-pub unkeyed : {n : ℕ} → false ≡ true → 0 < n
-unkeyed e = let z : _≡_ {A = ℕ} 0 1 = cc in absurd (omega arith)
-
-pub single : (s : List ℕ) (f : Reader) (book : Book) {room at r : ℕ} {T T′ W′ N N′ : List ℕ} {step : Step} → Done (entries s room false f 1 at r book) s room (at + min 1 1) r T T′ W′ N N′ step → Done (f at r book) s room (at + 1) r T T′ W′ N N′ step
-single s f book {room} {at} {r} d = rw (entries-one s room f at r book) at d
-
 -- what closing asks
 pub done-ends : {o : Reading} {s : List ℕ} {room from r : ℕ} {T T′ W′ N N′ : List ℕ} {step : Step} → Done o s room from r T T′ W′ N N′ step → Ends step room
 done-ends d = did-ends (d .did)
 
-pub ruleset going = (done-ends, unkeyed, single, contents-ready, contents-done, going-first, going-ready, going-on, going-done, key-stops)
+pub ruleset going = (done-ends, contents-ready, contents-done, going-first, going-ready, going-on, going-done)

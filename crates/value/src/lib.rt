@@ -1,22 +1,22 @@
-// Reading a Value. An Array's items may be Arrays or Structs, and a Struct's values likewise: `read_items` reads the values of an Array or
-// the pairs of a Struct, and `read_contents` what one of them holds; they call one another in a cycle, in which `deep`, the nesting left,
-// falls at each Array and Struct, and the bytes left at each item. The keys of all Structs are noted in the lent words `notes`.
-// Items that hold no others are read in the loop, by the only call of `read_scalar`: a function of a cycle is never inlined, and one that
-// is called once always is. Before a call in the cycle the slice is copied, `let t = s;`: `s` itself came in as two words stored singly,
+// Reading a Value. An Array's items may be Arrays or Structs, and a Struct's values likewise: `read_value` reads a Value, `read_values` the
+// values of an Array and `read_pairs` the pairs of a Struct; they call one another in a cycle, in which `deep`, the nesting left, falls at
+// each Array and Struct, and the bytes left at each item. The keys of all Structs are noted in the lent words `notes`.
+// Items that hold no others are read in the loops, without a call of the cycle.
+// Before a call in the cycle the slice is copied, `let t = s;`: `s` itself came in as two words stored singly,
 // and to lend it on from where it lies loads both at once, which waits for the stores; the copy is made of registers.
+use draft::Refusal;
 use item::Step;
 ghost use mathlib.Core.Path.{_≡_};
-ghost use mathlib.Core.Bool.{true};
-ghost use Prim.Native.Nat.{_+_, _-_, _<_, min};
+ghost use mathlib.Core.Bool.{true, false};
+ghost use Prim.Native.Nat.{_+_, _<_, min};
 ghost use lib.ListN.{length, getD};
-ghost use lib.Dec.{eqb};
 ghost use Rattle.draft.specs.Read.{value};
 ghost use Rattle.codebook.specs.Words.{bookOf};
 ghost use Rattle.member_keys.specs.Contract.{Prepared, Done};
-ghost use Rattle.heads.specs.Items.{entries, contentsOf, Begun};
+ghost use Rattle.heads.specs.Items.{entries};
 
-// What the Array or the Struct at `at` holds, and its row.
-fn read_contents(
+// The Value at `at`.
+pub fn read_value(
     s: &[u8],
     at: usize,
     row: usize,
@@ -26,66 +26,55 @@ fn read_contents(
     book: &mut [u32],
     notes: &mut [u16],
 ) -> Step
-    requires { ⌜ Begun (now s) room deep at row × Prepared (now s) at row room (now table) (now book) (now notes) ⌝ }
-    ensures { λ r. ⌜ Done (contentsOf (now (s .entry)) room (eqb (getD (now (s .entry)) at 0) 83) (value (now (s .entry)) room (deep - 1)) at row (bookOf (now (book .entry)))) (now (s .entry)) room (at + 1) row (now (table .entry)) (now (table .exit)) (now (book .exit)) (now (notes .entry)) (now (notes .exit)) r ⌝ }
+    requires { ⌜ Prepared (now s) at row room (now table) (now book) (now notes) ⌝ }
+    ensures { λ r. ⌜ Done (value (now (s .entry)) room deep at row (bookOf (now (book .entry)))) (now (s .entry)) room (at + 1) row (now (table .entry)) (now (table .exit)) (now (book .exit)) (now (notes .entry)) (now (notes .exit)) r ⌝ }
 {
+    if s.len() <= at {
+        return item::refuse(Refusal::Ended, at);
+    }
+    if heads::holds_items(s[at]) {
+        let head = heads::read_head(s, at, row, deep, room);
+        if head.number != 0 {
+            return head;
+        }
+        let t = s;
+        let n = item::unsigned(s, at + 1);
+        if s[at] == b'S' {
+            let step = read_pairs(t, at + 5, row + 1, deep - 1, n, room, table, book, notes);
+            return item::close(step, 10, n as u32, row, room, table);
+        }
+        let step = read_values(t, at + 5, row + 1, deep - 1, n, room, table, book, notes);
+        return item::close(step, 9, n as u32, row, room, table);
+    }
     let t = s;
-    let keyed = s[at] == b'S';
-    let n = item::unsigned(s, at + 1);
-    let step = read_items(
-        t,
-        at + 5,
-        row + 1,
-        deep - 1,
-        n,
-        keyed,
-        room,
-        table,
-        book,
-        notes,
-    );
-    item::close(step, heads::kind_for(keyed), n as u32, row, room, table)
+    scalar::read_scalar(t, at, row, room, table, book)
 }
 
-// n items, one after the other, each behind its key if they have keys. Their Struct is known to the notes by the row where they begin.
-fn read_items(
+// n values, one after the other.
+fn read_values(
     s: &[u8],
     at: usize,
     row: usize,
     deep: usize,
     n: usize,
-    keyed: bool,
     room: usize,
     table: &mut [u32],
     book: &mut [u32],
     notes: &mut [u16],
 ) -> Step
-    requires { ⌜ (keyed ≡ true → 0 < row) × Prepared (now s) at row room (now table) (now book) (now notes) ⌝ }
-    ensures { λ r. ⌜ Done (entries (now (s .entry)) room keyed (value (now (s .entry)) room deep) n at row (bookOf (now (book .entry)))) (now (s .entry)) room (at + min n 1) row (now (table .entry)) (now (table .exit)) (now (book .exit)) (now (notes .entry)) (now (notes .exit)) r ⌝ }
+    requires { ⌜ Prepared (now s) at row room (now table) (now book) (now notes) ⌝ }
+    ensures { λ r. ⌜ Done (entries (now (s .entry)) room false (value (now (s .entry)) room deep) n at row (bookOf (now (book .entry)))) (now (s .entry)) room (at + min n 1) row (now (table .entry)) (now (table .exit)) (now (book .exit)) (now (notes .entry)) (now (notes .exit)) r ⌝ }
 {
     let mut left = n;
     let mut next = at;
     let mut free = row;
     while 0 < left {
-        let key = heads::read_key_and_head(
-            keyed,
-            s,
-            next,
-            free,
-            deep,
-            room,
-            table,
-            book,
-            notes,
-            row,
-        );
-        if key.number != 0 {
-            return key;
+        if s.len() <= next {
+            return item::refuse(Refusal::Ended, next);
         }
-        let here = key.at;
-        if heads::holds_items(s[here]) {
+        if heads::holds_items(s[next]) {
             let t = s;
-            let step = read_contents(t, here, key.row, deep, room, table, book, notes);
+            let step = read_value(t, next, free, deep, room, table, book, notes);
             if step.number != 0 {
                 return step;
             }
@@ -93,7 +82,7 @@ fn read_items(
             free = step.row;
             left -= 1;
         } else {
-            let step = scalar::read_scalar(s, here, key.row, room, table, book);
+            let step = scalar::read_item(s, next, free, room, table, book);
             if step.number != 0 {
                 return step;
             }
@@ -109,7 +98,60 @@ fn read_items(
     }
 }
 
-// The Array at `at`. Of a small message this is most of the reading, so it doesn't pass the loop over items twice, as a Value does.
+// n pairs, one after the other: each a key, and its value. Their Struct is known to the notes by the row where they begin.
+fn read_pairs(
+    s: &[u8],
+    at: usize,
+    row: usize,
+    deep: usize,
+    n: usize,
+    room: usize,
+    table: &mut [u32],
+    book: &mut [u32],
+    notes: &mut [u16],
+) -> Step
+    requires { ⌜ (0 < row) × Prepared (now s) at row room (now table) (now book) (now notes) ⌝ }
+    ensures { λ r. ⌜ Done (entries (now (s .entry)) room true (value (now (s .entry)) room deep) n at row (bookOf (now (book .entry)))) (now (s .entry)) room (at + min n 1) row (now (table .entry)) (now (table .exit)) (now (book .exit)) (now (notes .entry)) (now (notes .exit)) r ⌝ }
+{
+    let mut pairs = n;
+    let mut next = at;
+    let mut free = row;
+    while 0 < pairs {
+        let key = member_keys::read_key(s, next, free, room, table, book, notes, row);
+        if key.number != 0 {
+            return key;
+        }
+        let here = key.at;
+        if s.len() <= here {
+            return item::refuse(Refusal::Ended, here);
+        }
+        if heads::holds_items(s[here]) {
+            let t = s;
+            let step = read_value(t, here, key.row, deep, room, table, book, notes);
+            if step.number != 0 {
+                return step;
+            }
+            next = step.at;
+            free = step.row;
+            pairs -= 1;
+        } else {
+            let step = scalar::read_member(s, here, key.row, room, table, book);
+            if step.number != 0 {
+                return step;
+            }
+            next = step.at;
+            free = step.row;
+            pairs -= 1;
+        }
+    }
+    Step {
+        number: 0,
+        at: next,
+        row: free,
+    }
+}
+
+// The Array at `at`.
 pub fn read_array(
     s: &[u8],
     at: usize,
@@ -123,40 +165,5 @@ pub fn read_array(
     requires { ⌜ (at < length (now s)) × (getD (now s) at 0 ≡ 65) × Prepared (now s) at row room (now table) (now book) (now notes) ⌝ }
     ensures { λ r. ⌜ Done (value (now (s .entry)) room deep at row (bookOf (now (book .entry)))) (now (s .entry)) room (at + 1) row (now (table .entry)) (now (table .exit)) (now (book .exit)) (now (notes .entry)) (now (notes .exit)) r ⌝ }
 {
-    let head = heads::read_head(s, at, row, deep, room);
-    if head.number != 0 {
-        return head;
-    }
-    let t = s;
-    let n = item::unsigned(s, at + 1);
-    let step = read_items(
-        t,
-        at + 5,
-        row + 1,
-        deep - 1,
-        n,
-        false,
-        room,
-        table,
-        book,
-        notes,
-    );
-    item::close(step, heads::kind_for(false), n as u32, row, room, table)
-}
-
-// The Value at `at`: one item without a key.
-pub fn read_value(
-    s: &[u8],
-    at: usize,
-    row: usize,
-    deep: usize,
-    room: usize,
-    table: &mut [u32],
-    book: &mut [u32],
-    notes: &mut [u16],
-) -> Step
-    requires { ⌜ Prepared (now s) at row room (now table) (now book) (now notes) ⌝ }
-    ensures { λ r. ⌜ Done (value (now (s .entry)) room deep at row (bookOf (now (book .entry)))) (now (s .entry)) room (at + 1) row (now (table .entry)) (now (table .exit)) (now (book .exit)) (now (notes .entry)) (now (notes .exit)) r ⌝ }
-{
-    read_items(s, at, row, deep, 1, false, room, table, book, notes)
+    read_value(s, at, row, deep, room, table, book, notes)
 }

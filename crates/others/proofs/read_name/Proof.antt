@@ -5,7 +5,7 @@ use Rattle.others.proofs.read_name.Tie as tie
 
 pub read-name-spec : {M : Type 1} → statement M
 read-name-spec = tie.close (tie.spec
-    (λ c κs. search needs)  -- read-string-requires
+    (λ c κs. search needs)  -- read-type-requires
     (λ c. search needs)  -- same-length
     (λ c. search needs)  -- same-length-2
     (λ c. search others)  -- returns
