@@ -169,7 +169,7 @@ static uint32_t (*const binmode_linked_version)(void) BINMODE_KEPT = binmode_ver
 #define BINMODE_KIND_NIL 13          /*       0                       0        none */
 #define BINMODE_KIND_ORDERED_DICT 14 /*       0                       pairs    key (a String), object, key, object ..; the keys differ */
 #define BINMODE_KIND_EXTENSION 15    /*       0                       3        name (a String), attributes (either dict), content */
-#define BINMODE_KIND_NODE 16         /*       0                       3        three objects, as for an extension; in glyph 0.5 any */
+#define BINMODE_KIND_NODE 16         /*       0                       3        three objects of any sort; in messages of glyph 0.5 alone */
 
 /*
  * Reads a message into a table, at the limit of nesting 8.

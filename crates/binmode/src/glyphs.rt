@@ -89,12 +89,12 @@ pub extern "C" fn binmode_write_hyperglyph(
     text: &[u8],
     limit: usize,
     output: &mut [u8],
-    length: &mut u64,
+    size: &mut u64,
 ) -> u8
-    ensures { λ n. ⌜ GlyphWritten Edition.New limit (now (table .entry)) rows (now (text .entry)) (now (output .entry)) (now (output .exit)) (writing.report n (now (length .exit))) ⌝ }
+    ensures { λ n. ⌜ GlyphWritten Edition.New limit (now (table .entry)) rows (now (text .entry)) (now (output .entry)) (now (output .exit)) (writing.report n (now (size .exit))) ⌝ }
 {
     let answer = glyph_writer::write(table, rows, text, Edition::New, limit, output);
-    glyph_reports::writing::written(answer, length)
+    glyph_reports::writing::written(answer, size)
 }
 
 // Writes a table as a glyph 0.5 message, likewise.
@@ -105,12 +105,12 @@ pub extern "C" fn binmode_write_glyph(
     text: &[u8],
     limit: usize,
     output: &mut [u8],
-    length: &mut u64,
+    size: &mut u64,
 ) -> u8
-    ensures { λ n. ⌜ GlyphWritten Edition.Old limit (now (table .entry)) rows (now (text .entry)) (now (output .entry)) (now (output .exit)) (writing.report n (now (length .exit))) ⌝ }
+    ensures { λ n. ⌜ GlyphWritten Edition.Old limit (now (table .entry)) rows (now (text .entry)) (now (output .entry)) (now (output .exit)) (writing.report n (now (size .exit))) ⌝ }
 {
     let answer = glyph_writer::write(table, rows, text, Edition::Old, limit, output);
-    glyph_reports::writing::written(answer, length)
+    glyph_reports::writing::written(answer, size)
 }
 
 // Writes a station's share of a table as a hyperglyph 1.0 message.
@@ -123,14 +123,14 @@ pub extern "C" fn binmode_station_write_hyperglyph(
     text: &[u8],
     limit: usize,
     output: &mut [u8],
-    length: &mut u64,
+    size: &mut u64,
 ) -> u8
-    ensures { λ n. ⌜ StationGlyphWritten Edition.New limit (now (table .entry)) station split rows (now (text .entry)) (now (output .entry)) (now (output .exit)) (writing.report n (now (length .exit))) ⌝ }
+    ensures { λ n. ⌜ StationGlyphWritten Edition.New limit (now (table .entry)) station split rows (now (text .entry)) (now (output .entry)) (now (output .exit)) (writing.report n (now (size .exit))) ⌝ }
 {
     let row = split_for(station, split);
     let share = station_of(station);
     let answer = glyph_stations::write(table, row, share, rows, text, Edition::New, limit, output);
-    glyph_reports::writing::station(answer, length)
+    glyph_reports::writing::station(answer, size)
 }
 
 // Writes a station's share as a glyph 0.5 message, likewise.
@@ -143,12 +143,12 @@ pub extern "C" fn binmode_station_write_glyph(
     text: &[u8],
     limit: usize,
     output: &mut [u8],
-    length: &mut u64,
+    size: &mut u64,
 ) -> u8
-    ensures { λ n. ⌜ StationGlyphWritten Edition.Old limit (now (table .entry)) station split rows (now (text .entry)) (now (output .entry)) (now (output .exit)) (writing.report n (now (length .exit))) ⌝ }
+    ensures { λ n. ⌜ StationGlyphWritten Edition.Old limit (now (table .entry)) station split rows (now (text .entry)) (now (output .entry)) (now (output .exit)) (writing.report n (now (size .exit))) ⌝ }
 {
     let row = split_for(station, split);
     let share = station_of(station);
     let answer = glyph_stations::write(table, row, share, rows, text, Edition::Old, limit, output);
-    glyph_reports::writing::station(answer, length)
+    glyph_reports::writing::station(answer, size)
 }

@@ -18,9 +18,9 @@ pub extern "C" fn binmode_default_text(
     key: &[u8],
     source: &mut u8,
     offset: &mut u64,
-    length: &mut u64,
+    size: &mut u64,
 ) -> u8
-    ensures { λ n. ⌜ textReport n (now (source .exit)) (now (offset .exit)) (now (length .exit)) ≡ textReportOf (chosen (sourceIn (now (table .entry)) rows (now (text .entry)) row) (sourceIn (now («defaults_table» .entry)) «defaults_rows» (now («defaults_text» .entry)) «defaults_row») (now (key .entry))) ⌝ }
+    ensures { λ n. ⌜ textReport n (now (source .exit)) (now (offset .exit)) (now (size .exit)) ≡ textReportOf (chosen (sourceIn (now (table .entry)) rows (now (text .entry)) row) (sourceIn (now («defaults_table» .entry)) «defaults_rows» (now («defaults_text» .entry)) «defaults_row») (now (key .entry))) ⌝ }
 {
     let choice = defaults::choose(
         table,
@@ -33,5 +33,5 @@ pub extern "C" fn binmode_default_text(
         defaults_row,
         key,
     );
-    lookup_reports::text(choice, source, offset, length)
+    lookup_reports::text(choice, source, offset, size)
 }

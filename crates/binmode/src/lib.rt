@@ -42,11 +42,11 @@ pub extern "C" fn binmode_write_within(
     text: &[u8],
     limit: usize,
     output: &mut [u8],
-    length: &mut u64,
+    size: &mut u64,
 ) -> u8
-    ensures { λ n. ⌜ WriteReported limit (now (table .entry)) rows (now (text .entry)) (now (output .entry)) (now (output .exit)) n (now (length .exit)) ⌝ }
+    ensures { λ n. ⌜ WriteReported limit (now (table .entry)) rows (now (text .entry)) (now (output .entry)) (now (output .exit)) n (now (size .exit)) ⌝ }
 {
-    write_reports::written(writer::write(table, rows, text, limit, output), length)
+    write_reports::written(writer::write(table, rows, text, limit, output), size)
 }
 
 // Reads a card of a job file into a table, and reports document 02's numbers: the result is 0 for acceptance, or the refusal's number.

@@ -17,12 +17,12 @@ pub extern "C" fn binmode_lookup(
     number: &mut i64,
     decimal: &mut f64,
     offset: &mut u64,
-    length: &mut u64,
+    size: &mut u64,
 ) -> u8
-    ensures { λ n. ⌜ reported n (now (sort .exit)) (now (number .exit)) (now (decimal .exit)) (now (offset .exit)) (now (length .exit)) ≡ reportOf (lookupIn (now (table .entry)) rows (now (text .entry)) row (now (key .entry))) ⌝ }
+    ensures { λ n. ⌜ reported n (now (sort .exit)) (now (number .exit)) (now (decimal .exit)) (now (offset .exit)) (now (size .exit)) ≡ reportOf (lookupIn (now (table .entry)) rows (now (text .entry)) row (now (key .entry))) ⌝ }
 {
     let report = lookup_answer::report_of(lookup::lookup(table, rows, text, row, key));
-    lookup_reports::member(report, sort, number, decimal, offset, length)
+    lookup_reports::member(report, sort, number, decimal, offset, size)
 }
 
 // The position in the Struct of a row: the result is 0, or the refusal's number and three plus zeros.

@@ -14,13 +14,13 @@ pub extern "C" fn binmode_write_planned_within(
     plan: &[u8],
     limit: usize,
     output: &mut [u8],
-    length: &mut u64,
+    size: &mut u64,
 ) -> u8
-    ensures { λ n. ⌜ WritePlannedReported limit (now (table .entry)) rows (now (text .entry)) (now (plan .entry)) (now (output .entry)) (now (output .exit)) n (now (length .exit)) ⌝ }
+    ensures { λ n. ⌜ WritePlannedReported limit (now (table .entry)) rows (now (text .entry)) (now (plan .entry)) (now (output .entry)) (now (output .exit)) n (now (size .exit)) ⌝ }
 {
     write_reports::plans::planned(
         plan_writer::write(table, rows, text, plan, limit, output),
-        length,
+        size,
     )
 }
 

@@ -22,11 +22,11 @@ pub extern "C" fn binmode_share(
     split: usize,
     station: u8,
     first: &mut u64,
-    length: &mut u64,
+    size: &mut u64,
 ) -> u8
-    ensures { λ n. ⌜ lying n (now (first .exit)) (now (length .exit)) ≡ lyingOf (shareFor «table_words» (splitFor station split) (stationOf station)) ⌝ }
+    ensures { λ n. ⌜ lying n (now (first .exit)) (now (size .exit)) ≡ lyingOf (shareFor «table_words» (splitFor station split) (stationOf station)) ⌝ }
 {
-    station_reports::share(table_words, split, station, first, length)
+    station_reports::share(table_words, split, station, first, size)
 }
 
 // Reads a message into a station's share of a table: the result is 0 for acceptance, or the refusal's number; every number lent is set.
@@ -115,13 +115,13 @@ pub extern "C" fn binmode_station_write_within(
     text: &[u8],
     limit: usize,
     output: &mut [u8],
-    length: &mut u64,
+    size: &mut u64,
 ) -> u8
-    ensures { λ n. ⌜ StationWrote limit (now (table .entry)) station split rows (now (text .entry)) (now (output .entry)) (now (output .exit)) (writing.report n (now (length .exit))) ⌝ }
+    ensures { λ n. ⌜ StationWrote limit (now (table .entry)) station split rows (now (text .entry)) (now (output .entry)) (now (output .exit)) (writing.report n (now (size .exit))) ⌝ }
 {
     let row = split_for(station, split);
     let answer = station_tables::write(table, row, station_of(station), rows, text, limit, output);
-    station_reports::written(answer, length)
+    station_reports::written(answer, size)
 }
 
 // Writes a station's share of a table by a plan, likewise.
@@ -135,14 +135,14 @@ pub extern "C" fn binmode_station_write_planned_within(
     plan: &[u8],
     limit: usize,
     output: &mut [u8],
-    length: &mut u64,
+    size: &mut u64,
 ) -> u8
-    ensures { λ n. ⌜ StationPlanned limit (now (table .entry)) station split rows (now (text .entry)) (now (plan .entry)) (now (output .entry)) (now (output .exit)) (writing.planReport n (now (length .exit))) ⌝ }
+    ensures { λ n. ⌜ StationPlanned limit (now (table .entry)) station split rows (now (text .entry)) (now (plan .entry)) (now (output .entry)) (now (output .exit)) (writing.planReport n (now (size .exit))) ⌝ }
 {
     let row = split_for(station, split);
     let share = station_of(station);
     let answer = station_plans::write(table, row, share, rows, text, plan, limit, output);
-    station_reports::planned(answer, length)
+    station_reports::planned(answer, size)
 }
 
 // Looks up a member of the Struct of a row of a station's share: the result is 0, or the refusal's number; every number lent is set.
@@ -159,13 +159,13 @@ pub extern "C" fn binmode_station_lookup(
     number: &mut i64,
     decimal: &mut f64,
     offset: &mut u64,
-    length: &mut u64,
+    size: &mut u64,
 ) -> u8
-    ensures { λ n. ⌜ reported n (now (sort .exit)) (now (number .exit)) (now (decimal .exit)) (now (offset .exit)) (now (length .exit)) ≡ lookupReportOf (onShare (stationOf station) (splitFor station split) (now (table .entry)) (lookupAnswer rows (now (text .entry)) row (now (key .entry))) LookupAnswer.NotSplit) ⌝ }
+    ensures { λ n. ⌜ reported n (now (sort .exit)) (now (number .exit)) (now (decimal .exit)) (now (offset .exit)) (now (size .exit)) ≡ lookupReportOf (onShare (stationOf station) (splitFor station split) (now (table .entry)) (lookupAnswer rows (now (text .entry)) row (now (key .entry))) LookupAnswer.NotSplit) ⌝ }
 {
     let at = split_for(station, split);
     let answer = station_tables::lookup(table, at, station_of(station), rows, text, row, key);
-    station_reports::member(answer, sort, number, decimal, offset, length)
+    station_reports::member(answer, sort, number, decimal, offset, size)
 }
 
 // The position in the Struct of a row of a station's share: the result is 0, or the refusal's number and three plus zeros.

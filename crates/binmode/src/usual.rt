@@ -39,11 +39,11 @@ pub extern "C" fn binmode_write(
     rows: usize,
     text: &[u8],
     output: &mut [u8],
-    length: &mut u64,
+    size: &mut u64,
 ) -> u8
-    ensures { λ n. ⌜ WriteReported 8 (now (table .entry)) rows (now (text .entry)) (now (output .entry)) (now (output .exit)) n (now (length .exit)) ⌝ }
+    ensures { λ n. ⌜ WriteReported 8 (now (table .entry)) rows (now (text .entry)) (now (output .entry)) (now (output .exit)) n (now (size .exit)) ⌝ }
 {
-    binmode_write_within(table, rows, text, draft::USUAL_NESTING, output, length)
+    binmode_write_within(table, rows, text, draft::USUAL_NESTING, output, size)
 }
 
 // The same, by a plan.
@@ -54,19 +54,11 @@ pub extern "C" fn binmode_write_planned(
     text: &[u8],
     plan: &[u8],
     output: &mut [u8],
-    length: &mut u64,
+    size: &mut u64,
 ) -> u8
-    ensures { λ n. ⌜ WritePlannedReported 8 (now (table .entry)) rows (now (text .entry)) (now (plan .entry)) (now (output .entry)) (now (output .exit)) n (now (length .exit)) ⌝ }
+    ensures { λ n. ⌜ WritePlannedReported 8 (now (table .entry)) rows (now (text .entry)) (now (plan .entry)) (now (output .entry)) (now (output .exit)) n (now (size .exit)) ⌝ }
 {
-    binmode_write_planned_within(
-        table,
-        rows,
-        text,
-        plan,
-        draft::USUAL_NESTING,
-        output,
-        length,
-    )
+    binmode_write_planned_within(table, rows, text, plan, draft::USUAL_NESTING, output, size)
 }
 
 // Takes the next piece of a message.
@@ -161,9 +153,9 @@ pub extern "C" fn binmode_station_write(
     rows: usize,
     text: &[u8],
     output: &mut [u8],
-    length: &mut u64,
+    size: &mut u64,
 ) -> u8
-    ensures { λ n. ⌜ StationWrote 8 (now (table .entry)) station split rows (now (text .entry)) (now (output .entry)) (now (output .exit)) (writing.report n (now (length .exit))) ⌝ }
+    ensures { λ n. ⌜ StationWrote 8 (now (table .entry)) station split rows (now (text .entry)) (now (output .entry)) (now (output .exit)) (writing.report n (now (size .exit))) ⌝ }
 {
     binmode_station_write_within(
         table,
@@ -173,7 +165,7 @@ pub extern "C" fn binmode_station_write(
         text,
         draft::USUAL_NESTING,
         output,
-        length,
+        size,
     )
 }
 
@@ -187,9 +179,9 @@ pub extern "C" fn binmode_station_write_planned(
     text: &[u8],
     plan: &[u8],
     output: &mut [u8],
-    length: &mut u64,
+    size: &mut u64,
 ) -> u8
-    ensures { λ n. ⌜ StationPlanned 8 (now (table .entry)) station split rows (now (text .entry)) (now (plan .entry)) (now (output .entry)) (now (output .exit)) (writing.planReport n (now (length .exit))) ⌝ }
+    ensures { λ n. ⌜ StationPlanned 8 (now (table .entry)) station split rows (now (text .entry)) (now (plan .entry)) (now (output .entry)) (now (output .exit)) (writing.planReport n (now (size .exit))) ⌝ }
 {
     binmode_station_write_planned_within(
         table,
@@ -200,6 +192,6 @@ pub extern "C" fn binmode_station_write_planned(
         plan,
         draft::USUAL_NESTING,
         output,
-        length,
+        size,
     )
 }

@@ -14,16 +14,16 @@ pub fn member(
     number: &mut i64,
     decimal: &mut f64,
     offset: &mut u64,
-    length: &mut u64,
+    size: &mut u64,
 ) -> u8
-    ensures { λ n. ⌜ reported n (now (sort .exit)) (now (number .exit)) (now (decimal .exit)) (now (offset .exit)) (now (length .exit)) ≡ report ⌝ }
+    ensures { λ n. ⌜ reported n (now (sort .exit)) (now (number .exit)) (now (decimal .exit)) (now (offset .exit)) (now (size .exit)) ≡ report ⌝ }
 {
     *sort = report.sort;
     let whole = report.whole;
     *number = whole;
     *decimal = report.decimal;
     *offset = report.offset;
-    *length = report.length;
+    *size = report.length;
     report.number
 }
 
@@ -40,8 +40,8 @@ pub fn position(placed: Placed, x: &mut f64, y: &mut f64, turn: &mut f64) -> u8
 }
 
 // Of a text with defaults behind it: since no slice can be returned, it is told by which bytes it lies in, its offset and its length.
-pub fn text(choice: Choice, source: &mut u8, offset: &mut u64, length: &mut u64) -> u8
-    ensures { λ n. ⌜ textReport n (now (source .exit)) (now (offset .exit)) (now (length .exit)) ≡ textReportOf choice ⌝ }
+pub fn text(choice: Choice, source: &mut u8, offset: &mut u64, size: &mut u64) -> u8
+    ensures { λ n. ⌜ textReport n (now (source .exit)) (now (offset .exit)) (now (size .exit)) ≡ textReportOf choice ⌝ }
 {
     match choice {
         Choice::Card {
@@ -50,7 +50,7 @@ pub fn text(choice: Choice, source: &mut u8, offset: &mut u64, length: &mut u64)
         } => {
             *source = 0;
             *offset = o as u64;
-            *length = n as u64;
+            *size = n as u64;
             0
         }
         Choice::Defaults {
@@ -59,13 +59,13 @@ pub fn text(choice: Choice, source: &mut u8, offset: &mut u64, length: &mut u64)
         } => {
             *source = 1;
             *offset = o as u64;
-            *length = n as u64;
+            *size = n as u64;
             0
         }
         Choice::Refused(refusal) => {
             *source = 0;
             *offset = 0;
-            *length = 0;
+            *size = 0;
             choice::number(refusal)
         }
     }

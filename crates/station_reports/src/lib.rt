@@ -18,8 +18,8 @@ ghost use Rattle.write_reports.specs.Numbers as writing;
 ghost use Rattle.station_reports.specs.Numbers.{lying, lyingOf, PieceKept, StationPlaced};
 
 // Where a station's share of a table of so many words lies: its first word and how many words it has.
-pub fn share(words: usize, split: usize, station: u8, first: &mut u64, length: &mut u64) -> u8
-    ensures { λ n. ⌜ lying n (now (first .exit)) (now (length .exit)) ≡ lyingOf (shareFor words (splitFor station split) (stationOf station)) ⌝ }
+pub fn share(words: usize, split: usize, station: u8, first: &mut u64, size: &mut u64) -> u8
+    ensures { λ n. ⌜ lying n (now (first .exit)) (now (size .exit)) ≡ lyingOf (shareFor words (splitFor station split) (stationOf station)) ⌝ }
 {
     let share = shares::share_of(
         words,
@@ -29,12 +29,12 @@ pub fn share(words: usize, split: usize, station: u8, first: &mut u64, length: &
     match share {
         Share::Words { first: a, end: e } => {
             *first = a as u64;
-            *length = (e - a) as u64;
+            *size = (e - a) as u64;
             0
         }
         Share::NotSplit => {
             *first = 0;
-            *length = 0;
+            *size = 0;
             22
         }
     }
@@ -88,26 +88,26 @@ pub fn piece(answer: station_pieces::Answer, words: &mut [u64; 6]) -> u8
 }
 
 // Of a table written.
-pub fn written(answer: WriteAnswer, length: &mut u64) -> u8
-    ensures { λ n. ⌜ writing.report n (now (length .exit)) ≡ writeReportOf answer ⌝ }
+pub fn written(answer: WriteAnswer, size: &mut u64) -> u8
+    ensures { λ n. ⌜ writing.report n (now (size .exit)) ≡ writeReportOf answer ⌝ }
 {
     match answer {
-        WriteAnswer::Answered(own) => write_reports::written(own, length),
+        WriteAnswer::Answered(own) => write_reports::written(own, size),
         WriteAnswer::NotSplit => {
-            *length = 0;
+            *size = 0;
             22
         }
     }
 }
 
 // Of a table written by a plan.
-pub fn planned(answer: station_plans::Answer, length: &mut u64) -> u8
-    ensures { λ n. ⌜ writing.planReport n (now (length .exit)) ≡ plans.reportOf answer ⌝ }
+pub fn planned(answer: station_plans::Answer, size: &mut u64) -> u8
+    ensures { λ n. ⌜ writing.planReport n (now (size .exit)) ≡ plans.reportOf answer ⌝ }
 {
     match answer {
-        station_plans::Answer::Answered(own) => write_reports::plans::planned(own, length),
+        station_plans::Answer::Answered(own) => write_reports::plans::planned(own, size),
         station_plans::Answer::NotSplit => {
-            *length = 0;
+            *size = 0;
             22
         }
     }
@@ -120,9 +120,9 @@ pub fn member(
     number: &mut i64,
     decimal: &mut f64,
     offset: &mut u64,
-    length: &mut u64,
+    size: &mut u64,
 ) -> u8
-    ensures { λ n. ⌜ reported n (now (sort .exit)) (now (number .exit)) (now (decimal .exit)) (now (offset .exit)) (now (length .exit)) ≡ lookupReportOf answer ⌝ }
+    ensures { λ n. ⌜ reported n (now (sort .exit)) (now (number .exit)) (now (decimal .exit)) (now (offset .exit)) (now (size .exit)) ≡ lookupReportOf answer ⌝ }
 {
     match answer {
         LookupAnswer::Answered(own) => {
@@ -132,7 +132,7 @@ pub fn member(
                 number,
                 decimal,
                 offset,
-                length,
+                size,
             )
         }
         LookupAnswer::NotSplit => {
@@ -140,7 +140,7 @@ pub fn member(
             *number = 0;
             *decimal = 0.0;
             *offset = 0;
-            *length = 0;
+            *size = 0;
             22
         }
     }

@@ -5,16 +5,16 @@ ghost use mathlib.Core.Path.{_≡_};
 ghost use Rattle.write_answer.specs.Answers as writers;
 ghost use Rattle.write_reports.specs.Numbers.{report};
 
-pub fn written(answer: write_answer::Answer, length: &mut u64) -> u8
-    ensures { λ n. ⌜ report n (now (length .exit)) ≡ writers.reportOf answer ⌝ }
+pub fn written(answer: write_answer::Answer, size: &mut u64) -> u8
+    ensures { λ n. ⌜ report n (now (size .exit)) ≡ writers.reportOf answer ⌝ }
 {
     match answer {
         write_answer::Answer::Written { length: n } => {
-            *length = n as u64;
+            *size = n as u64;
             0
         }
         write_answer::Answer::Refused(refusal) => {
-            *length = 0;
+            *size = 0;
             draft::number(refusal)
         }
     }

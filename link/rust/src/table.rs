@@ -33,7 +33,7 @@ pub enum Kind {
     OrderedDict = 14,
     /// A name, attributes and content, of a glyph message.
     Extension = 15,
-    /// Three objects, of a glyph message.
+    /// Three objects of any sort, of a message of glyph 0.5.
     Node = 16,
 }
 
