@@ -24,6 +24,18 @@ use Rattle.meant.specs.Meant.{StructAt}
 use Rattle.meant.proofs.Structs.{kindAt, derived-structs}
 use Rattle.meant.proofs.Saying.{Standing, and-row, first-part, last-part, value-first, value-end, key-text, behind, kind-at}
 
+-- the kinds that values have
+pub data ValueKind : ℕ → Type 0 where
+  integer-kind : ValueKind 4
+  boolean-kind : ValueKind 5
+  double-kind : ValueKind 6
+  datetime-kind : ValueKind 7
+  binary-kind : ValueKind 8
+  array-kind : ValueKind 9
+  struct-kind : ValueKind 10
+  string-kind : ValueKind 11
+  other-kind : ValueKind 12
+
 module _ (row : ℕ → Row) (s : List ℕ) where
   members-fresh :
       (rows : ℕ) {d n r : ℕ} {seen : Texts} {xs : List ℕ} {ws : List Cell} {fs : List Sent} → Pairs d seen n xs ws fs → Standing row s r ws → r + length ws ≤ rows
@@ -54,18 +66,6 @@ module _ (row : ℕ → Row) (s : List ℕ) where
       let f : length cs ≡ suc (length (c .rest)) = ap length (c .is) in
       rw (lt-ltb (r + 1) rows (omega arith), value-end row s c (first-part row s cs vs (behind row s stands)))
       (and-apart {r = r} r _ (omega arith) (omega arith) (apart-from (omega arith) (members-apart rows pairs (last-part row s cs vs (behind row s stands)) (omega arith))))
-
-  -- a value's row has the kind of a value
-  pub data ValueKind : ℕ → Type 0 where
-    integer-kind : ValueKind 4
-    boolean-kind : ValueKind 5
-    double-kind : ValueKind 6
-    datetime-kind : ValueKind 7
-    binary-kind : ValueKind 8
-    array-kind : ValueKind 9
-    struct-kind : ValueKind 10
-    string-kind : ValueKind 11
-    other-kind : ValueKind 12
 
   value-kind : {d r : ℕ} {xs : List ℕ} {cs : List Cell} {fs : List Sent} → Value d xs cs fs → Standing row s r cs → ValueKind (row r .kind)
   value-kind (integer-value v) (and-row (means k e p) t) = rw k integer-kind
