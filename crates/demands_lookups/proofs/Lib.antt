@@ -1,3 +1,5 @@
 pub mod Lookups
 pub mod Defaults
 pub mod Index
+pub mod Refusals
+pub mod Positions

@@ -7,12 +7,17 @@ use mathlib.Core.List.{List, [], _∷_, _++_}
 use Prim.Native.Nat.{ℕ, _+_, _^_, _≤_, _<_}
 use Prim.Native.Char.{code}
 use lib.ListN.{length}
-use lib.Ieee.{Float}
+use lib.Dec.{leb}
+use lib.IntN.{pos}
+use lib.Ieee.{Float, binary64, ofInt, div}
 use lib.Ieee.Exact.{HasValue}
-use borrow.Author.Tests.{lt-leb}
+use borrow.Author.Tests.{le-leb, lt-leb, leb-true}
+use Rattle.text.specs.Texts.{same}
+use Rattle.text.proofs.Comparing.{both}
 use Rattle.lexical.specs.Grammar.{Digits, Sign}
 use Rattle.decimal.specs.declared.Decimal.the-variants.{Value}
-use Rattle.decimal.specs.Decimal.{power, held, decimalOf, nearestTo}
+use Rattle.decimal.specs.Digits.{digitsOf, significant, whole, places}
+use Rattle.decimal.specs.Decimal.{power, quotient, signed, held, decimalOf, nearestTo}
 use Rattle.decimal.proofs.Powers as powers
 use Rattle.decimal.proofs.Nearest as nearest
 use Rattle.draft.specs.declared.Row.{Row as TableRow}
@@ -42,7 +47,7 @@ use Rattle.placing.specs.declared.Outcome.the-variants as outcome
 use Rattle.placing.specs.Placing.{at, acceptedAt, refusedWith, position, settled, together, isAny, Lengthy, a-decimal, too-long}
 use Rattle.lookup_answer.specs.Answers.{decimalAnswer}
 use Rattle.placing.proofs.Together.{accepted-of, accepted-by, zeros-of, unwritable-of, long-of}
-use Rattle.meant.specs.Parts.{Parts}
+use Rattle.meant.specs.Parts.{values, Parts}
 use Rattle.meant.proofs.Parting.{double-parts}
 use Rattle.meant.specs.Meant.{membersOf, Said, StructAt, Answered}
 use Rattle.meant.proofs.Saying.{standing, struct-said, answered}
@@ -94,8 +99,7 @@ module _ (limit : ℕ) (s : List ℕ) (words : ℕ) {rows : List TableRow} {used
       judged itsTable (length rows) s ∙ read-writable limit s words e o 32 (limit-most limit (reading-got limit s words e)) in
       rw i at (table-says itsTable (length rows) s h g r key)
 
--- THE ONLY ONE. In a writable table no two members of a Struct have the same key; so a member that has the key asked for is the one found,
--- wherever it stands.
+-- DISTINCT. In a writable table no two members of a Struct have the same key.
 module _ (T : List ℕ) (rows : ℕ) (s : List ℕ) (e : writable T rows s ≡ true) (w : Words T) where
   -- the members of the Struct of a row, in its table
   abbrev itsMembers : ℕ → List Member
@@ -107,24 +111,6 @@ module _ (T : List ℕ) (rows : ℕ) (s : List ℕ) (e : writable T rows s ≡ t
       let g = form-derived 32 T rows s (sym (judged T rows s) ∙ e) w in
       members-distinct (rowAt (roomOf 4096 (length T)) T) s (standing (rowAt (roomOf 4096 (length T)) T) s rows (g .meaning)) rows
       (sym (counts (g .meaning)) ∙ rows-length 4096 T rows) (g .derived) r
-
-  pub only-one :
-      (r : ℕ) (key : List ℕ) (ms : List Member) (m : Member) (ns : List Member) → itsMembers r ≡ ms ++ (m ∷ ns)
-      → hasKey (rowAt (roomOf 4096 (length T)) T) s key (m .key) ≡ true → find (rowAt (roomOf 4096 (length T)) T) s key (itsMembers r) ≡ At m
-  only-one r key ms m ns i h =
-      rw i (found-only (rowAt (roomOf 4096 (length T)) T) s key ms m ns (rw i at (distinct-members r)) h)
-
--- Without a member that has the key, none is found.
-module _ (row : ℕ → TableRow) (s key : List ℕ) where
-  -- members none of which has the key
-  pub data Without : List Member → Type 0 where
-    no-members : Without []
-    and-member : {m : Member} {ms : List Member} → hasKey row s key (m .key) ≡ false → Without ms → Without (m ∷ ms)
-
-  pub none-found : {ms : List Member} → Without ms → find row s key ms ≡ Absent
-  unfolding find
-  none-found no-members = refl
-  none-found (and-member e w) = rw e (none-found w)
 
 -- DECIMALS. Each power of the table is that power of ten exactly; and a text within the limits has the f64 nearest to its number, of two the even one.
 pub powers-exact : (k : ℕ) → k ≤ 22 → HasValue (power k) false (10 ^ k) 1
@@ -140,6 +126,25 @@ pub decimal-parts :
     → Parts sign whole fraction t
 decimal-parts s w f e = double-parts s w f e
 
+module _ {sign before fraction t : List ℕ} (p : Parts sign before fraction t) where
+  -- it is held exactly if it has at most 15 digits after leading zeros are dropped and at most 22 after the point;
+  pub held-exactly : (held t ≡ true) ↔ ((length (significant (values (before ++ fraction))) ≤ 15) × (length fraction ≤ 22))
+  unfolding held
+  held-exactly = (
+    λ e.
+        let h = both (leb (length (significant (digitsOf t))) 15) (leb (places t) 22) e in
+        (rw (p .digits) at (leb-true (length (significant (digitsOf t))) 15 (h .0)), rw (p .after) at (leb-true (places t) 22 (h .1))),
+    λ (h, i). rw (p .digits, p .after, le-leb _ _ h, le-leb _ _ i),
+  )
+
+  -- and its value is the digits as a whole number divided once by the power of ten, then negated if the sign is minus.
+  pub held-value :
+      held t ≡ true
+      → decimalOf t
+      ≡ Value (signed (same sign (code "-" ∷ [])) (div binary64 (ofInt binary64 (pos (whole 0 (significant (values (before ++ fraction)))))) (power (length fraction))))
+  unfolding decimalOf quotient
+  held-value e = rw (e, p .digits, p .after, p .minus)
+
 -- A POSITION is what three lookups give. It is accepted with three values exactly if x, y and turn each answer with that decimal.
 pub position-accepted :
     (T : List ℕ) (rows : ℕ) (s : List ℕ) (r : ℕ) (x y turn : Float)
@@ -149,8 +154,7 @@ unfolding position
 position-accepted T rows s r x y turn =
     (accepted-by (lookup T rows s r (bytes "x")) (lookup T rows s r (bytes "y")) (lookup T rows s r (bytes "turn")), λ (h, i, j). rw (h, i, j) (accepted-of x y turn))
 
--- REFUSED. A refused position is three plus zeros, by the refusals of the three: with 11 if the table is unwritable; with 19 only if each of the three
--- is a decimal or has too many digits, so that 18, over all of them, comes before.
+-- REFUSED. A refused position is three plus zeros; with 11 if the table is unwritable.
 module _ (T : List ℕ) (rows : ℕ) (s : List ℕ) (r : ℕ) where
   pub position-zeros : {why : Why.Refusal} → position T rows s r .outcome ≡ outcome.Refused why → position T rows s r .position ≡ at plusZero plusZero plusZero
   unfolding position
@@ -159,31 +163,6 @@ module _ (T : List ℕ) (rows : ℕ) (s : List ℕ) (r : ℕ) where
   pub position-unwritable : writable T rows s ≡ false → position T rows s r ≡ refusedWith NotWritable
   unfolding position
   position-unwritable e = rw (unwritable-first T rows s r (bytes "x") e) (unwritable-of (lookup T rows s r (bytes "y")) (lookup T rows s r (bytes "turn")))
-
-  pub position-long :
-      position T rows s r .outcome ≡ outcome.Refused TooManyDigits
-      → Lengthy (lookup T rows s r (bytes "x")) × Lengthy (lookup T rows s r (bytes "y")) × Lengthy (lookup T rows s r (bytes "turn"))
-  unfolding position
-  position-long e = long-of (lookup T rows s r (bytes "x")) (lookup T rows s r (bytes "y")) (lookup T rows s r (bytes "turn")) e
-
-  -- 19 if each of the three is a decimal or has too many digits, and they are not three decimals.
-  pub position-nineteen :
-      Lengthy (lookup T rows s r (bytes "x")) → Lengthy (lookup T rows s r (bytes "y")) → Lengthy (lookup T rows s r (bytes "turn"))
-      → ((x y turn : Float) → position T rows s r ≡ acceptedAt (at x y turn) → ⊥) → position T rows s r ≡ refusedWith TooManyDigits
-  unfolding position settled together isAny
-  position-nineteen h i j n = by h i j n
-    where
-      by :
-          {a b c : Answer} → Lengthy a → Lengthy b → Lengthy c → ((x y turn : Float) → settled a b c ≡ acceptedAt (at x y turn) → ⊥)
-          → settled a b c ≡ refusedWith TooManyDigits
-      by (a-decimal {x = x}) (a-decimal {x = y}) (a-decimal {x = z}) n = absurd (n x y z refl)
-      by a-decimal a-decimal too-long n = refl
-      by a-decimal too-long a-decimal n = refl
-      by a-decimal too-long too-long n = refl
-      by too-long a-decimal a-decimal n = refl
-      by too-long a-decimal too-long n = refl
-      by too-long too-long a-decimal n = refl
-      by too-long too-long too-long n = refl
 
 -- A Double of too many digits answers 19.
 pub long-nineteen : (t : List ℕ) → held t ≡ false → decimalAnswer (decimalOf t) ≡ Refused TooManyDigits
