@@ -1,0 +1,34 @@
+-- Request E12: the rows of a reading kept as columns, and a table with the rows that it had before the request. Assumes nothing.
+use mathlib.Core.Path.{_≡_}
+use mathlib.Core.List.{List, []}
+use Prim.Native.Nat.{ℕ, zero, suc, _+_, _*_, _≤_, _<_}
+use lib.ListN.{length, getD}
+use Rattle.draft.specs.declared.Row.{Row}
+use Rattle.draft.specs.Rows.{row}
+use Rattle.draft.specs.Table.{roomOf, place}
+use Rattle.draft.specs.Read.{Reading, got, refused}
+use Rattle.layouts.specs.Layouts.{byRows, tableBy, SameRows}
+
+-- word j of a row: its kind, a, b and end
+abbrev pub wordOf : ℕ → Row → ℕ
+wordOf zero x = x .kind
+wordOf (suc zero) x = x .a
+wordOf (suc (suc zero)) x = x .b
+wordOf (suc (suc (suc j))) x = x .end
+
+abbrev pub noRow : Row
+noRow = row 0 0 0 0
+
+-- the rows of a reading; a refused one has none
+abbrev pub rowsIn : Reading → List Row
+rowsIn (got rows used book) = rows
+rowsIn (refused refusal place) = []
+
+-- a table of so many words, with room for c rows, that was left by a call with this reading: word j of row r stands at c times j plus r, each column is zeros behind
+-- the rows, and so are all words behind the columns; and `as-before` ties it to the table that a call left before the request, with the same rows
+pub record Kept (words : ℕ) (o : Reading) (T : List ℕ) : Type 0 where
+  pub long : length T ≡ words
+  pub stands : (r j : ℕ) → r < length (rowsIn o) → j < 4 → getD T (roomOf 4096 words * j + r) 0 ≡ wordOf j (getD (rowsIn o) r noRow)
+  pub spare : (r j : ℕ) → length (rowsIn o) ≤ r → r < roomOf 4096 words → j < 4 → getD T (roomOf 4096 words * j + r) 0 ≡ 0
+  pub behind : (i : ℕ) → roomOf 4096 words * 4 ≤ i → getD T i 0 ≡ 0
+  pub as-before : SameRows byRows place (tableBy byRows words o) T
