@@ -7,6 +7,7 @@ use Rattle.draft.specs.declared.Row.{Row}
 use Rattle.draft.specs.Rows.{row}
 use Rattle.draft.specs.Table.{roomOf, place}
 use Rattle.draft.specs.Read.{Reading, got, refused}
+use Rattle.pieces.specs.Pieces.{outcome, through}
 use Rattle.layouts.specs.Layouts.{byRows, tableBy, SameRows}
 
 -- word j of a row: its kind, a, b and end
@@ -23,6 +24,10 @@ noRow = row 0 0 0 0
 abbrev pub rowsIn : Reading → List Row
 rowsIn (got rows used book) = rows
 rowsIn (refused refusal place) = []
+
+-- what some pieces come to: the outcome of the bytes through the deciding piece
+abbrev pub decided : ℕ → ℕ → List (List ℕ) → Reading
+decided limit words ps = outcome limit (through limit words [] ps) words
 
 -- a table of so many words, with room for c rows, that was left by a call with this reading: word j of row r stands at c times j plus r, each column is zeros behind
 -- the rows, and so are all words behind the columns; and `as-before` ties it to the table that a call left before the request, with the same rows

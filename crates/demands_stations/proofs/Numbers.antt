@@ -136,3 +136,13 @@ pub called-exactly :
     {station : Station} {split : ℕ} {T T′ : List ℕ} {q : Asked} {a : Told} → Called station split T T′ q a
     → (callNumber a ≡ 22) ↔ (splits split (length T) ≡ false)
 called-exactly {station} {split} {T} {q = q} c = exactly callNumber station split T (given q) (notSplit q) (asked-has q) (asked-lacks q) (says c)
+
+-- a call that does not tell 22 has a share
+pub has-share :
+    {station : Station} {split : ℕ} {T T′ : List ℕ} {q : Asked} {a : Told} → Called station split T T′ q a → callNumber a ≢ 22
+    → splits split (length T) ≡ true
+has-share {split = split} {T = T} c n = go (splits split (length T)) refl
+  where
+    go : (b : Bool) → splits split (length T) ≡ b → splits split (length T) ≡ true
+    go true e = e
+    go false e = absurd (n (called-exactly c .1 e))
