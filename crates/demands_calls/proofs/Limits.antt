@@ -46,14 +46,13 @@ use Rattle.station_reading.specs.Answers.{ReadFor, CardFor}
 use Rattle.station_pieces.specs.declared.Answer.the-variants.{Stands}
 use Rattle.station_pieces.specs.Steps.{EndFor}
 use Rattle.stations.specs.Calls as call
-use Rattle.stations.specs.Owned.{OwnEnd}
 use Rattle.stations.specs.Turns.{Turns}
 use Rattle.stations.proofs.Owning.{turns-run}
 use Rattle.demands_reading.proofs.Reading.{growth-of-limits}
 use Rattle.demands_pieces.proofs.Pieces.{as-whole, after-each, table-settled, no-limit, no-limit-end}
 use Rattle.demands_stations.specs.Numbers.{numberTold, rowsTold}
-use Rattle.demands_stations.proofs.Numbers.{has-share, told-not}
-use Rattle.demands_stations.proofs.Stations.{own-read, own-card, own-end}
+use Rattle.demands_stations.proofs.Numbers.{has-share}
+use Rattle.demands_stations.proofs.Stations.{own-read, own-card, its-end}
 use Rattle.demands_calls.specs.Growth.{Lasts, Stays}
 use Rattle.demands_calls.specs.Columns.{rowsIn, decided}
 use Rattle.demands_calls.proofs.Tables.{fits, fits-outcome, stays}
@@ -360,13 +359,4 @@ module _ {limit later : ℕ} (higher : limit ≤ later) (ok : allowed later ≡ 
         → Turns limit here ps begun R₀ T₀ a R (shareOf here split T) → EndFor limit a (length R) here split T T′ (Stands a′)
         → Turns later there qs begun Q₀ U₀ b Q (shareOf there split′ U) → EndFor later b (length Q) there split′ U U′ (Stands b′)
         → Lasts (numberTold (told a′)) → Stays (told a′) (told b′) (rowsTold (told a′)) (shareOf here split T′) (shareOf there split′ U′)
-    station-end-stays split split′ T U ps qs e few {a} {b} {a′} {b′} {R} {Q} x c y d l =
-        end-stays ps qs e few (turns-run x) (its-end here split T c) (turns-run y) (its-end there split′ U d) l
-      where
-        its-end :
-            {limit bytes : ℕ} {state last : State} (at : Station) (row : ℕ) (T : List ℕ) {T′ : List ℕ} → EndFor limit state bytes at row T T′ (Stands last)
-            → Closed limit state bytes (shareOf at row T) (shareOf at row T′) last
-        its-end {limit} {bytes} {state} {last} at row T {T′} f =
-            let o = own-end at row T (has-share (call.ends f) (told-not last)) limit state bytes f in
-            let i : o .own ≡ last = sym (cc) in
-            rw i at (o .did)
+    station-end-stays split split′ T U ps qs e few x c y d = end-stays ps qs e few (turns-run x) (its-end here split T c) (turns-run y) (its-end there split′ U d)

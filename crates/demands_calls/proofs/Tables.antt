@@ -88,6 +88,12 @@ pub table-is : (words : ℕ) (o : Reading) → tableBy place words o ≡ tableOf
 table-is words (refused m p) = refl
 table-is words (got rows used book) = put-is (roomOf 4096 words) (replicate words 0) 0 rows
 
+-- and the one before the request has its rows one after the other
+rows-before : (words : ℕ) (o : Reading) → tableBy byRows words o ≡ putRowsBy byRows (roomOf 4096 words) (replicate words 0) 0 (rowsIn o)
+unfolding putRowsBy
+rows-before words (refused m p) = refl
+rows-before words (got rows used book) = refl
+
 -- KEPT AS COLUMNS
 module _ (words : ℕ) (o : Reading) (h : FitsIn words o) {T : List ℕ} (e : T ≡ tableOf words o) where
   abbrev c : ℕ
@@ -122,7 +128,7 @@ module _ (words : ℕ) (o : Reading) (h : FitsIn words o) {T : List ℕ} (e : T 
   spare : (i : ℕ) → ((r j : ℕ) → r < length (rowsIn o) → j < 4 → i ≢ place c r j) → getD T i 0 ≡ 0
   spare i f = ap (λ (l : List ℕ). getD l i 0) e ∙ table-spare words o i f
 
-  pub kept : Kept words o T
+  pub kept : Kept words (rowsIn o) T
   unfolding place
   kept =
       record {
@@ -130,5 +136,5 @@ module _ (words : ℕ) (o : Reading) (h : FitsIn words o) {T : List ℕ} (e : T 
         stands = its-word;
         spare = λ r j f g k. spare (c * j + r) (λ q i a b z. let y = place-one c r q j i g (omega (arith, few)) k b z .0 in omega arith);
         behind = λ i f. spare i (λ q j a b z. omega (arith, place-in c q j (omega (arith, few)) b, z));
-        as-before = rw (e, ← table-is words o) (read-same rows-lay columns-lay words o h);
+        as-before = rw (e, ← table-is words o, ← rows-before words o) (read-same rows-lay columns-lay words o h);
       }

@@ -25,7 +25,7 @@ use Rattle.lookup_answer.specs.Answers as lookups
 use Rattle.placing.specs.Placing.{position}
 use Rattle.pieces.specs.declared.State.{State}
 use Rattle.pieces.specs.Pieces.{joined, outcome, through, roomWith, soFar}
-use Rattle.pieces.specs.Steps.{told}
+use Rattle.pieces.specs.Steps.{told, Closed}
 use Rattle.pieces.specs.Runs.{begun}
 use Rattle.cuts.proofs.Running.{Ends}
 use Rattle.station_reading.specs.declared.Answer.{Answer}
@@ -46,7 +46,7 @@ use Rattle.station_tables.specs.declared.PositionAnswer.the-variants as place
 use Rattle.station_tables.specs.Answers.{writeAnswer, writtenBytes, WroteFor, lookupAnswer, positionAnswer, writeReportOf, lookupReportOf, positionNumber}
 use Rattle.write_answer.specs.Answers as writer
 use Rattle.plan_writer.specs.Answers as planner
-use Rattle.stations.specs.Calls.{Asked, Told, Called, notSplit}
+use Rattle.stations.specs.Calls.{Asked, Told, Called, ends, notSplit}
 use Rattle.stations.specs.Owned.{OwnRead, OwnCard, OwnPiece, OwnEnd, OwnWrite, OwnPlanned}
 use Rattle.stations.specs.Turns.{Turns}
 use Rattle.stations.proofs.Calling as calls
@@ -56,7 +56,7 @@ use Rattle.demands_jobs.proofs.Jobs as jobs
 use Rattle.demands_reading.proofs.Settled as whole-table
 use Rattle.demands_pieces.proofs.Pieces as pieces
 use Rattle.demands_stations.specs.Numbers.{callNumber}
-use Rattle.demands_stations.proofs.Numbers.{exactly, called-exactly, write-not, plan-not, lookup-not, position-not}
+use Rattle.demands_stations.proofs.Numbers.{exactly, called-exactly, has-share, told-not, write-not, plan-not, lookup-not, position-not}
 use Rattle.demands_stations.proofs.Alike.{runs-same}
 
 -- A ROW SPLITS a table exactly if it is not 0 and is below the number of whole rows, however many those are.
@@ -282,31 +282,36 @@ in-turn split c d e f = calls.in-turn split c d e f
 
 -- ---- messages in pieces
 
+-- An end call that was answered with a state is `pieces::end` on the share.
+pub its-end :
+    {limit bytes : ℕ} {state last : State} (station : Station) (split : ℕ) (T : List ℕ) {T′ : List ℕ} → EndFor limit state bytes station split T T′ (Stands last)
+    → Closed limit state bytes (shareOf station split T) (shareOf station split T′) last
+its-end {limit} {bytes} {state} {last} station split T d =
+    let o = own-end station split T (has-share (ends d) (told-not last)) limit state bytes d in
+    let e : o .own ≡ last = sym (cc) in
+    rw e at (o .did)
+
 -- WHOLE. A station's message in pieces, with any calls of the other station in between: what is told and the share's words are those of the whole
 -- message.
 pub pieces-whole :
-    (limit : ℕ) (fine : allowed limit ≡ true) (station : Station) (split : ℕ) (T : List ℕ) → splits split (length T) ≡ true → (R₀ W₀ : List ℕ) → 65536 ≤ length R₀
+    (limit : ℕ) (fine : allowed limit ≡ true) (station : Station) (split : ℕ) (T R₀ W₀ : List ℕ) → 65536 ≤ length R₀
     → (ps : List (List ℕ)) {state last : State} {R T′ : List ℕ} → Turns limit station ps begun R₀ W₀ state R (shareOf station split T)
     → length (joined ps) ≤ 65536 → EndFor limit state (length R) station split T T′ (Stands last)
     → Ends (reading limit (joined ps) (length W₀)) (length W₀) last (shareOf station split T′)
-pieces-whole limit fine station split T ok R₀ W₀ long ps {state} {last} {R} ts few d =
-    let o = own-end station split T ok limit state (length R) d in
-    let e : o .own ≡ last = sym (cc) in
-    pieces.as-whole limit fine R₀ W₀ long ps (owning.turns-run ts) few (rw e at (o .did))
+pieces-whole limit fine station split T R₀ W₀ long ps ts few d = pieces.as-whole limit fine R₀ W₀ long ps (owning.turns-run ts) few (its-end station split T d)
 
 -- ALIKE. Two stations' messages in pieces, with one message however it is cut, one limit and shares of one size before the first piece: the same is told, and the
--- shares' words are the same, whatever the tables, the rows and the other station's calls in between.
+-- shares' words are the same, whatever the rooms, the tables, the rows and the other station's calls in between.
 pub pieces-alike :
-    (limit : ℕ) (fine : allowed limit ≡ true) (station other-station : Station) (split other-split : ℕ) (T U : List ℕ) → splits split (length T) ≡ true
-    → splits other-split (length U) ≡ true → (R₀ Q₀ W₀ V₀ : List ℕ) → 65536 ≤ length R₀ → 65536 ≤ length Q₀ → length W₀ ≡ length V₀
-    → (ps qs : List (List ℕ)) → joined ps ≡ joined qs → length (joined ps) ≤ 65536 → {a b a′ b′ : State} {R Q T′ U′ : List ℕ}
+    (limit : ℕ) (fine : allowed limit ≡ true) (station other-station : Station) (split other-split : ℕ) (T U R₀ Q₀ W₀ X₀ : List ℕ) → 65536 ≤ length R₀
+    → 65536 ≤ length Q₀ → length W₀ ≡ length X₀ → (ps qs : List (List ℕ)) → joined ps ≡ joined qs → length (joined ps) ≤ 65536 → {a b a′ b′ : State} {R Q T′ U′ : List ℕ}
     → Turns limit station ps begun R₀ W₀ a R (shareOf station split T) → EndFor limit a (length R) station split T T′ (Stands a′)
-    → Turns limit other-station qs begun Q₀ V₀ b Q (shareOf other-station other-split U)
+    → Turns limit other-station qs begun Q₀ X₀ b Q (shareOf other-station other-split U)
     → EndFor limit b (length Q) other-station other-split U U′ (Stands b′)
     → (told a′ ≡ told b′) × (shareOf station split T′ ≡ shareOf other-station other-split U′)
-pieces-alike limit fine station other-station split other-split T U ok ok′ R₀ Q₀ W₀ V₀ h k l ps qs e few x c y d =
-    let i = pieces-whole limit fine station split T ok R₀ W₀ h ps x few c in
-    let j = pieces-whole limit fine other-station other-split U ok′ Q₀ V₀ k qs y (rw e at few) d in
+pieces-alike limit fine station other-station split other-split T U R₀ Q₀ W₀ X₀ h k l ps qs e few x c y d =
+    let i = pieces-whole limit fine station split T R₀ W₀ h ps x few c in
+    let j = pieces-whole limit fine other-station other-split U Q₀ X₀ k qs y (rw e at few) d in
     (i .says ∙ rw (e, l) (sym (j .says)), i .table ∙ rw (e, l) (sym (j .table)))
 
 -- AFTER EACH PIECE: what is told, the room, and the share's words are those of the bytes through the deciding piece.
