@@ -2,39 +2,42 @@
 -- T₀ of that layout to a table T of columns: as long, with the same rows as far as there is room, and with the same words behind them. `tableBy`, `writeBy`,
 -- `lookupBy` .. are crate layouts' definitions with the layout as a parameter; by `place` they are those that the functions promise. Assumes nothing.
 use mathlib.Core.Path.{_≡_, refl, sym, ap, _∙_, fun-ext}
-use mathlib.Core.Bool.{Bool, true, false, _&&_}
+use mathlib.Core.Bool.{true}
 use mathlib.Core.List.{List, [], _∷_}
-use Prim.Native.Nat.{ℕ, zero, suc, _+_, _*_, _≤_, _<_}
+use Prim.Native.Nat.{ℕ, _+_, _*_, _≤_, _<_}
 use native.Mathlib.Omega.{arith}
-use lib.Dec.{ltb}
 use lib.Seq.{getD-take, getD-drop}
-use lib.ListN.{length, getD, take, drop, replicate}
-use Rattle.draft.specs.declared.Row.{Row}
+use lib.ListN.{length, getD, drop}
 use Rattle.draft.specs.declared.Refusal.the-variants.{TooLong}
 use Rattle.draft.specs.Bytes.{part}
-use Rattle.draft.specs.Rows.{row}
-use Rattle.draft.specs.Table.{roomOf, place, setRow, putRows, rowAt, from}
-use Rattle.draft.specs.Read.{Reading, got, refused, pick}
+use Rattle.draft.specs.Table.{roomOf, place, rowAt, from}
+use Rattle.draft.specs.Read.{refused}
 use Rattle.draft.specs.Limits.{allowed}
 use Rattle.draft.specs.Writable.{writableWithin, writableTo, writable}
 use Rattle.draft.specs.Written.{rowsOf}
-use Rattle.table.proofs.Rows.{place-in, place-one}
+use Rattle.table.proofs.Rows.{place-in}
 use Rattle.read_answer.specs.declared.Answer.{Answer as ReaderAnswer}
-use Rattle.read_answer.specs.declared.Answer.the-variants.{Accepted}
-use Rattle.read_answer.specs.Answers.{reading, tableOf, Answers}
-use Rattle.read_answer.proofs.Limited.{got-within}
+use Rattle.read_answer.specs.Answers.{reading, Answers}
+use Rattle.records.specs.Job.{bodyOf}
 use Rattle.records.specs.declared.Found.{Found}
 use Rattle.records.specs.declared.Found.the-variants as found
 use Rattle.job.specs.declared.Answer.{Answer as JobAnswer}
 use Rattle.job.specs.Cards.{Reads}
-use Rattle.rereading.specs.Rereading.{refusedWithOne}
 use Rattle.pieces.specs.declared.State.{State}
-use Rattle.pieces.specs.Pieces.{outcome, through as throughPieces}
+use Rattle.pieces.specs.Pieces.{through as throughPieces}
+use Rattle.pieces.specs.Steps.{Closed}
 use Rattle.pieces.specs.Runs.{begun, Runs}
 use Rattle.shares.specs.declared.Station.{Station}
 use Rattle.shares.specs.Share.{splits, firstWord, sizeOf, shareOf}
 use Rattle.station_reading.specs.declared.Answer.{Answer as StationAnswer}
-use Rattle.station_reading.specs.Answers.{ReadFor}
+use Rattle.station_reading.specs.declared.CardAnswer.{CardAnswer}
+use Rattle.station_reading.specs.Answers.{ReadFor, CardFor}
+use Rattle.station_pieces.specs.declared.Answer.the-variants.{Stands}
+use Rattle.station_pieces.specs.Steps.{EndFor}
+use Rattle.stations.specs.Turns.{Turns}
+use Rattle.stations.proofs.Owning.{turns-run}
+use Rattle.cuts.proofs.Holding.{same-room}
+use Rattle.cuts.proofs.Running as run
 use Rattle.write_answer.specs.declared.Answer.{Answer as WriterAnswer}
 use Rattle.write_answer.specs.Answers as writer
 use Rattle.plan_writer.specs.declared.Answer.{Answer as PlanAnswer}
@@ -48,16 +51,16 @@ use Rattle.index.specs.Filling.{refusalOf, orderOf, entries, Filled}
 use Rattle.index_search.specs.Through.{foundRow, rowAnswer, throughIf, through, keyAt, reportsOf}
 use Rattle.index_search.proofs.Theorems.{getD-from}
 use Rattle.defaults.specs.Defaults.{Source, chosen}
-use Rattle.layouts.specs.Layouts.{Layout, byRows, Lays, setRowBy, putRowsBy, rowBy, tableBy, FitsIn, SameRows, turned}
+use Rattle.layouts.specs.Layouts.{byRows, Lays, rowBy, SameRows, turned}
 use Rattle.layouts.specs.Asking.{rowsBy, writableBy, writeBy, writtenBy, planBy, plannedBy, certifiedBy, lookupBy, positionBy, refusalBy, orderBy, foundRowBy, rowAnswerBy, throughBy, chosenBy}
-use Rattle.layouts.proofs.Storing.{rows-lay, columns-lay, read-same, turned-same}
+use Rattle.layouts.proofs.Storing.{rows-lay, columns-lay, turned-same}
 use Rattle.layouts.proofs.Tying as tying
 use Rattle.layouts.proofs.Tying.{with-table}
-use Rattle.demands_reading.proofs.Reading.{sound}
-use Rattle.demands_reading.proofs.Settled as settled
 use Rattle.demands_writing.proofs.Writing.{Words, Octets}
 use Rattle.demands_pieces.proofs.Pieces.{table-settled}
-use Rattle.demands_stations.proofs.Stations.{own-read}
+use Rattle.demands_stations.proofs.Stations.{own-read, own-card, its-end}
+use Rattle.demands_calls.specs.Columns.{rowsIn, decided, cardRows, Kept}
+use Rattle.demands_calls.proofs.Tables.{fits, fits-outcome, kept}
 
 -- ---- columns
 
@@ -66,50 +69,55 @@ pub word-stands : (c r j : ℕ) → place c r j ≡ c * j + r
 unfolding place
 word-stands c r j = refl
 
--- word j of a row, and a row of zeros
-abbrev pub wordOf : ℕ → Row → ℕ
-wordOf zero x = x .kind
-wordOf (suc zero) x = x .a
-wordOf (suc (suc zero)) x = x .b
-wordOf (suc (suc (suc j))) x = x .end
+-- THE TABLE AFTER A CALL THAT READS keeps the rows as columns, and has those of the table before the request. Its answer has no layout in it.
+pub read-kept : (limit : ℕ) (s : List ℕ) (words : ℕ) {T : List ℕ} {a : ReaderAnswer} → Answers (reading limit s words) words T a → Kept words (rowsIn (reading limit s words)) T
+read-kept limit s words d = kept words (reading limit s words) (fits limit s words (reading limit s words) refl) (d .leaves)
 
-abbrev pub noRow : Row
-noRow = row 0 0 0 0
+-- a card of a job file
+pub card-kept : (s : List ℕ) (words : ℕ) (f : Found) {T : List ℕ} {a : JobAnswer} → Reads s words f T a → Kept words (cardRows s words f) T
+card-kept s words (found.Body start size) d = kept words (reading 32 (part s start size) words) (fits 32 (part s start size) words _ refl) (d .leaves)
+card-kept s words (found.Missing why p) d = kept words (refused TooLong 0) tt (d .leaves)
 
--- a message that was read into a table of so many words
-module _ (limit : ℕ) (s : List ℕ) (words : ℕ) {T : List ℕ} {n used : ℕ} (d : Answers (reading limit s words) words T (Accepted n used)) where
-  abbrev c : ℕ
-  c = roomOf 4096 words
+-- in pieces: after a piece, however the message is cut, and after the end call
+module _ (limit : ℕ) (ok : allowed limit ≡ true) (R₀ T₀ : List ℕ) (long : 65536 ≤ length R₀) where
+  pub piece-kept :
+      (p : List ℕ) (ps : List (List ℕ)) {state : State} {R T : List ℕ} → Runs limit (p ∷ ps) begun R₀ T₀ state R T
+      → Kept (length T₀) (rowsIn (decided limit (length T₀) (p ∷ ps))) T
+  piece-kept p ps calls =
+      kept (length T₀) (decided limit (length T₀) (p ∷ ps)) (fits-outcome limit (throughPieces limit (length T₀) [] (p ∷ ps)) (length T₀))
+      (table-settled limit ok R₀ T₀ long p ps calls)
 
-  few : n ≤ c
-  few = omega (arith, settled.accepted-read limit s words d .count, sound 65536 s c limit (got-within limit s words (settled.accepted-read limit s words d .is)) .fits)
+  pub end-kept :
+      (ps : List (List ℕ)) {state last : State} {R T T′ : List ℕ} → Runs limit ps begun R₀ T₀ state R T → Closed limit state (length R) T T′ last
+      → Kept (length T₀) (rowsIn (decided limit (length T₀) ps)) T′
+  end-kept ps {R = R} {T = T} {T′ = T′} calls c =
+      let n = run.run-stands limit ok R₀ T₀ ps long calls in
+      let k : 65536 ≤ length R = omega (arith, ap length (n .room), same-room (throughPieces limit (length T₀) [] ps) R₀ long) in
+      kept (length T₀) (decided limit (length T₀) ps) (fits-outcome limit (throughPieces limit (length T₀) [] ps) (length T₀))
+      (run.end-is limit ok (length T₀) (length R) T T′ _ k (n .size) (n .is) c .table)
 
-  -- READ. The rows that the message has stand so,
-  pub row-stands : (r j : ℕ) → r < n → j < 4 → getD T (c * j + r) 0 ≡ wordOf j (getD (settled.accepted-read limit s words d .rows) r noRow)
-  unfolding rowAt place
-  row-stands r j h k = go j k
-    where
-      is : rowAt c T r ≡ getD (settled.accepted-read limit s words d .rows) r noRow
-      is =
-          let z : 0 + r ≡ r = omega arith in
-          ap (rowAt c T) (sym z) ∙ sym (getD-from (rowAt c T) 0 n r noRow h) ∙ ap (λ (l : List Row). getD l r noRow) (settled.accepted-rows limit s words d)
+  -- FOR A STATION: the share's words, as a table of their own
+  pub station-piece-kept :
+      (station : Station) (p : List ℕ) (ps : List (List ℕ)) {state : State} {R W : List ℕ} → Turns limit station (p ∷ ps) begun R₀ T₀ state R W
+      → Kept (length T₀) (rowsIn (decided limit (length T₀) (p ∷ ps))) W
+  station-piece-kept station p ps ts = piece-kept p ps (turns-run ts)
 
-      go : (j : ℕ) → j < 4 → getD T (c * j + r) 0 ≡ wordOf j (getD (settled.accepted-read limit s words d .rows) r noRow)
-      go zero k = ap (λ (x : Row). x .kind) is
-      go (suc zero) k = ap (λ (x : Row). x .a) is
-      go (suc (suc zero)) k = ap (λ (x : Row). x .b) is
-      go (suc (suc (suc zero))) k = ap (λ (x : Row). x .end) is
-      go (suc (suc (suc (suc j)))) k = absurd (omega arith)
+  pub station-end-kept :
+      (station : Station) (split : ℕ) (T : List ℕ) (ps : List (List ℕ)) {state last : State} {R T′ : List ℕ}
+      → Turns limit station ps begun R₀ T₀ state R (shareOf station split T) → EndFor limit state (length R) station split T T′ (Stands last)
+      → Kept (length T₀) (rowsIn (decided limit (length T₀) ps)) (shareOf station split T′)
+  station-end-kept station split T ps ts c = end-kept ps (turns-run ts) (its-end station split T c)
 
-  -- each column is zeros behind them,
-  pub column-zeros : (r j : ℕ) → n ≤ r → r < c → j < 4 → getD T (c * j + r) 0 ≡ 0
-  column-zeros r j h l k =
-      rw (← word-stands c r j)
-      (settled.unused-zero limit s words d (place c r j) (λ q i a b e. let z = place-one c r q j i l (omega (arith, few)) k b e .0 in omega arith))
+module _ (station : Station) (split : ℕ) (T : List ℕ) (ok : splits split (length T) ≡ true) {T′ : List ℕ} where
+  pub station-kept :
+      (limit : ℕ) (s : List ℕ) {a : StationAnswer} → ReadFor limit s station split T T′ a
+      → Kept (sizeOf station split (length T)) (rowsIn (reading limit s (sizeOf station split (length T)))) (shareOf station split T′)
+  station-kept limit s d = read-kept limit s (sizeOf station split (length T)) (own-read station split T ok limit s d .did)
 
-  -- and so are all words past the columns.
-  pub past-columns : (i : ℕ) → c * 4 ≤ i → getD T i 0 ≡ 0
-  past-columns i h = settled.unused-zero limit s words d i (λ q j a b e. omega (arith, place-in c q j (omega (arith, few)) b, e))
+  pub station-card-kept :
+      (s : List ℕ) (number : ℕ) {a : CardAnswer} → CardFor s number station split T T′ a
+      → Kept (sizeOf station split (length T)) (cardRows s (sizeOf station split (length T)) (bodyOf s number)) (shareOf station split T′)
+  station-card-kept s number d = card-kept s (sizeOf station split (length T)) (bodyOf s number) (own-card station split T ok s number d .did)
 
 -- IN A SHARE the columns are inside its own words, and as long as its own room: word j of its row r stands at that room times j plus r from its first word.
 module _ (station : Station) (split : ℕ) (T : List ℕ) where
@@ -141,60 +149,6 @@ turned-columns T₀ = turned-same rows-lay columns-lay T₀
 
 pub turned-rows : (T : List ℕ) → SameRows place byRows T (turned place byRows T)
 turned-rows T = turned-same columns-lay rows-lay T
-
--- The definitions by `place` are the draft's.
-put-is : (c : ℕ) (T : List ℕ) (r : ℕ) (xs : List Row) → putRowsBy place c T r xs ≡ putRows c T r xs
-unfolding putRowsBy putRows setRowBy setRow
-put-is c T r [] = refl
-put-is c T r (x ∷ xs) = rw (put-is c T (suc r) xs)
-
-pub table-is : (words : ℕ) (o : Reading) → tableBy place words o ≡ tableOf words o
-table-is words (refused m p) = refl
-table-is words (got rows used book) = put-is (roomOf 4096 words) (replicate words 0) 0 rows
-
--- no more rows are read than there is room for
-fits : (limit : ℕ) (s : List ℕ) (words : ℕ) (o : Reading) → reading limit s words ≡ o → FitsIn words o
-fits limit s words (refused m p) e = tt
-fits limit s words (got rows used book) e = sound 65536 s (roomOf 4096 words) limit (got-within limit s words e) .fits
-
-tied : (words : ℕ) (o : Reading) {T : List ℕ} → FitsIn words o → T ≡ tableOf words o → SameRows byRows place (tableBy byRows words o) T
-tied words o h e = rw (e, ← table-is words o) (read-same rows-lay columns-lay words o h)
-
--- READ. The answer has no layout in it; the table has the rows of the one that `reader::read` left.
-pub read-tied : (limit : ℕ) (s : List ℕ) (words : ℕ) {T : List ℕ} {a : ReaderAnswer} → Answers (reading limit s words) words T a → SameRows byRows place (tableBy byRows words (reading limit s words)) T
-read-tied limit s words d = tied words (reading limit s words) (fits limit s words (reading limit s words) refl) (d .leaves)
-
--- A CARD of a job file.
-abbrev pub cardBy : Layout → List ℕ → ℕ → Found → List ℕ
-cardBy at s words (found.Body start size) = tableBy at words (reading 32 (part s start size) words)
-cardBy at s words (found.Missing refusal place) = replicate words 0
-
-pub card-tied : (s : List ℕ) (words : ℕ) (f : Found) {T : List ℕ} {a : JobAnswer} → Reads s words f T a → SameRows byRows place (cardBy byRows s words f) T
-card-tied s words (found.Body start size) d = tied words (reading 32 (part s start size) words) (fits 32 (part s start size) words _ refl) (d .leaves)
-card-tied s words (found.Missing why p) d = tied words (refused TooLong 0) tt (d .leaves)
-
--- IN PIECES. The table after a piece, however the message is cut.
-fits-outcome : (limit : ℕ) (s : List ℕ) (words : ℕ) → FitsIn words (outcome limit s words)
-unfolding outcome
-fits-outcome limit s words = go (refusedWithOne (reading limit (take 65536 s) words) && ltb 65536 (length s))
-  where
-    go : (b : Bool) → FitsIn words (pick b (refused TooLong 0) (reading limit (take 65536 s) words))
-    go true = tt
-    go false = fits limit (take 65536 s) words (reading limit (take 65536 s) words) refl
-
-pub pieces-tied :
-    (limit : ℕ) → allowed limit ≡ true → (R₀ T₀ : List ℕ) → 65536 ≤ length R₀ → (p : List ℕ) (ps : List (List ℕ)) {state : State} {R T : List ℕ}
-    → Runs limit (p ∷ ps) begun R₀ T₀ state R T
-    → SameRows byRows place (tableBy byRows (length T₀) (outcome limit (throughPieces limit (length T₀) [] (p ∷ ps)) (length T₀))) T
-pieces-tied limit ok R₀ T₀ long p ps calls =
-    tied (length T₀) (outcome limit (throughPieces limit (length T₀) [] (p ∷ ps)) (length T₀)) (fits-outcome limit (throughPieces limit (length T₀) [] (p ∷ ps)) (length T₀))
-    (table-settled limit ok R₀ T₀ long p ps calls)
-
--- FOR A STATION. The share's words, as a table of their own.
-pub share-tied :
-    (station : Station) (split : ℕ) (T : List ℕ) → splits split (length T) ≡ true → {T′ : List ℕ} (limit : ℕ) (s : List ℕ) {a : StationAnswer} → ReadFor limit s station split T T′ a
-    → SameRows byRows place (tableBy byRows (sizeOf station split (length T)) (reading limit s (sizeOf station split (length T)))) (shareOf station split T′)
-share-tied station split T ok limit s d = read-tied limit s (sizeOf station split (length T)) (own-read station split T ok limit s d .did)
 
 -- A TABLE T₀ OF ROWS AND A TABLE T OF COLUMNS that has its rows, with one stated number of rows and the same text bytes: every call that is lent T answers
 -- what it answered for T₀.

@@ -1,5 +1,5 @@
--- The limit of nesting that a call states (request E11): 23, and what stays of an answer under a higher limit, a larger table, or both. The promises
--- are those of Settled, Accepting, Pieces and Stations. Assumes nothing.
+-- The limit of nesting that a call states (request E11): 23 exactly if it is none of 1 to 32; and the law of growth for each call that reads, of its own answers.
+-- Assumes nothing.
 use mathlib.Core.Path.{_≡_, refl, sym, ap, _∙_}
 use mathlib.Core.Bool.{Bool, true, false, _&&_}
 use mathlib.Core.Logic.{_↔_, _≢_}
@@ -7,65 +7,71 @@ use mathlib.Core.List.{List, [], _∷_, _++_}
 use Prim.Native.Nat.{ℕ, _≤_, _<_}
 use native.Mathlib.Omega.{arith}
 use lib.Dec.{leb, ltb}
-use lib.ListN.{length, take, getD, replicate}
+use lib.ListN.{length, take, replicate}
 use borrow.Author.Tests.{le-leb, leb-true}
-use Rattle.draft.specs.declared.Refusal.the-variants.{TooDeep, NoRow, TooLong, NoLimit}
-use Rattle.draft.specs.Refusals.{numberOf}
-use Rattle.draft.specs.Limits.{allowed}
-use Rattle.draft.specs.Table.{roomOf, place, rowsAt}
-use Rattle.draft.specs.Read.{Reading, got, refused, pick, message, messageWithin}
 use Rattle.text.proofs.Comparing.{clash}
-use Rattle.rereading.specs.Rereading.{refusedWithOne}
+use Rattle.draft.specs.declared.Refusal.{Refusal}
+use Rattle.draft.specs.declared.Refusal.the-variants.{TooDeep, NoRow, TooLong, NoLimit}
+use Rattle.draft.specs.Refusals.{numberOf, refusalOf}
+use Rattle.draft.specs.Bytes.{part}
+use Rattle.draft.specs.Limits.{allowed}
+use Rattle.draft.specs.Table.{roomOf}
+use Rattle.draft.specs.Read.{Reading, got, refused, pick, message, messageWithin}
 use Rattle.draft.proofs.Limiting.{limit-least, limit-most}
+use Rattle.draft.proofs.Naming.{number-own}
+use Rattle.exact.proofs.Concluding.{of-reading, within-is, WithinRefused, of-bytes, of-message, within-refused}
 use Rattle.read_answer.specs.declared.Answer.{Answer}
 use Rattle.read_answer.specs.declared.Answer.the-variants.{Accepted, Refused}
-use Rattle.read_answer.specs.Answers.{reading, answerOf, tableOf, Answers}
+use Rattle.read_answer.specs.Answers.{reading, answerOf, tableOf, Answers, reportOf}
 use Rattle.read_answer.proofs.Limited.{reading-within, reading-unlimited, reading-not}
-use Rattle.exact.proofs.Concluding.{of-reading, within-is, WithinRefused, of-bytes, of-message, within-refused}
-use Rattle.write_answer.specs.declared.Answer.{Answer as WriterAnswer}
-use Rattle.write_answer.specs.declared.Answer.the-variants as writer
-use Rattle.write_answer.specs.Answers as writing
-use Rattle.pieces.specs.declared.State.{State}
-use Rattle.draft.specs.Bytes.{part}
+use Rattle.rereading.specs.Rereading.{refusedWithOne}
 use Rattle.records.specs.declared.Found.{Found}
 use Rattle.records.specs.declared.Found.the-variants as found
+use Rattle.records.specs.Job.{bodyOf}
 use Rattle.job.specs.declared.Answer.{Answer as JobAnswer}
+use Rattle.job.specs.Cards as job
 use Rattle.job.specs.Cards.{located, Reads}
-use Rattle.pieces.specs.Pieces.{joined, toldOf, soFar, outcome, wanting, through, pickBytes}
-use Rattle.pieces.specs.Steps.{told, Closed}
-use Rattle.pieces.specs.Runs.{begun, Runs}
+use Rattle.pieces.specs.declared.State.{State}
+use Rattle.pieces.specs.Pieces.{Told, joined, toldOf, soFar, pickTold, more, refusal, outcome, wanting, through, pickBytes}
+use Rattle.pieces.specs.Steps.{told, Went, Closed}
+use Rattle.pieces.specs.Runs.{begun, Runs, none, piece}
 use Rattle.shares.specs.declared.Station.{Station}
 use Rattle.shares.specs.Share.{splits, sizeOf, shareOf}
 use Rattle.station_reading.specs.declared.Answer.{Answer as StationAnswer}
 use Rattle.station_reading.specs.declared.Answer.the-variants as station
-use Rattle.station_reading.specs.Answers.{ReadFor}
+use Rattle.station_reading.specs.declared.CardAnswer.{CardAnswer}
+use Rattle.station_reading.specs.declared.CardAnswer.the-variants as station-card
+use Rattle.station_reading.specs.Answers as at-station
+use Rattle.station_reading.specs.Answers.{ReadFor, CardFor}
+use Rattle.station_pieces.specs.declared.Answer.the-variants.{Stands}
+use Rattle.station_pieces.specs.Steps.{EndFor}
+use Rattle.stations.specs.Calls as call
+use Rattle.stations.specs.Turns.{Turns}
+use Rattle.stations.proofs.Owning.{turns-run}
 use Rattle.demands_reading.proofs.Reading.{growth-of-limits}
-use Rattle.demands_reading.proofs.Settled.{accepted-read, accepted-rows, unused-zero}
-use Rattle.demands_pieces.proofs.Pieces.{as-whole, after-each}
-use Rattle.demands_stations.proofs.Stations.{own-read}
+use Rattle.demands_pieces.proofs.Pieces.{as-whole, after-each, table-settled, no-limit, no-limit-end}
+use Rattle.demands_stations.specs.Numbers.{numberTold, rowsTold}
+use Rattle.demands_stations.proofs.Numbers.{has-share}
+use Rattle.demands_stations.proofs.Stations.{own-read, own-card, its-end}
+use Rattle.demands_calls.specs.Growth.{Lasts, Stays}
+use Rattle.demands_calls.specs.Columns.{rowsIn, decided}
+use Rattle.demands_calls.proofs.Tables.{fits, fits-outcome, stays}
 
 -- 1 TO 32 may be stated, and nothing else.
 pub allowed-exactly : (limit : ℕ) → (allowed limit ≡ true) ↔ ((1 ≤ limit) × (limit ≤ 32))
 unfolding allowed
 allowed-exactly limit = (λ e. (limit-least limit e, limit-most limit e), λ h. rw (le-leb 1 limit (h .0), le-leb limit 32 (h .1)))
 
--- 23, at place 0 and before all else: the table, or the output, is zeros.
-pub reader-unlimited :
-    (limit : ℕ) (s : List ℕ) (words : ℕ) {T : List ℕ} {a : Answer} → allowed limit ≡ false → Answers (reading limit s words) words T a
-    → (a ≡ Refused NoLimit 0) × (T ≡ replicate words 0)
-reader-unlimited limit s words e d =
-    let o : reading limit s words ≡ refused NoLimit 0 = reading-unlimited limit s words e in
-    (d .says ∙ ap answerOf o, d .leaves ∙ ap (tableOf words) o)
+allowed-else : (limit : ℕ) → (allowed limit ≡ false → ⊥) → allowed limit ≡ true
+allowed-else limit n = go (allowed limit) refl
+  where
+    go : (b : Bool) → allowed limit ≡ b → allowed limit ≡ true
+    go true e = e
+    go false e = absurd (n e)
 
-pub writer-unlimited :
-    (limit : ℕ) (T : List ℕ) (rows : ℕ) (s out₀ out : List ℕ) {a : WriterAnswer} → allowed limit ≡ false → writing.Did limit T rows s out₀ out a
-    → (a ≡ writer.Refused NoLimit) × (out ≡ replicate (length out₀) 0)
-unfolding writing.answerOf
-writer-unlimited limit T rows s out₀ out {a} e d =
-    let f : a ≡ writer.Refused NoLimit = d .says ∙ rw e in
-    (f, d .leaves ∙ rw f)
+-- ---- 23
 
--- and 23 is said for that alone
+-- with a limit that may be stated no reading is refused with 23
 pub unlimited-only : (limit : ℕ) (s : List ℕ) (words : ℕ) → allowed limit ≡ true → (at : ℕ) → reading limit s words ≢ refused NoLimit at
 unlimited-only limit s words e at f = go (within-refused 65536 s (roomOf 4096 words) limit (sym (reading-within limit s words e) ∙ f))
   where
@@ -73,13 +79,98 @@ unlimited-only limit s words e at f = go (within-refused 65536 s (roomOf 4096 wo
     go (of-bytes h g) = omega (arith, ap numberOf g)
     go (of-message g) = of-reading s (roomOf 4096 words) limit g
 
+the-limit : (m : Refusal) → numberOf m ≡ 23 → m ≡ NoLimit
+unfolding refusalOf
+the-limit m e = sym (number-own m) ∙ ap refusalOf e
+
+not-limit : (o : Reading) → ((at : ℕ) → o ≢ refused NoLimit at) → numberTold (toldOf o) ≢ 23
+not-limit (got rows used book) n e = omega arith
+not-limit (refused m p) n e = n p (ap (λ (k : Refusal). refused k p) (the-limit m e))
+
+-- READ: 23 exactly if the limit is outside, whatever else; at place 0, the table zeros
+pub read-unlimited :
+    (limit : ℕ) (s : List ℕ) (words : ℕ) {T : List ℕ} {a : Answer} → Answers (reading limit s words) words T a
+    → ((reportOf a .number ≡ 23) ↔ (allowed limit ≡ false)) × (allowed limit ≡ false → (a ≡ Refused NoLimit 0) × (T ≡ replicate words 0))
+read-unlimited limit s words {T} {a} d = ((λ e. go (allowed limit) refl e, λ h. ap (λ (x : Answer). reportOf x .number) (told-so h .0)), told-so)
+  where
+    told-so : allowed limit ≡ false → (a ≡ Refused NoLimit 0) × (T ≡ replicate words 0)
+    told-so h =
+        let o : reading limit s words ≡ refused NoLimit 0 = reading-unlimited limit s words h in
+        (d .says ∙ ap answerOf o, d .leaves ∙ ap (tableOf words) o)
+
+    same : (o : Reading) → reportOf (answerOf o) .number ≡ numberTold (toldOf o)
+    same (got rows used book) = refl
+    same (refused m p) = refl
+
+    go : (b : Bool) → allowed limit ≡ b → reportOf a .number ≡ 23 → allowed limit ≡ false
+    go true ok e =
+        absurd
+        (not-limit (reading limit s words) (unlimited-only limit s words ok)
+        (sym (ap (λ (x : Answer). reportOf x .number) (d .says) ∙ same (reading limit s words)) ∙ e))
+    go false h e = h
+
+-- IN PIECES: after any piece, from the first call on, with a room that is long enough
+runs-limit : {limit : ℕ} {p : List ℕ} {ps : List (List ℕ)} {a b : State} {R T R′ T′ : List ℕ} → allowed limit ≡ false → Runs limit (p ∷ ps) a R T b R′ T′ → told b ≡ refusal 23 0
+runs-limit {limit} h (piece {state = state} w none) = no-limit limit state w h .0
+runs-limit h (piece w (piece v x)) = runs-limit h (piece v x)
+
+so-far-limit : (o : Reading) → ((at : ℕ) → o ≢ refused NoLimit at) → numberTold (soFar o) ≢ 23
+so-far-limit o n = go (refusedWithOne o)
+  where
+    go : (b : Bool) → numberTold (pickTold b more (toldOf o)) ≢ 23
+    go true e = omega arith
+    go false e = not-limit o n e
+
+outcome-limit : (limit : ℕ) (s : List ℕ) (words : ℕ) → allowed limit ≡ true → (at : ℕ) → outcome limit s words ≢ refused NoLimit at
+unfolding outcome
+outcome-limit limit s words ok at = by (refusedWithOne (reading limit (take 65536 s) words) && ltb 65536 (length s))
+  where
+    by : (b : Bool) → pick b (refused TooLong 0) (reading limit (take 65536 s) words) ≢ refused NoLimit at
+    by true e = let z : _≡_ {A = ℕ} 0 1 = cc in omega arith
+    by false e = unlimited-only limit (take 65536 s) words ok at e
+
+pub pieces-unlimited :
+    (limit : ℕ) (R₀ T₀ : List ℕ) → 65536 ≤ length R₀ → (p : List ℕ) (ps : List (List ℕ)) {state : State} {R T : List ℕ} → Runs limit (p ∷ ps) begun R₀ T₀ state R T
+    → (numberTold (told state) ≡ 23) ↔ (allowed limit ≡ false)
+pieces-unlimited limit R₀ T₀ long p ps {state} calls = (λ e. go (allowed limit) refl e, λ h. ap numberTold (runs-limit h calls))
+  where
+    go : (b : Bool) → allowed limit ≡ b → numberTold (told state) ≡ 23 → allowed limit ≡ false
+    go true ok e =
+        let s = through limit (length T₀) [] (p ∷ ps) in
+        absurd
+        (so-far-limit (outcome limit s (length T₀)) (outcome-limit limit s (length T₀) ok) (sym (ap numberTold (after-each limit ok R₀ T₀ long (p ∷ ps) calls)) ∙ e))
+    go false h e = h
+
 -- ---- what stays
 
--- an answer other than 8, 9 and 23
-pub record Lasting (o : Reading) : Type 0 where
-  pub not-deep : (at : ℕ) → o ≢ refused TooDeep at
-  pub not-full : (at : ℕ) → o ≢ refused NoRow at
-  pub not-unlimited : (at : ℕ) → o ≢ refused NoLimit at
+-- a reading that is refused with none of 8, 9 and 23
+record Lasting (o : Reading) : Type 0 where
+  not-deep : (at : ℕ) → o ≢ refused TooDeep at
+  not-full : (at : ℕ) → o ≢ refused NoRow at
+  not-unlimited : (at : ℕ) → o ≢ refused NoLimit at
+
+lasting-told : (o : Reading) → Lasts (numberTold (toldOf o)) → Lasting o
+lasting-told o l =
+    record {
+      not-deep = λ at z. l .not-deep (ap (λ (x : Reading). numberTold (toldOf x)) z);
+      not-full = λ at z. l .not-full (ap (λ (x : Reading). numberTold (toldOf x)) z);
+      not-unlimited = λ at z. l .not-limit (ap (λ (x : Reading). numberTold (toldOf x)) z);
+    }
+
+lasting-one : (o : Reading) → refusedWithOne o ≡ true → Lasting o
+lasting-one o h =
+    record {
+      not-deep = λ at z. clash h (ap refusedWithOne z);
+      not-full = λ at z. clash h (ap refusedWithOne z);
+      not-unlimited = λ at z. clash h (ap refusedWithOne z);
+    }
+
+lasting-so-far : (o : Reading) → Lasts (numberTold (soFar o)) → Lasting o
+lasting-so-far o l = go (refusedWithOne o) refl l
+  where
+    go : (b : Bool) → refusedWithOne o ≡ b → Lasts (numberTold (pickTold b more (toldOf o))) → Lasting o
+    go true h l = lasting-one o h
+    go false h l = lasting-told o l
 
 -- too many bytes are so under any limit
 too-many : (s : List ℕ) (room deep : ℕ) → leb (length s) 65536 ≡ false → messageWithin 65536 s room deep ≡ refused TooLong 0
@@ -88,8 +179,7 @@ too-many s room deep e = rw e
 
 -- one message, under a limit that is not lower, up to 32, and into a table, or a share, that is not smaller
 module _ (s : List ℕ) {limit later words words′ : ℕ} (higher : limit ≤ later) (ok : allowed later ≡ true) (larger : words ≤ words′) where
-  -- what reading gives stays
-  pub reading-stays : Lasting (reading limit s words) → reading later s words′ ≡ reading limit s words
+  reading-stays : Lasting (reading limit s words) → reading later s words′ ≡ reading limit s words
   reading-stays l =
       reading-within later s words′ ok ∙ go (leb (length s) 65536) refl ∙ sym (reading-within limit s words stated)
     where
@@ -107,125 +197,98 @@ module _ (s : List ℕ) {limit later words words′ : ℕ} (higher : limit ≤ l
           ∙ sym (within-is 65536 s (roomOf 4096 words) limit (leb-true (length s) 65536 e))
       go false e = too-many s (roomOf 4096 words′) later e ∙ sym (too-many s (roomOf 4096 words) limit e)
 
-  -- THE ANSWER of `reader::read` stays, if it is none of 8, 9 and 23: with its place, its rows and the bytes used.
-  module _ {T T′ : List ℕ} {a b : Answer} (d : Answers (reading limit s words) words T a) (e : Answers (reading later s words′) words′ T′ b) where
-    pub answer-stays : Lasting (reading limit s words) → b ≡ a
-    answer-stays l = e .says ∙ ap answerOf (reading-stays l) ∙ sym (d .says)
+-- the number and the rows of an answer are those of its reading
+answer-number : (o : Reading) → reportOf (answerOf o) .number ≡ numberTold (toldOf o)
+answer-number (got rows used book) = refl
+answer-number (refused m p) = refl
 
-  -- THE ROWS stay, row by row and not word by word; and the words that are none of theirs are zero, in the larger table too.
-  module _ {T T′ : List ℕ} {n used : ℕ} (d : Answers (reading limit s words) words T (Accepted n used)) {b : Answer} (e : Answers (reading later s words′) words′ T′ b) where
-    lasting : Lasting (reading limit s words)
-    lasting =
-        let g : reading limit s words ≡ got (accepted-read limit s words d .rows) used (accepted-read limit s words d .book) = accepted-read limit s words d .is in
-        record {
-          not-deep = λ at z. let k : _≡_ {A = ℕ} 0 1 = cc in omega arith;
-          not-full = λ at z. let k : _≡_ {A = ℕ} 0 1 = cc in omega arith;
-          not-unlimited = λ at z. let k : _≡_ {A = ℕ} 0 1 = cc in omega arith;
-        }
+answer-rows : (o : Reading) → reportOf (answerOf o) .rows ≡ length (rowsIn o)
+answer-rows (got rows used book) = refl
+answer-rows (refused m p) = refl
 
-    pub accepted-stays : b ≡ Accepted n used
-    accepted-stays = answer-stays d e lasting
+-- READ
+pub read-stays :
+    (s : List ℕ) {limit later words words′ : ℕ} → limit ≤ later → allowed later ≡ true → words ≤ words′ → {T T′ : List ℕ} {a b : Answer}
+    → Answers (reading limit s words) words T a → Answers (reading later s words′) words′ T′ b → Lasts (reportOf a .number)
+    → Stays a b (reportOf a .rows) T T′
+read-stays s {limit} {later} {words} {words′} higher ok larger {a = a} d e l =
+    let f : reportOf a .number ≡ numberTold (toldOf (reading limit s words)) = ap (λ (x : Answer). reportOf x .number) (d .says) ∙ answer-number (reading limit s words) in
+    let i : reading later s words′ ≡ reading limit s words = reading-stays s higher ok larger (lasting-told (reading limit s words) (rw f at l)) in
+    stays larger (reading limit s words) (fits limit s words (reading limit s words) refl) (d .leaves) (e .leaves ∙ ap (tableOf words′) i)
+    (e .says ∙ ap answerOf i ∙ sym (d .says)) (ap (λ (x : Answer). reportOf x .rows) (d .says) ∙ answer-rows (reading limit s words))
 
-    again : Answers (reading later s words′) words′ T′ (Accepted n used)
-    again = rw accepted-stays at e
-
-    pub rows-stay : rowsAt (roomOf 4096 words′) T′ 0 n ≡ rowsAt (roomOf 4096 words) T 0 n
-    rows-stay =
-        let g = accepted-read limit s words d in
-        let k = accepted-read later s words′ again in
-        let i : got (k .rows) used (k .book) ≡ got (g .rows) used (g .book) = sym (k .is) ∙ reading-stays lasting ∙ g .is in
-        let j : k .rows ≡ g .rows = cc in
-        accepted-rows later s words′ again ∙ j ∙ sym (accepted-rows limit s words d)
-
-    pub added-zero : (i : ℕ) → ((r j : ℕ) → r < n → j < 4 → i ≡ place (roomOf 4096 words′) r j → ⊥) → getD T′ i 0 ≡ 0
-    added-zero = unused-zero later s words′ again
-
--- AT STATIONS it stays under a larger share.
-module _
-    (here there : Station) (split split′ : ℕ) (T U : List ℕ) (is : splits split (length T) ≡ true) (is′ : splits split′ (length U) ≡ true)
-    (s : List ℕ) {limit later : ℕ} (higher : limit ≤ later) (ok : allowed later ≡ true)
-    (larger : sizeOf here split (length T) ≤ sizeOf there split′ (length U)) {T′ U′ : List ℕ} {a b : StationAnswer}
-    (d : ReadFor limit s here split T T′ a) (e : ReadFor later s there split′ U U′ b)
-  where
-    pub station-stays : Lasting (reading limit s (sizeOf here split (length T))) → b ≡ a
-    station-stays l =
-        let x = own-read here split T is limit s d in
-        let y = own-read there split′ U is′ later s e in
-        y .is ∙ ap station.Answered (answer-stays s higher ok larger (x .did) (y .did) l) ∙ sym (x .is)
-
-    pub station-rows-stay :
-        {n used : ℕ} → a ≡ station.Answered (Accepted n used)
-        → rowsAt (roomOf 4096 (sizeOf there split′ (length U))) (shareOf there split′ U′) 0 n
-        ≡ rowsAt (roomOf 4096 (sizeOf here split (length T))) (shareOf here split T′) 0 n
-    station-rows-stay {n} {used} f =
-        let x = own-read here split T is limit s d in
-        let y = own-read there split′ U is′ later s e in
-        let g : station.Answered (x .own) ≡ station.Answered (Accepted n used) = sym (x .is) ∙ f in
-        let h : x .own ≡ Accepted n used = cc in
-        rows-stay s higher ok larger (rw h at (x .did)) (y .did)
-
-    pub station-added-zero :
-        {n used : ℕ} → a ≡ station.Answered (Accepted n used) → (i : ℕ)
-        → ((r j : ℕ) → r < n → j < 4 → i ≡ place (roomOf 4096 (sizeOf there split′ (length U))) r j → ⊥) → getD (shareOf there split′ U′) i 0 ≡ 0
-    station-added-zero {n} {used} f =
-        let x = own-read here split T is limit s d in
-        let y = own-read there split′ U is′ later s e in
-        let g : station.Answered (x .own) ≡ station.Answered (Accepted n used) = sym (x .is) ∙ f in
-        let h : x .own ≡ Accepted n used = cc in
-        added-zero s higher ok larger (rw h at (x .did)) (y .did)
-
--- cards of job files stay in a larger table: the answer, and where it is accepted the rows
-pub card-stays :
-    (s : List ℕ) (f : Found) {words words′ : ℕ} → words ≤ words′ → {T T′ : List ℕ} {a b : JobAnswer} → Reads s words f T a → Reads s words′ f T′ b
-    → ((start size : ℕ) → f ≡ found.Body start size → Lasting (reading 32 (part s start size) words)) → b ≡ a
-unfolding allowed
-card-stays s (found.Body start size) larger d e l =
-    e .says ∙ ap (λ (o : Reading). located start (answerOf o)) (reading-stays (part s start size) (omega arith) refl larger (l start size refl)) ∙ sym (d .says)
-card-stays s (found.Missing why p) larger d e l = e .says ∙ sym (d .says)
-
--- IN PIECES what is told at the end stays, however the message is cut.
-pub pieces-stay :
-    {limit later : ℕ} → allowed limit ≡ true → limit ≤ later → allowed later ≡ true → (R₀ T₀ Q₀ U₀ : List ℕ) → 65536 ≤ length R₀ → 65536 ≤ length Q₀
-    → length T₀ ≤ length U₀ → (ps qs : List (List ℕ)) → joined ps ≡ joined qs → length (joined ps) ≤ 65536
-    → {a b a′ b′ : State} {R T T′ Q U U′ : List ℕ} → Runs limit ps begun R₀ T₀ a R T → Closed limit a (length R) T T′ a′
-    → Runs later qs begun Q₀ U₀ b Q U → Closed later b (length Q) U U′ b′
-    → Lasting (reading limit (joined ps) (length T₀)) → told b′ ≡ told a′
-pieces-stay {limit} {later} fine higher ok R₀ T₀ Q₀ U₀ h k larger ps qs e few x c y d l =
-    let i = as-whole limit fine R₀ T₀ h ps x few c in
-    let j = as-whole later ok Q₀ U₀ k qs y (rw e at few) d in
-    j .says
-    ∙ ap (λ (t : List ℕ). toldOf (reading later t (length U₀))) (sym e)
-    ∙ ap toldOf (reading-stays (joined ps) higher ok larger l)
-    ∙ sym (i .says)
-
--- and the rows stay, and the added words are zero
-pub pieces-rows-stay :
-    {limit later : ℕ} → allowed limit ≡ true → limit ≤ later → allowed later ≡ true → (R₀ T₀ Q₀ U₀ : List ℕ) → 65536 ≤ length R₀ → 65536 ≤ length Q₀
-    → length T₀ ≤ length U₀ → (ps qs : List (List ℕ)) → joined ps ≡ joined qs → length (joined ps) ≤ 65536
-    → {a b a′ b′ : State} {R T T′ Q U U′ : List ℕ} → Runs limit ps begun R₀ T₀ a R T → Closed limit a (length R) T T′ a′
-    → Runs later qs begun Q₀ U₀ b Q U → Closed later b (length Q) U U′ b′
-    → {n used : ℕ} → answerOf (reading limit (joined ps) (length T₀)) ≡ Accepted n used
-    → (rowsAt (roomOf 4096 (length U₀)) U′ 0 n ≡ rowsAt (roomOf 4096 (length T₀)) T′ 0 n)
-    × ((i : ℕ) → ((r j : ℕ) → r < n → j < 4 → i ≡ place (roomOf 4096 (length U₀)) r j → ⊥) → getD U′ i 0 ≡ 0)
-pieces-rows-stay {limit} {later} fine higher ok R₀ T₀ Q₀ U₀ h k larger ps qs e few {T′ = T′} {U′ = U′} x c y d {n} {used} z =
-    let i = as-whole limit fine R₀ T₀ h ps x few c in
-    let j = as-whole later ok Q₀ U₀ k qs y (rw e at few) d in
-    let v : Answers (reading limit (joined ps) (length T₀)) (length T₀) T′ (Accepted n used) = record { says = sym z; leaves = i .table } in
-    let w : Answers (reading later (joined ps) (length U₀)) (length U₀) U′ (answerOf (reading later (joined ps) (length U₀))) =
-    record { says = refl; leaves = j .table ∙ ap (λ (t : List ℕ). tableOf (length U₀) (reading later t (length U₀))) (sym e) } in
-    (rows-stay (joined ps) higher ok larger v w, added-zero (joined ps) higher ok larger v w)
-
--- AFTER EACH PIECE what is told stays, with the piece that brings it, and the table has the same rows
-lasting-one : (o : Reading) → refusedWithOne o ≡ true → Lasting o
-lasting-one o h =
+-- what stays of answers that hold others
+within :
+    {A B : Type 0} (f : A → B) {a b : A} {x y : B} {n m : ℕ} {T T′ : List ℕ} → x ≡ f a → y ≡ f b → m ≡ n → Stays a b n T T′ → Stays x y m T T′
+within f {T = T} {T′ = T′} i j k s =
     record {
-      not-deep = λ at z. clash h (ap refusedWithOne z);
-      not-full = λ at z. clash h (ap refusedWithOne z);
-      not-unlimited = λ at z. clash h (ap refusedWithOne z);
+      answer = j ∙ ap f (s .answer) ∙ sym i;
+      rows = rw k (s .rows);
+      added = rw k (s .added);
     }
 
+-- A CARD of a job file; cards are read at 32
+located-number : (start : ℕ) (a : Answer) → job.reportOf (located start a) .number ≡ reportOf a .number
+located-number start (Accepted rows used) = refl
+located-number start (Refused m p) = refl
+
+located-rows : (start : ℕ) (a : Answer) → job.reportOf (located start a) .rows ≡ reportOf a .rows
+located-rows start (Accepted rows used) = refl
+located-rows start (Refused m p) = refl
+
+pub card-stays :
+    (s : List ℕ) (f : Found) {words words′ : ℕ} → words ≤ words′ → {T T′ : List ℕ} {a b : JobAnswer} → Reads s words f T a → Reads s words′ f T′ b
+    → Lasts (job.reportOf a .number) → Stays a b (job.reportOf a .rows) T T′
+unfolding allowed
+card-stays s (found.Body start size) {words} {words′} larger {a = a} d e l =
+    let o : Reading = reading 32 (part s start size) words in
+    let o′ : Reading = reading 32 (part s start size) words′ in
+    let n : job.reportOf a .number ≡ reportOf (answerOf o) .number = ap (λ (x : JobAnswer). job.reportOf x .number) (d .says) ∙ located-number start (answerOf o) in
+    within (located start) (d .says) (e .says) (ap (λ (x : JobAnswer). job.reportOf x .rows) (d .says) ∙ located-rows start (answerOf o))
+    (read-stays (part s start size) {limit = 32} {later = 32} {words = words} {words′ = words′} (omega arith) refl larger
+    (record { says = refl; leaves = d .leaves }) (record { says = refl; leaves = e .leaves }) (rw n at l))
+card-stays s (found.Missing why p) larger d e l =
+    stays larger (refused TooLong 0) tt (d .leaves) (e .leaves) (e .says ∙ sym (d .says)) (ap (λ (x : JobAnswer). job.reportOf x .rows) (d .says))
+
+-- AT STATIONS: under a larger share
+module _
+    (here there : Station) (split split′ : ℕ) (T U : List ℕ) (is′ : splits split′ (length U) ≡ true) (s : List ℕ)
+    (larger : sizeOf here split (length T) ≤ sizeOf there split′ (length U)) {T′ U′ : List ℕ}
+  where
+    pub station-stays :
+        {limit later : ℕ} → limit ≤ later → allowed later ≡ true → {a b : StationAnswer} → ReadFor limit s here split T T′ a → ReadFor later s there split′ U U′ b
+        → Lasts (at-station.reportOf a .number) → Stays a b (at-station.reportOf a .rows) (shareOf here split T′) (shareOf there split′ U′)
+    station-stays {limit} {later} higher ok d e l =
+        let x = own-read here split T (has-share (call.reads d) (l .not-split)) limit s d in
+        let y = own-read there split′ U is′ later s e in
+        within station.Answered (x .is) (y .is) (ap (λ (z : StationAnswer). at-station.reportOf z .rows) (x .is))
+        (read-stays s higher ok larger (x .did) (y .did) (rw (ap (λ (z : StationAnswer). at-station.reportOf z .number) (x .is)) at l))
+
+    pub station-card-stays :
+        (number : ℕ) {a b : CardAnswer} → CardFor s number here split T T′ a → CardFor s number there split′ U U′ b
+        → Lasts (at-station.cardReportOf a .number) → Stays a b (at-station.cardReportOf a .rows) (shareOf here split T′) (shareOf there split′ U′)
+    station-card-stays number d e l =
+        let x = own-card here split T (has-share (call.reads-card d) (l .not-split)) s number d in
+        let y = own-card there split′ U is′ s number e in
+        within station-card.Answered (x .is) (y .is) (ap (λ (z : CardAnswer). at-station.cardReportOf z .rows) (x .is))
+        (card-stays s (bodyOf s number) larger (x .did) (y .did) (rw (ap (λ (z : CardAnswer). at-station.cardReportOf z .number) (x .is)) at l))
+
+-- ---- in pieces
+
+told-rows : (o : Reading) → rowsTold (toldOf o) ≡ length (rowsIn o)
+told-rows (got rows used book) = refl
+told-rows (refused m p) = refl
+
+so-far-rows : (o : Reading) → rowsTold (soFar o) ≡ length (rowsIn o)
+so-far-rows (got rows used book) = refl
+so-far-rows (refused m p) = go (refusedWithOne (refused m p))
+  where
+    go : (b : Bool) → rowsTold (pickTold b more (refusal (numberOf m) p)) ≡ 0
+    go true = refl
+    go false = refl
+
 module _ {limit later words words′ : ℕ} (higher : limit ≤ later) (ok : allowed later ≡ true) (larger : words ≤ words′) where
-  pub outcome-stays : (s : List ℕ) → Lasting (outcome limit s words) → outcome later s words′ ≡ outcome limit s words
+  outcome-stays : (s : List ℕ) → Lasting (outcome limit s words) → outcome later s words′ ≡ outcome limit s words
   unfolding outcome
   outcome-stays s l =
       ap (λ (o : Reading). pick (refusedWithOne o && ltb 65536 (length s)) (refused TooLong 0) o)
@@ -237,7 +300,7 @@ module _ {limit later words words′ : ℕ} (higher : limit ≤ later) (ok : all
           let e : pick (refusedWithOne (reading limit (take 65536 s) words) && ltb 65536 (length s)) (refused TooLong 0) (reading limit (take 65536 s) words) ≡ reading limit (take 65536 s) words = rw h in
           rw e at l
 
-  pub through-stays : (s : List ℕ) (ps : List (List ℕ)) → Lasting (outcome limit (through limit words s ps) words) → through later words′ s ps ≡ through limit words s ps
+  through-stays : (s : List ℕ) (ps : List (List ℕ)) → Lasting (outcome limit (through limit words s ps) words) → through later words′ s ps ≡ through limit words s ps
   unfolding through
   through-stays s [] l = refl
   through-stays s (p ∷ ps) l = go (wanting limit s words) refl l (λ z. through-stays (s ++ p) ps z)
@@ -246,19 +309,54 @@ module _ {limit later words words′ : ℕ} (higher : limit ≤ later) (ok : all
           (b : Bool) → wanting limit s words ≡ b → Lasting (outcome limit (pickBytes (wanting limit s words) (through limit words (s ++ p) ps) s) words)
           → (Lasting (outcome limit (through limit words (s ++ p) ps) words) → through later words′ (s ++ p) ps ≡ through limit words (s ++ p) ps)
           → pickBytes (wanting later s words′) (through later words′ (s ++ p) ps) s ≡ pickBytes (wanting limit s words) (through limit words (s ++ p) ps) s
-      go true h l more =
+      go true h l rest =
           let e : wanting later s words′ ≡ true = ap refusedWithOne (outcome-stays s (lasting-one (outcome limit s words) h)) ∙ h in
-          rw (e, h) (more (rw h at l))
-      go false h l more =
+          rw (e, h) (rest (rw h at l))
+      go false h l rest =
           let e : wanting later s words′ ≡ false = ap refusedWithOne (outcome-stays s (rw h at l)) ∙ h in
           rw (e, h)
 
-pub each-piece-stays :
-    {limit later : ℕ} → allowed limit ≡ true → limit ≤ later → allowed later ≡ true → (R₀ T₀ Q₀ U₀ : List ℕ) → 65536 ≤ length R₀ → 65536 ≤ length Q₀
-    → length T₀ ≤ length U₀ → (ps : List (List ℕ)) {a b : State} {R T Q U : List ℕ} → Runs limit ps begun R₀ T₀ a R T → Runs later ps begun Q₀ U₀ b Q U
-    → Lasting (outcome limit (through limit (length T₀) [] ps) (length T₀)) → told b ≡ told a
-each-piece-stays {limit} {later} fine higher ok R₀ T₀ Q₀ U₀ h k larger ps x y l =
-    after-each later ok Q₀ U₀ k ps y
-    ∙ ap (λ (s : List ℕ). soFar (outcome later s (length U₀))) (through-stays higher ok larger [] ps l)
-    ∙ ap soFar (outcome-stays higher ok larger (through limit (length T₀) [] ps) l)
-    ∙ sym (after-each limit fine R₀ T₀ h ps x)
+module _ {limit later : ℕ} (higher : limit ≤ later) (ok : allowed later ≡ true) (R₀ T₀ Q₀ U₀ : List ℕ) (long : 65536 ≤ length R₀) (long′ : 65536 ≤ length Q₀) (larger : length T₀ ≤ length U₀) where
+  -- AFTER EACH PIECE: what is told comes with the same piece
+  pub piece-stays :
+      (p : List ℕ) (ps : List (List ℕ)) {a b : State} {R T Q U : List ℕ} → Runs limit (p ∷ ps) begun R₀ T₀ a R T → Runs later (p ∷ ps) begun Q₀ U₀ b Q U
+      → Lasts (numberTold (told a)) → Stays (told a) (told b) (rowsTold (told a)) T U
+  piece-stays p ps {a} x y l =
+      let fine : allowed limit ≡ true = allowed-else limit (λ h. l .not-limit (ap numberTold (runs-limit h x))) in
+      let i : told a ≡ soFar (decided limit (length T₀) (p ∷ ps)) = after-each limit fine R₀ T₀ long (p ∷ ps) x in
+      let z = lasting-so-far (decided limit (length T₀) (p ∷ ps)) (rw (ap numberTold i) at l) in
+      let k : decided later (length U₀) (p ∷ ps) ≡ decided limit (length T₀) (p ∷ ps) =
+      ap (λ (s : List ℕ). outcome later s (length U₀)) (through-stays higher ok larger [] (p ∷ ps) z)
+      ∙ outcome-stays higher ok larger (through limit (length T₀) [] (p ∷ ps)) z in
+      stays larger (decided limit (length T₀) (p ∷ ps)) (fits-outcome limit (through limit (length T₀) [] (p ∷ ps)) (length T₀))
+      (table-settled limit fine R₀ T₀ long p ps x) (table-settled later ok Q₀ U₀ long′ p ps y ∙ ap (tableOf (length U₀)) k)
+      (after-each later ok Q₀ U₀ long′ (p ∷ ps) y ∙ ap soFar k ∙ sym i) (ap rowsTold i ∙ so-far-rows (decided limit (length T₀) (p ∷ ps)))
+
+  -- AT THE END: of one message of up to 65,536 bytes, however it is cut
+  pub end-stays :
+      (ps qs : List (List ℕ)) → joined ps ≡ joined qs → length (joined ps) ≤ 65536 → {a b a′ b′ : State} {R T T′ Q U U′ : List ℕ}
+      → Runs limit ps begun R₀ T₀ a R T → Closed limit a (length R) T T′ a′ → Runs later qs begun Q₀ U₀ b Q U → Closed later b (length Q) U U′ b′
+      → Lasts (numberTold (told a′)) → Stays (told a′) (told b′) (rowsTold (told a′)) T′ U′
+  end-stays ps qs e few {a} {b} x c y d l =
+      let fine : allowed limit ≡ true = allowed-else limit (λ h. l .not-limit (ap numberTold (no-limit-end limit a c h .0))) in
+      let i = as-whole limit fine R₀ T₀ long ps x few c in
+      let j = as-whole later ok Q₀ U₀ long′ qs y (rw e at few) d in
+      let z = lasting-told (reading limit (joined ps) (length T₀)) (rw (ap numberTold (i .says)) at l) in
+      let k : reading later (joined qs) (length U₀) ≡ reading limit (joined ps) (length T₀) =
+      ap (λ (t : List ℕ). reading later t (length U₀)) (sym e) ∙ reading-stays (joined ps) higher ok larger z in
+      stays larger (reading limit (joined ps) (length T₀)) (fits limit (joined ps) (length T₀) (reading limit (joined ps) (length T₀)) refl) (i .table)
+      (j .table ∙ ap (tableOf (length U₀)) k) (j .says ∙ ap toldOf k ∙ sym (i .says)) (ap rowsTold (i .says) ∙ told-rows (reading limit (joined ps) (length T₀)))
+
+  -- AT STATIONS, with any calls of the other station in between: T₀ and U₀ are the shares' words before the first piece
+  module _ (here there : Station) where
+    pub station-piece-stays :
+        (p : List ℕ) (ps : List (List ℕ)) {a b : State} {R W Q X : List ℕ} → Turns limit here (p ∷ ps) begun R₀ T₀ a R W → Turns later there (p ∷ ps) begun Q₀ U₀ b Q X
+        → Lasts (numberTold (told a)) → Stays (told a) (told b) (rowsTold (told a)) W X
+    station-piece-stays p ps x y = piece-stays p ps (turns-run x) (turns-run y)
+
+    pub station-end-stays :
+        (split split′ : ℕ) (T U : List ℕ) (ps qs : List (List ℕ)) → joined ps ≡ joined qs → length (joined ps) ≤ 65536 → {a b a′ b′ : State} {R Q T′ U′ : List ℕ}
+        → Turns limit here ps begun R₀ T₀ a R (shareOf here split T) → EndFor limit a (length R) here split T T′ (Stands a′)
+        → Turns later there qs begun Q₀ U₀ b Q (shareOf there split′ U) → EndFor later b (length Q) there split′ U U′ (Stands b′)
+        → Lasts (numberTold (told a′)) → Stays (told a′) (told b′) (rowsTold (told a′)) (shareOf here split T′) (shareOf there split′ U′)
+    station-end-stays split split′ T U ps qs e few x c y d = end-stays ps qs e few (turns-run x) (its-end here split T c) (turns-run y) (its-end there split′ U d)

@@ -25,7 +25,7 @@ use Rattle.lookup_answer.specs.Answers as lookups
 use Rattle.placing.specs.Placing.{position}
 use Rattle.pieces.specs.declared.State.{State}
 use Rattle.pieces.specs.Pieces.{joined, outcome, through, roomWith, soFar}
-use Rattle.pieces.specs.Steps.{told}
+use Rattle.pieces.specs.Steps.{told, Closed}
 use Rattle.pieces.specs.Runs.{begun}
 use Rattle.cuts.proofs.Running.{Ends}
 use Rattle.station_reading.specs.declared.Answer.{Answer}
@@ -43,8 +43,10 @@ use Rattle.station_tables.specs.declared.WriteAnswer.{WriteAnswer}
 use Rattle.station_tables.specs.declared.WriteAnswer.the-variants as write
 use Rattle.station_tables.specs.declared.LookupAnswer.the-variants as lookup
 use Rattle.station_tables.specs.declared.PositionAnswer.the-variants as place
-use Rattle.station_tables.specs.Answers.{writeAnswer, writtenBytes, WroteFor, lookupAnswer, positionAnswer}
-use Rattle.stations.specs.Calls.{Asked, Told, Called, notSplit}
+use Rattle.station_tables.specs.Answers.{writeAnswer, writtenBytes, WroteFor, lookupAnswer, positionAnswer, writeReportOf, lookupReportOf, positionNumber}
+use Rattle.write_answer.specs.Answers as writer
+use Rattle.plan_writer.specs.Answers as planner
+use Rattle.stations.specs.Calls.{Asked, Told, Called, ends, notSplit}
 use Rattle.stations.specs.Owned.{OwnRead, OwnCard, OwnPiece, OwnEnd, OwnWrite, OwnPlanned}
 use Rattle.stations.specs.Turns.{Turns}
 use Rattle.stations.proofs.Calling as calls
@@ -53,6 +55,9 @@ use Rattle.stations.proofs.Owning as owning
 use Rattle.demands_jobs.proofs.Jobs as jobs
 use Rattle.demands_reading.proofs.Settled as whole-table
 use Rattle.demands_pieces.proofs.Pieces as pieces
+use Rattle.demands_stations.specs.Numbers.{callNumber}
+use Rattle.demands_stations.proofs.Numbers.{exactly, called-exactly, has-share, told-not, write-not, plan-not, lookup-not, position-not}
+use Rattle.demands_stations.proofs.Alike.{runs-same}
 
 -- A ROW SPLITS a table exactly if it is not 0 and is below the number of whole rows, however many those are.
 pub splits-exactly : (split words : ℕ) → (splits split words ≡ true) ↔ ((0 < split) × (split < words / 4))
@@ -70,36 +75,51 @@ shares-lie split words ok = let h = splits-exactly split words .0 ok in (refl, o
 
 module _ {station : Station} {split : ℕ} {T T′ : List ℕ} {q : Asked} {a : Told} (c : Called station split T T′ q a) where
   -- 22 is told exactly if the row does not split the table.
-  pub told-exactly : (a ≡ notSplit q) ↔ (splits split (length T) ≡ false)
-  told-exactly = calls.told-exactly c
+  pub told-exactly : (callNumber a ≡ 22) ↔ (splits split (length T) ≡ false)
+  told-exactly = called-exactly c
 
   -- Then nothing is changed: no word of the table; nor is the room, which `notSplit` has as it was.
-  pub nothing-changed : a ≡ notSplit q → T′ ≡ T
-  nothing-changed e = calls.leaves c ∙ sharing.unsplit-words station split T (calls.after q) (told-exactly .0 e)
+  pub nothing-changed : callNumber a ≡ 22 → (T′ ≡ T) × (a ≡ notSplit q)
+  nothing-changed e =
+      let h = told-exactly .0 e in
+      (calls.leaves c ∙ sharing.unsplit-words station split T (calls.after q) h, calls.told-exactly c .1 h)
 
-module _ (station : Station) (split : ℕ) (T : List ℕ) (no-split : splits split (length T) ≡ false) where
-  pub write-unsplit :
-      (limit rows : ℕ) (s out : List ℕ) {out′ : List ℕ} {a : WriteAnswer} → WroteFor limit T station split rows s out out′ a → (a ≡ write.NotSplit) × (out′ ≡ out)
-  write-unsplit limit rows s out d = (
-    d .says ∙ sharing.unsplit-told station split T (writeAnswer limit rows s (length out)) write.NotSplit no-split,
-    d .leaves ∙ sharing.unsplit-told station split T (writtenBytes limit rows s (length out)) out no-split,
-  )
+-- and by the calls that only look at the table: written, by a plan too, the output stays as it was
+module _ (station : Station) (split : ℕ) (T : List ℕ) (rows : ℕ) (s : List ℕ) where
+  module _ (limit : ℕ) (out : List ℕ) {out′ : List ℕ} where
+    pub write-exactly :
+        {a : WriteAnswer} → WroteFor limit T station split rows s out out′ a
+        → ((writeReportOf a .number ≡ 22) ↔ (splits split (length T) ≡ false)) × (splits split (length T) ≡ false → out′ ≡ out)
+    unfolding writeAnswer
+    write-exactly d = (
+      exactly (λ a. writeReportOf a .number) station split T (writeAnswer limit rows s (length out)) write.NotSplit refl
+          (λ W e. write-not (writer.answerOf limit W rows s (length out)) e) (d .says),
+      λ h. d .leaves ∙ sharing.unsplit-told station split T (writtenBytes limit rows s (length out)) out h,
+    )
 
-  pub planned-unsplit :
-      (limit rows : ℕ) (s p out : List ℕ) {out′ : List ℕ} {a : PlanAnswer} → planned.WroteFor limit T station split rows s p out out′ a
-      → (a ≡ plan.NotSplit) × (out′ ≡ out)
-  planned-unsplit limit rows s p out d = (
-    d .says ∙ sharing.unsplit-told station split T (planned.writeAnswer limit rows s p (length out)) plan.NotSplit no-split,
-    d .leaves ∙ sharing.unsplit-told station split T (planned.writtenBytes limit rows s p (length out)) out no-split,
-  )
+    pub planned-exactly :
+        (p : List ℕ) {a : PlanAnswer} → planned.WroteFor limit T station split rows s p out out′ a
+        → ((planned.reportOf a .number ≡ 22) ↔ (splits split (length T) ≡ false)) × (splits split (length T) ≡ false → out′ ≡ out)
+    unfolding planned.writeAnswer
+    planned-exactly p d = (
+      exactly (λ a. planned.reportOf a .number) station split T (planned.writeAnswer limit rows s p (length out)) plan.NotSplit refl
+          (λ W e. plan-not (planner.answerOf limit W rows s p (length out)) e) (d .says),
+      λ h. d .leaves ∙ sharing.unsplit-told station split T (planned.writtenBytes limit rows s p (length out)) out h,
+    )
 
-  pub lookup-unsplit :
-      (rows : ℕ) (s : List ℕ) (r : ℕ) (key : List ℕ) → onShare station split T (lookupAnswer rows s r key) lookup.NotSplit ≡ lookup.NotSplit
-  lookup-unsplit rows s r key = sharing.unsplit-told station split T (lookupAnswer rows s r key) lookup.NotSplit no-split
+  module _ (r : ℕ) where
+    pub lookup-exactly :
+        (key : List ℕ) → (lookupReportOf (onShare station split T (lookupAnswer rows s r key) lookup.NotSplit) .number ≡ 22) ↔ (splits split (length T) ≡ false)
+    unfolding lookupAnswer
+    lookup-exactly key =
+        exactly (λ a. lookupReportOf a .number) station split T (lookupAnswer rows s r key) lookup.NotSplit refl
+        (λ W e. lookup-not (lookups.lookup W rows s r key) e) refl
 
-  pub position-unsplit :
-      (rows : ℕ) (s : List ℕ) (r : ℕ) → onShare station split T (positionAnswer rows s r) place.NotSplit ≡ place.NotSplit
-  position-unsplit rows s r = sharing.unsplit-told station split T (positionAnswer rows s r) place.NotSplit no-split
+    pub position-exactly :
+        (positionNumber (onShare station split T (positionAnswer rows s r) place.NotSplit) ≡ 22) ↔ (splits split (length T) ≡ false)
+    unfolding positionAnswer
+    position-exactly =
+        exactly positionNumber station split T (positionAnswer rows s r) place.NotSplit refl (λ W e. position-not (position W rows s r .outcome) e) refl
 
 -- ---- the share
 
@@ -198,6 +218,45 @@ module _
       let f : x .own ≡ y .own = x .did .says ∙ sym (y .did .says) in
       (x .is ∙ (rw f (sym (y .is))), x .did .leaves ∙ sym (y .did .leaves))
 
+-- and what a call answers that only looks at the share, by its words
+pub given-alike :
+    {A : Type 0} (station other-station : Station) (split other-split : ℕ) (T U : List ℕ) → splits split (length T) ≡ true → splits other-split (length U) ≡ true
+    → shareOf station split T ≡ shareOf other-station other-split U → (given : List ℕ → A) (unsplit unsplit′ : A)
+    → onShare station split T given unsplit ≡ onShare other-station other-split U given unsplit′
+given-alike station other-station split other-split T U ok ok′ e given unsplit unsplit′ =
+    sharing.given-there station split T ok given unsplit
+    ∙ ap given e
+    ∙ sym (sharing.given-there other-station other-split U ok′ given unsplit′)
+
+module _
+    (station other-station : Station) (split other-split : ℕ) (T U : List ℕ) (ok : splits split (length T) ≡ true)
+    (ok′ : splits other-split (length U) ≡ true) (same : shareOf station split T ≡ shareOf other-station other-split U)
+    (limit rows : ℕ) (s out out₁ : List ℕ) (l : length out ≡ length out₁) {out′ out₁′ : List ℕ}
+  where
+    pub write-alike :
+        {a b : WriteAnswer} → WroteFor limit T station split rows s out out′ a → WroteFor limit U other-station other-split rows s out₁ out₁′ b
+        → (a ≡ b) × (out′ ≡ out₁′)
+    write-alike d e = (
+      d .says
+          ∙ given-alike station other-station split other-split T U ok ok′ same (writeAnswer limit rows s (length out)) write.NotSplit write.NotSplit
+          ∙ rw l (sym (e .says)),
+      d .leaves
+          ∙ given-alike station other-station split other-split T U ok ok′ same (writtenBytes limit rows s (length out)) out out₁
+          ∙ rw l (sym (e .leaves)),
+    )
+
+    pub planned-alike :
+        (p : List ℕ) {a b : PlanAnswer} → planned.WroteFor limit T station split rows s p out out′ a
+        → planned.WroteFor limit U other-station other-split rows s p out₁ out₁′ b → (a ≡ b) × (out′ ≡ out₁′)
+    planned-alike p d e = (
+      d .says
+          ∙ given-alike station other-station split other-split T U ok ok′ same (planned.writeAnswer limit rows s p (length out)) plan.NotSplit plan.NotSplit
+          ∙ rw l (sym (e .says)),
+      d .leaves
+          ∙ given-alike station other-station split other-split T U ok ok′ same (planned.writtenBytes limit rows s p (length out)) out out₁
+          ∙ rw l (sym (e .leaves)),
+    )
+
 -- ---- all other words
 
 module _ {station : Station} {split : ℕ} {T T′ : List ℕ} {q : Asked} {a : Told} (c : Called station split T T′ q a) where
@@ -223,45 +282,73 @@ in-turn split c d e f = calls.in-turn split c d e f
 
 -- ---- messages in pieces
 
+-- An end call that was answered with a state is `pieces::end` on the share.
+pub its-end :
+    {limit bytes : ℕ} {state last : State} (station : Station) (split : ℕ) (T : List ℕ) {T′ : List ℕ} → EndFor limit state bytes station split T T′ (Stands last)
+    → Closed limit state bytes (shareOf station split T) (shareOf station split T′) last
+its-end {limit} {bytes} {state} {last} station split T d =
+    let o = own-end station split T (has-share (ends d) (told-not last)) limit state bytes d in
+    let e : o .own ≡ last = sym (cc) in
+    rw e at (o .did)
+
 -- WHOLE. A station's message in pieces, with any calls of the other station in between: what is told and the share's words are those of the whole
 -- message.
 pub pieces-whole :
-    (limit : ℕ) (fine : allowed limit ≡ true) (station : Station) (split : ℕ) (T : List ℕ) → splits split (length T) ≡ true → (R₀ W₀ : List ℕ) → 65536 ≤ length R₀
+    (limit : ℕ) (fine : allowed limit ≡ true) (station : Station) (split : ℕ) (T R₀ W₀ : List ℕ) → 65536 ≤ length R₀
     → (ps : List (List ℕ)) {state last : State} {R T′ : List ℕ} → Turns limit station ps begun R₀ W₀ state R (shareOf station split T)
     → length (joined ps) ≤ 65536 → EndFor limit state (length R) station split T T′ (Stands last)
     → Ends (reading limit (joined ps) (length W₀)) (length W₀) last (shareOf station split T′)
-pieces-whole limit fine station split T ok R₀ W₀ long ps {state} {last} {R} ts few d =
-    let o = own-end station split T ok limit state (length R) d in
-    let e : o .own ≡ last = sym (cc) in
-    pieces.as-whole limit fine R₀ W₀ long ps (owning.turns-run ts) few (rw e at (o .did))
+pieces-whole limit fine station split T R₀ W₀ long ps ts few d = pieces.as-whole limit fine R₀ W₀ long ps (owning.turns-run ts) few (its-end station split T d)
 
 -- ALIKE. Two stations' messages in pieces, with one message however it is cut, one limit and shares of one size before the first piece: the same is told, and the
--- shares' words are the same, whatever the tables, the rows and the other station's calls in between.
+-- shares' words are the same, whatever the rooms, the tables, the rows and the other station's calls in between.
 pub pieces-alike :
-    (limit : ℕ) (fine : allowed limit ≡ true) (station other-station : Station) (split other-split : ℕ) (T U : List ℕ) → splits split (length T) ≡ true
-    → splits other-split (length U) ≡ true → (R₀ Q₀ W₀ V₀ : List ℕ) → 65536 ≤ length R₀ → 65536 ≤ length Q₀ → length W₀ ≡ length V₀
-    → (ps qs : List (List ℕ)) → joined ps ≡ joined qs → length (joined ps) ≤ 65536 → {a b a′ b′ : State} {R Q T′ U′ : List ℕ}
+    (limit : ℕ) (fine : allowed limit ≡ true) (station other-station : Station) (split other-split : ℕ) (T U R₀ Q₀ W₀ X₀ : List ℕ) → 65536 ≤ length R₀
+    → 65536 ≤ length Q₀ → length W₀ ≡ length X₀ → (ps qs : List (List ℕ)) → joined ps ≡ joined qs → length (joined ps) ≤ 65536 → {a b a′ b′ : State} {R Q T′ U′ : List ℕ}
     → Turns limit station ps begun R₀ W₀ a R (shareOf station split T) → EndFor limit a (length R) station split T T′ (Stands a′)
-    → Turns limit other-station qs begun Q₀ V₀ b Q (shareOf other-station other-split U)
+    → Turns limit other-station qs begun Q₀ X₀ b Q (shareOf other-station other-split U)
     → EndFor limit b (length Q) other-station other-split U U′ (Stands b′)
     → (told a′ ≡ told b′) × (shareOf station split T′ ≡ shareOf other-station other-split U′)
-pieces-alike limit fine station other-station split other-split T U ok ok′ R₀ Q₀ W₀ V₀ h k l ps qs e few x c y d =
-    let i = pieces-whole limit fine station split T ok R₀ W₀ h ps x few c in
-    let j = pieces-whole limit fine other-station other-split U ok′ Q₀ V₀ k qs y (rw e at few) d in
+pieces-alike limit fine station other-station split other-split T U R₀ Q₀ W₀ X₀ h k l ps qs e few x c y d =
+    let i = pieces-whole limit fine station split T R₀ W₀ h ps x few c in
+    let j = pieces-whole limit fine other-station other-split U Q₀ X₀ k qs y (rw e at few) d in
     (i .says ∙ rw (e, l) (sym (j .says)), i .table ∙ rw (e, l) (sym (j .table)))
 
--- after each piece, at a station
+-- AFTER EACH PIECE: what is told, the room, and the share's words are those of the bytes through the deciding piece.
 pub share-after-each :
-    (limit : ℕ) (fine : allowed limit ≡ true) (station : Station) (R₀ W₀ : List ℕ) → 65536 ≤ length R₀ → (ps : List (List ℕ)) {state : State} {R W : List ℕ}
-    → Turns limit station ps begun R₀ W₀ state R W
-    → (told state ≡ soFar (outcome limit (through limit (length W₀) [] ps) (length W₀))) × (R ≡ roomWith (through limit (length W₀) [] ps) R₀)
-share-after-each limit fine station R₀ W₀ long ps ts = (
-  pieces.after-each limit fine R₀ W₀ long ps (owning.turns-run ts),
-  pieces.room-holds limit fine R₀ W₀ long ps (owning.turns-run ts),
-)
-
-pub share-settled :
     (limit : ℕ) (fine : allowed limit ≡ true) (station : Station) (R₀ W₀ : List ℕ) → 65536 ≤ length R₀ → (p : List ℕ) (ps : List (List ℕ)) {state : State} {R W : List ℕ}
     → Turns limit station (p ∷ ps) begun R₀ W₀ state R W
-    → W ≡ tableOf (length W₀) (outcome limit (through limit (length W₀) [] (p ∷ ps)) (length W₀))
-share-settled limit fine station R₀ W₀ long p ps ts = pieces.table-settled limit fine R₀ W₀ long p ps (owning.turns-run ts)
+    → (told state ≡ soFar (outcome limit (through limit (length W₀) [] (p ∷ ps)) (length W₀)))
+    × (R ≡ roomWith (through limit (length W₀) [] (p ∷ ps)) R₀)
+    × (W ≡ tableOf (length W₀) (outcome limit (through limit (length W₀) [] (p ∷ ps)) (length W₀)))
+share-after-each limit fine station R₀ W₀ long p ps ts = (
+  pieces.after-each limit fine R₀ W₀ long (p ∷ ps) (owning.turns-run ts),
+  pieces.room-holds limit fine R₀ W₀ long (p ∷ ps) (owning.turns-run ts),
+  pieces.table-settled limit fine R₀ W₀ long p ps (owning.turns-run ts),
+)
+
+-- ALIKE AFTER EACH. The same pieces and the same room, at whatever stations and tables with equally large shares: the same state, room and words of the share
+-- after each piece, whatever the limit, the room's length and the other station's calls in between.
+pub turns-alike :
+    (limit : ℕ) (station other-station : Station) (R₀ W₀ X₀ : List ℕ) → length W₀ ≡ length X₀ → (p : List ℕ) (ps : List (List ℕ))
+    → {a b : State} {R Q W X : List ℕ} → Turns limit station (p ∷ ps) begun R₀ W₀ a R W → Turns limit other-station (p ∷ ps) begun R₀ X₀ b Q X
+    → (a ≡ b) × (R ≡ Q) × (W ≡ X)
+turns-alike limit station other-station R₀ W₀ X₀ l p ps x y =
+    let s = runs-same l (owning.turns-run x) (owning.turns-run y) in
+    (s .state, s .room, s .table)
+
+-- and after the end call
+pub end-alike :
+    (limit : ℕ) (station other-station : Station) (split other-split : ℕ) (T U : List ℕ) → splits split (length T) ≡ true → splits other-split (length U) ≡ true
+    → (R₀ W₀ X₀ : List ℕ) → length W₀ ≡ length X₀ → (p : List ℕ) (ps : List (List ℕ)) {a b : State} {R Q T′ U′ : List ℕ} {x y : PieceAnswer}
+    → Turns limit station (p ∷ ps) begun R₀ W₀ a R (shareOf station split T) → EndFor limit a (length R) station split T T′ x
+    → Turns limit other-station (p ∷ ps) begun R₀ X₀ b Q (shareOf other-station other-split U) → EndFor limit b (length Q) other-station other-split U U′ y
+    → (x ≡ y) × (shareOf station split T′ ≡ shareOf other-station other-split U′)
+end-alike limit station other-station split other-split T U ok ok′ R₀ W₀ X₀ l p ps {a} {b} {R} {Q} ts c us d =
+    let s = runs-same l (owning.turns-run ts) (owning.turns-run us) in
+    let i = own-end station split T ok limit a (length R) c in
+    let j = own-end other-station other-split U ok′ limit b (length Q) d in
+    let e : i .own ≡ j .own = i .did .says ∙ rw (s .state, s .room) (sym (j .did .says)) in (
+      i .is ∙ rw e (sym (j .is)),
+      i .did .table ∙ rw (s .state, s .room, s .table) (sym (j .did .table)),
+    )
