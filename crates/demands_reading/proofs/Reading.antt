@@ -18,7 +18,7 @@ use Rattle.lexical.specs.Grammar.{Double, DateTime}
 use Rattle.lexical.proofs.Doubles.{double-exactly, double-ascii}
 use Rattle.lexical.proofs.DateTimes.{datetime-exactly, datetime-ascii}
 use Rattle.draft.specs.declared.Refusal.{Refusal}
-use Rattle.draft.specs.declared.Refusal.the-variants.{Ended, WrongPrefix, UnexpectedByte, BadText, UnsetPosition, StandardName, TooDeep, NoRow, TooLong, NotWritable, FormTooLong, OutputTooShort, BadFault, BadValue, RepeatedKey, NoLimit}
+use Rattle.draft.specs.declared.Refusal.the-variants.{Ended, BadText, TooDeep, NoRow, BadFault, BadValue, RepeatedKey}
 use Rattle.draft.specs.declared.Verdict.the-variants.{Fine}
 use Rattle.draft.specs.declared.Content.the-variants as content
 use Rattle.draft.specs.declared.Row.{Row}
@@ -37,9 +37,8 @@ use Rattle.exact.proofs.Keys.{Fresh, no-key, new-key, fresh-distinct, all-fresh
 use Rattle.exact.proofs.Realising.{counts, same-meaning, one-meaning as one-list}
 use Rattle.exact.proofs.Deriving.{sound as derived-from}
 use Rattle.exact.proofs.Growing.{no-longer, longer, message-stays}
-use Rattle.demands_reading.specs.Refusing.{Underived, Deeper, Fuller}
 use Rattle.demands_reading.specs.Members.{TwoMembers, code-first, message-first, PairsWith, no-pair, and-pair, Distinct}
-use Rattle.exact.proofs.Concluding.{stays-but, of-reading, reads, begins, begins-once, underived, too-deep, too-many, within-is, within-got, WithinRefused, of-bytes, of-message, within-refused}
+use Rattle.exact.proofs.Concluding.{stays-but, reads, begins, begins-once, within-is, within-got}
 
 -- an answer accepts s, with that many bytes used and rows of this meaning
 pub record Accepts (answer : Reading) (s : List ℕ) (used : ℕ) (cells : List Cell) : Type 0 where
@@ -102,53 +101,6 @@ pub one-meaning :
     {s : List ℕ} {used used′ nesting nesting′ : ℕ} {cells cells′ : List Cell} → Begins s used nesting cells → Begins s used′ nesting′ cells′
     → (used ≡ used′) × (cells ≡ cells′)
 one-meaning {s} b c = begins-once s b c
-
--- what a refusal says of a message; 11, 12 and 13 are the writer's alone, and 23 speaks of the limit that a call states
-abbrev pub Meant : Refusal → ℕ → List ℕ → ℕ → ℕ → Type 0
-Meant Ended most s room deep = Underived s
-Meant WrongPrefix most s room deep = Underived s
-Meant UnexpectedByte most s room deep = Underived s
-Meant BadText most s room deep = Underived s
-Meant UnsetPosition most s room deep = Underived s
-Meant StandardName most s room deep = Underived s
-Meant TooDeep most s room deep = Deeper s deep
-Meant NoRow most s room deep = Fuller s room
-Meant TooLong most s room deep = most < length s
-Meant NotWritable most s room deep = ⊥
-Meant FormTooLong most s room deep = ⊥
-Meant OutputTooShort most s room deep = ⊥
-Meant BadFault most s room deep = Underived s
-Meant BadValue most s room deep = Underived s
-Meant RepeatedKey most s room deep = Underived s
-Meant NoLimit most s room deep = ⊥
-
--- REFUSALS SPEAK THE TRUTH. 1, 2, 3, 5, 6, 7, 14, 17 and 20 mean that no beginning of the message is derived at all, 8 that a
--- derivation, if there is one, nests deeper than the limit, 9 that it has more rows than there is room for, and 10 only that there are too many bytes.
-pub refusals-true :
-    (most : ℕ) (s : List ℕ) (room deep : ℕ) {m : Refusal} {at : ℕ} → messageWithin most s room deep ≡ refused m at → Meant m most s room deep
-refusals-true most s room deep {m} {at} e = go m (within-refused most s room deep e)
-  where
-    by : (m : Refusal) → message s room deep ≡ refused m at → Meant m most s room deep
-    by Ended e = λ used nesting cells b. underived s room deep e (omega arith) (omega arith) b
-    by WrongPrefix e = λ used nesting cells b. underived s room deep e (omega arith) (omega arith) b
-    by UnexpectedByte e = λ used nesting cells b. underived s room deep e (omega arith) (omega arith) b
-    by BadText e = λ used nesting cells b. underived s room deep e (omega arith) (omega arith) b
-    by UnsetPosition e = λ used nesting cells b. underived s room deep e (omega arith) (omega arith) b
-    by StandardName e = λ used nesting cells b. underived s room deep e (omega arith) (omega arith) b
-    by TooDeep e = λ used nesting cells b. too-deep s room deep e (omega arith) b
-    by NoRow e = λ used nesting cells b. too-many s room deep e (omega arith) b
-    by TooLong e = absurd (of-reading s room deep e)
-    by NotWritable e = of-reading s room deep e
-    by FormTooLong e = of-reading s room deep e
-    by OutputTooShort e = of-reading s room deep e
-    by BadFault e = λ used nesting cells b. underived s room deep e (omega arith) (omega arith) b
-    by BadValue e = λ used nesting cells b. underived s room deep e (omega arith) (omega arith) b
-    by RepeatedKey e = λ used nesting cells b. underived s room deep e (omega arith) (omega arith) b
-    by NoLimit e = of-reading s room deep e
-
-    go : (m : Refusal) → WithinRefused most s room deep m at → Meant m most s room deep
-    go m (of-message e) = by m e
-    go m (of-bytes h e) = rw e h
 
 -- PUT ASIDE. With 8, 9 and 10 put aside, that is for some rows and nesting and with no test of the number of bytes, reading accepts exactly the
 -- messages of which a beginning is derived; and with exactly the meaning and the bytes used that are derived.
