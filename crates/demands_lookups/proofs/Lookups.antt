@@ -52,7 +52,8 @@ use Rattle.meant.proofs.Parting.{double-parts}
 use Rattle.meant.specs.Meant.{membersOf, Said, StructAt, Answered}
 use Rattle.meant.proofs.Saying.{standing, struct-said, answered}
 use Rattle.meant.proofs.Only.{members-distinct, found-only}
-use Rattle.demands_reading.proofs.Reading.{sound, one-meaning, Distinct}
+use Rattle.demands_reading.proofs.Reading.{sound, one-meaning}
+use Rattle.demands_reading.specs.Members.{Distinct}
 use Rattle.demands_writing.proofs.Writing.{Words, Octets, form-derived, judged, read-rows, read-writable}
 
 -- UNWRITABLE first: an unwritable table is refused with 11, and one whose text bytes are too many is unwritable.

@@ -18,7 +18,7 @@ use Rattle.lexical.specs.Grammar.{Double, DateTime}
 use Rattle.lexical.proofs.Doubles.{double-exactly, double-ascii}
 use Rattle.lexical.proofs.DateTimes.{datetime-exactly, datetime-ascii}
 use Rattle.draft.specs.declared.Refusal.{Refusal}
-use Rattle.draft.specs.declared.Refusal.the-variants.{Ended, WrongPrefix, UnexpectedByte, BadText, UnsetPosition, StandardName, TooDeep, NoRow, TooLong, NotWritable, FormTooLong, OutputTooShort, BadFault, BadValue, RepeatedKey, NoLimit}
+use Rattle.draft.specs.declared.Refusal.the-variants.{Ended, BadText, TooDeep, NoRow, BadFault, BadValue, RepeatedKey}
 use Rattle.draft.specs.declared.Verdict.the-variants.{Fine}
 use Rattle.draft.specs.declared.Content.the-variants as content
 use Rattle.draft.specs.declared.Row.{Row}
@@ -37,7 +37,8 @@ use Rattle.exact.proofs.Keys.{Fresh, no-key, new-key, fresh-distinct, all-fresh
 use Rattle.exact.proofs.Realising.{counts, same-meaning, one-meaning as one-list}
 use Rattle.exact.proofs.Deriving.{sound as derived-from}
 use Rattle.exact.proofs.Growing.{no-longer, longer, message-stays}
-use Rattle.exact.proofs.Concluding.{stays-but, of-reading, reads, begins, begins-once, underived, beyond, within-is, within-got, WithinRefused, of-bytes, of-message, within-refused}
+use Rattle.demands_reading.specs.Members.{TwoMembers, code-first, message-first, PairsWith, no-pair, and-pair, Distinct}
+use Rattle.exact.proofs.Concluding.{stays-but, reads, begins, begins-once, within-is, within-got}
 
 -- an answer accepts s, with that many bytes used and rows of this meaning
 pub record Accepts (answer : Reading) (s : List ℕ) (used : ℕ) (cells : List Cell) : Type 0 where
@@ -100,61 +101,6 @@ pub one-meaning :
     {s : List ℕ} {used used′ nesting nesting′ : ℕ} {cells cells′ : List Cell} → Begins s used nesting cells → Begins s used′ nesting′ cells′
     → (used ≡ used′) × (cells ≡ cells′)
 one-meaning {s} b c = begins-once s b c
-
--- no beginning of s is derived at all
-abbrev pub Underived : List ℕ → Type 0
-Underived s = (used nesting : ℕ) (cells : List Cell) → Begins s used nesting cells → ⊥
-
--- a derivation of a beginning of s, if there is one, nests deeper or has more rows than allowed
-abbrev pub Beyond : List ℕ → ℕ → ℕ → Type 0
-Beyond s room deep = (used nesting : ℕ) (cells : List Cell) → Begins s used nesting cells → nesting ≤ deep → room < length cells
-
--- what a refusal says of a message; 11, 12 and 13 are the writer's alone, and 23 speaks of the limit that a call states
-abbrev pub Meant : Refusal → ℕ → List ℕ → ℕ → ℕ → Type 0
-Meant Ended most s room deep = Underived s
-Meant WrongPrefix most s room deep = Underived s
-Meant UnexpectedByte most s room deep = Underived s
-Meant BadText most s room deep = Underived s
-Meant UnsetPosition most s room deep = Underived s
-Meant StandardName most s room deep = Underived s
-Meant TooDeep most s room deep = Beyond s room deep
-Meant NoRow most s room deep = Beyond s room deep
-Meant TooLong most s room deep = most < length s
-Meant NotWritable most s room deep = ⊥
-Meant FormTooLong most s room deep = ⊥
-Meant OutputTooShort most s room deep = ⊥
-Meant BadFault most s room deep = Underived s
-Meant BadValue most s room deep = Underived s
-Meant RepeatedKey most s room deep = Underived s
-Meant NoLimit most s room deep = ⊥
-
--- REFUSALS SPEAK THE TRUTH. 1, 2, 3, 5, 6, 7, 14, 17 and 20 mean that no beginning of the message is derived at all, 8 and 9 that a derivation, if
--- there is one, is beyond the limits, and 10 only that there are too many bytes.
-pub refusals-true :
-    (most : ℕ) (s : List ℕ) (room deep : ℕ) {m : Refusal} {at : ℕ} → messageWithin most s room deep ≡ refused m at → Meant m most s room deep
-refusals-true most s room deep {m} {at} e = go m (within-refused most s room deep e)
-  where
-    by : (m : Refusal) → message s room deep ≡ refused m at → Meant m most s room deep
-    by Ended e = λ used nesting cells b. underived s room deep e (omega arith) (omega arith) b
-    by WrongPrefix e = λ used nesting cells b. underived s room deep e (omega arith) (omega arith) b
-    by UnexpectedByte e = λ used nesting cells b. underived s room deep e (omega arith) (omega arith) b
-    by BadText e = λ used nesting cells b. underived s room deep e (omega arith) (omega arith) b
-    by UnsetPosition e = λ used nesting cells b. underived s room deep e (omega arith) (omega arith) b
-    by StandardName e = λ used nesting cells b. underived s room deep e (omega arith) (omega arith) b
-    by TooDeep e = λ used nesting cells b h. beyond s room deep e b h
-    by NoRow e = λ used nesting cells b h. beyond s room deep e b h
-    by TooLong e = absurd (of-reading s room deep e)
-    by NotWritable e = of-reading s room deep e
-    by FormTooLong e = of-reading s room deep e
-    by OutputTooShort e = of-reading s room deep e
-    by BadFault e = λ used nesting cells b. underived s room deep e (omega arith) (omega arith) b
-    by BadValue e = λ used nesting cells b. underived s room deep e (omega arith) (omega arith) b
-    by RepeatedKey e = λ used nesting cells b. underived s room deep e (omega arith) (omega arith) b
-    by NoLimit e = of-reading s room deep e
-
-    go : (m : Refusal) → WithinRefused most s room deep m at → Meant m most s room deep
-    go m (of-message e) = by m e
-    go m (of-bytes h e) = rw e h
 
 -- PUT ASIDE. With 8, 9 and 10 put aside, that is for some rows and nesting and with no test of the number of bytes, reading accepts exactly the
 -- messages of which a beginning is derived; and with exactly the meaning and the bytes used that are derived.
@@ -233,20 +179,6 @@ text-is-datetime t = Iff·trans (then-fine (ascii t) (isDateTime t) (datetime-as
 
 -- KEYS. The pairs of a Struct are n pairs whose keys are distinct: any two, at different places in the order of the pairs, differ as bytes,
 -- whichever way each is sent. Nothing else is asked of them.
-pub data PairsWith (d : ℕ) : List (List ℕ) → List ℕ → List Cell → List Sent → Type 0 where
-  none : PairsWith d [] [] [] []
-  more :
-      {keys : List (List ℕ)} {t xs ys zs : List ℕ} {us vs ws : List Cell} {fs gs hs : List Sent}
-      → Pair d t xs us fs
-      → PairsWith d keys ys vs gs
-      → zs ≡ xs ++ ys
-      → ws ≡ us ++ vs
-      → hs ≡ fs ++ gs
-      → PairsWith d (t ∷ keys) zs ws hs
-
-abbrev pub Distinct : List (List ℕ) → Type 0
-Distinct keys = (i j : ℕ) → i < j → j < length keys → getD keys i [] ≢ getD keys j []
-
 pub distinct-keys :
     {d n : ℕ} {xs : List ℕ} {cs : List Cell} {fs : List Sent}
     → Pairs d [] n xs cs fs ↔ ((keys : List (List ℕ)) × (length keys ≡ n) × PairsWith d keys xs cs fs × Distinct keys)
@@ -258,14 +190,14 @@ distinct-keys = (
     taken :
         {d n : ℕ} {seen : List (List ℕ)} {xs : List ℕ} {cs : List Cell} {fs : List Sent} → Pairs d seen n xs cs fs
         → (keys : List (List ℕ)) × (length keys ≡ n) × PairsWith d keys xs cs fs × Fresh seen keys
-    taken no-pairs = ([], refl, none, no-key)
-    taken (more-pairs {t = t} p k ps e f g) = let h = taken ps in (t ∷ h .0, ap suc (h .1), more p (h .2) e f g, new-key k (h .3))
+    taken no-pairs = ([], refl, no-pair, no-key)
+    taken (more-pairs {t = t} p k ps e f g) = let h = taken ps in (t ∷ h .0, ap suc (h .1), and-pair p (h .2) e f g, new-key k (h .3))
 
     made :
         {d : ℕ} {seen keys : List (List ℕ)} {xs : List ℕ} {cs : List Cell} {fs : List Sent} → PairsWith d keys xs cs fs → Fresh seen keys
         → Pairs d seen (length keys) xs cs fs
-    made none no-key = no-pairs
-    made (more p ps e f g) (new-key k h) = more-pairs p k (made ps h) e f g
+    made no-pair no-key = no-pairs
+    made (and-pair p ps e f g) (new-key k h) = more-pairs p k (made ps h) e f g
 
 -- 20 IN ITS ORDER, of a pair behind those whose keys were seen, whatever reads its value: what the key itself gives comes first; then 20 at the
 -- key's place if it was seen; and else the value is read behind it.
@@ -285,10 +217,6 @@ module _ (s : List ℕ) (room : ℕ) (value : Reader) (seen : List (List ℕ)) (
 
 -- FAULTS. What the grammar asks of a fault's Struct: the items below it are a faultCode, an Integer, and a faultString, a String, in either order,
 -- and no more.
-pub data TwoMembers : List Held → Type 0 where
-  code-first : (t : List ℕ) → TwoMembers (string (bytes "faultCode") ∷ integer ∷ string (bytes "faultString") ∷ string t ∷ [])
-  message-first : (t : List ℕ) → TwoMembers (string (bytes "faultString") ∷ string t ∷ string (bytes "faultCode") ∷ integer ∷ [])
-
 pub two-members : (items : List Held) → (faultRule items ≡ Fine) ↔ TwoMembers items
 unfolding faultRule isFault isCode isMessage same
 two-members items = (λ h. fault-by TwoMembers code-first message-first items (fine-by (isFault items) BadFault h), back)

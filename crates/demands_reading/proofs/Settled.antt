@@ -11,6 +11,7 @@ use Rattle.draft.specs.declared.Row.{Row}
 use Rattle.draft.specs.Codebook.{Book}
 use Rattle.draft.specs.Table.{roomOf, place, putRows, rowsAt}
 use Rattle.draft.specs.Read.{Reading, got, refused}
+use Rattle.draft.specs.Written.{rowsOf}
 use Rattle.table.proofs.Rows.{length-putRows}
 use Rattle.table.proofs.Stored.{rows-there, words-other}
 use Rattle.read_answer.specs.declared.Answer.{Answer}
@@ -70,6 +71,11 @@ module _ (limit : ℕ) (s : List ℕ) (words : ℕ) {T : List ℕ} {n used : ℕ
       ap (rowsAt (roomOf 4096 words) T 0) (sym (accepted-read .count))
       ∙ ap (λ (l : List ℕ). rowsAt (roomOf 4096 words) l 0 (length (accepted-read .rows))) stored
       ∙ rows-there (roomOf 4096 words) (replicate words 0) 0 (accepted-read .rows) (omega (arith, fits)) (omega (arith, length-replicate {A = ℕ} words 0))
+
+  -- The same by the table's own length.
+  pub accepted-rows-of : rowsOf 4096 T n ≡ accepted-read .rows
+  unfolding rowsOf
+  accepted-rows-of = rw (whole limit s words d) accepted-rows
 
   -- SPARE. A word that is none of those rows' is 0: what no row uses, and what no row could.
   pub unused-zero : (i : ℕ) → ((r j : ℕ) → r < n → j < 4 → i ≡ place (roomOf 4096 words) r j → ⊥) → getD T i 0 ≡ 0

@@ -4,7 +4,7 @@
 use mathlib.Core.Path.{_≡_, refl, sym, ap, _∙_}
 use mathlib.Core.Bool.{Bool, true, false}
 use mathlib.Core.Logic.{_↔_}
-use mathlib.Core.List.{List, _++_}
+use mathlib.Core.List.{List, [], _∷_, _++_}
 use Prim.Native.Nat.{ℕ, _+_, _-_, _≤_, _<_}
 use native.Mathlib.Omega.{arith}
 use lib.Dec.{leb}
@@ -23,6 +23,7 @@ use Rattle.draft.specs.Written.{written, rowsOf}
 use Rattle.read_answer.specs.declared.Answer.the-variants.{Accepted}
 use Rattle.read_answer.specs.Answers.{reading, tableOf, Answers}
 use Rattle.text.proofs.Comparing.{clash}
+use Rattle.demands_reading.specs.Refusing.{oneOf}
 use Rattle.demands_reading.proofs.Settled.{accepted-read}
 use Rattle.demands_writing.proofs.Writing.{Octets, read-writable, read-short}
 use Rattle.write_answer.specs.declared.Answer.{Answer}
@@ -146,6 +147,25 @@ written-whole limit T rows s out₀ out {n} d =
     let l : length (written s (rowsOf 4096 T rows)) + length (replicate {A = ℕ} (length out₀ - n) 0) ≡ length out₀ =
     omega (arith, h .long, h .fits, length-replicate {A = ℕ} (length out₀ - n) 0) in
     (d .leaves, ap length (d .leaves) ∙ length-append (written s (rowsOf 4096 T rows)) (replicate (length out₀ - n) 0) ∙ l)
+
+-- WHOLE: an output keeps its length
+pub whole : (limit : ℕ) (T : List ℕ) (rows : ℕ) (s out₀ out : List ℕ) {a : Answer} → Did limit T rows s out₀ out a → length out ≡ length out₀
+whole limit T rows s out₀ out {a} d = go a d
+  where
+    go : (a : Answer) → Did limit T rows s out₀ out a → length out ≡ length out₀
+    go (Written n) d = written-whole limit T rows s out₀ out d .1
+    go (Refused m) d = ap length (d .leaves) ∙ length-replicate (length out₀) 0
+
+-- NUMBERS: the writer refuses with these and no other
+pub refused-number : (limit : ℕ) (T : List ℕ) (rows : ℕ) (s out₀ out : List ℕ) {m : Refusal} → Did limit T rows s out₀ out (Refused m) → oneOf (10 ∷ 11 ∷ 12 ∷ 13 ∷ 23 ∷ []) (numberOf m) ≡ true
+refused-number limit T rows s out₀ out {m} d = go (refused-exactly limit T rows s (length out₀) .0 (sym (d .says)))
+  where
+    go : {m : Refusal} → RefusedFor limit T rows s (length out₀) m → oneOf (10 ∷ 11 ∷ 12 ∷ 13 ∷ 23 ∷ []) (numberOf m) ≡ true
+    go (no-limit l) = refl
+    go (long-text l a) = refl
+    go (not-writable l a b) = refl
+    go (long-form l a b c) = refl
+    go (short-output l a b c e) = refl
 
 -- a refusal that is not 11, and not 12 either if at most 256 texts of so many rows repeat
 abbrev Spares : List ℕ → List Row → Refusal → Type 0

@@ -1,7 +1,7 @@
 -- Demands 2 and 3, said of the writer's own answer and output: if `writer::write` answers `Written n`, the first n bytes of the output are read
 -- back with the table's meaning, are settled by it, and no message with it is shorter; and the words of the stated rows are all that is looked
 -- at. `Did limit T rows s out₀ out a` is the promise of that function, as in Accepting. Assumes nothing.
-use mathlib.Core.Path.{_≡_, sym, ap, _∙_}
+use mathlib.Core.Path.{_≡_, refl, sym, ap, _∙_}
 use mathlib.Core.Bool.{true}
 use mathlib.Core.Logic.{_↔_}
 use mathlib.Core.List.{List, _++_}
@@ -13,7 +13,8 @@ use Rattle.draft.specs.declared.Row.{Row}
 use Rattle.draft.specs.Codebook.{Book}
 use Rattle.draft.specs.Table.{roomOf, place, rowAt}
 use Rattle.draft.specs.Read.{got, message}
-use Rattle.draft.specs.Meaning.{MeanSame}
+use Rattle.draft.specs.Grammar.{Cell, Begins}
+use Rattle.draft.specs.Meaning.{MeanSame, Realises}
 use Rattle.draft.specs.Strings.{repeated, textsOf}
 use Rattle.draft.specs.Limits.{allowed}
 use Rattle.draft.specs.Writable.{writableTo}
@@ -25,6 +26,8 @@ use Rattle.read_answer.specs.Answers as reader
 use Rattle.write_answer.specs.declared.Answer.{Answer}
 use Rattle.write_answer.specs.declared.Answer.the-variants.{Written}
 use Rattle.write_answer.specs.Answers.{formOf, answerOf, Did}
+use Rattle.exact.proofs.Realising.{same-meaning}
+use Rattle.exact.proofs.Concluding.{reads}
 use Rattle.written.specs.Derivable.{HoldAlike}
 use Rattle.written.proofs.Standing.{from-same}
 use Rattle.written.proofs.Tests.{agreeing}
@@ -52,6 +55,14 @@ module _ (limit : ℕ) (T : List ℕ) (rows : ℕ) (s out₀ out : List ℕ) {n 
       → message t room deep ≡ got others used book → MeanSame s t (rowsOf 4096 T rows) others
       → (n ≤ used) × (used ≤ length t)
   no-shorter few t room deep e z = let h = shortest limit T rows s was-writable few t room deep e z in (omega (arith, accepted .long, h .0), h .1)
+
+  -- The same of any beginning of a byte string that the grammar derives, with whatever Strings.
+  pub no-shorter-sent :
+      length (repeated (textsOf s (rowsOf 4096 T rows))) ≤ 256 → (t : List ℕ) {used nesting : ℕ} {cells : List Cell} → Begins t used nesting cells
+      → Realises s 0 (rowsOf 4096 T rows) cells → n ≤ used
+  no-shorter-sent few t {used} {nesting} {cells} b m =
+      let g = reads t (length cells) nesting b (omega arith) (omega arith) in
+      no-shorter few t (length cells) nesting (g .is) (same-meaning m (g .realises) .1 refl) .0
 
   -- READ BACK. Any message of at most 65,536 bytes that begins with those n bytes, whatever follows, is read by `reader::read` with any limit
   -- that is not lower, up to 32, into any table with room for the rows, with as many rows and n bytes used; and the rows that it leaves mean the same as the table that was written.

@@ -21,16 +21,16 @@ use Rattle.exact.proofs.Standing.{ends, part-here, bytes-at}
 use Rattle.exact.proofs.Realising.{one-meaning}
 use Rattle.exact.proofs.Completing.{Reads, complete}
 use Rattle.exact.proofs.Deriving.{refused-got, Derived}
-use Rattle.exact.proofs.Growing.{little-nesting, little-room, few-bytes, OfReading, Stays, accepts, refuses, changes, no-longer, message-stays}
+use Rattle.exact.proofs.Growing.{Raised, both, little-nesting, little-room, few-bytes, OfReading, Stays, accepts, refuses, changes, no-longer, message-grows, message-stays}
 
 -- what stays when there is more
-stays-got : {more : Bool} {s s′ : List ℕ} {o o′ : Reading} → Stays more true s s′ o o′ → {rows : List Row} {to : ℕ} {book : Book} → o ≡ got rows to book → o′ ≡ got rows to book
+stays-got : {more : Bool} {s s′ : List ℕ} {o o′ : Reading} → Stays more both s s′ o o′ → {rows : List Row} {to : ℕ} {book : Book} → o ≡ got rows to book → o′ ≡ got rows to book
 stays-got accepts e = e
 stays-got (refuses h) e = refused-got e
 stays-got (changes h) e = refused-got e
 
 pub stays-but :
-    {more : Bool} {s s′ : List ℕ} {o o′ : Reading} → Stays more true s s′ o o′ → (more ≡ true → (p : ℕ) → o ≢ refused Ended p) → ((p : ℕ) → o ≢ refused TooDeep p)
+    {more : Bool} {s s′ : List ℕ} {o o′ : Reading} → Stays more both s s′ o o′ → (more ≡ true → (p : ℕ) → o ≢ refused Ended p) → ((p : ℕ) → o ≢ refused TooDeep p)
     → ((p : ℕ) → o ≢ refused NoRow p) → o′ ≡ o
 stays-but accepts e f g = refl
 stays-but (refuses h) e f g = refl
@@ -38,12 +38,22 @@ stays-but (changes {at = p} (little-nesting i)) e f g = absurd (f p refl)
 stays-but (changes {at = p} (little-room i)) e f g = absurd (g p refl)
 stays-but (changes {at = p} (few-bytes h w)) e f g = absurd (e h p refl)
 
-says : {s s′ : List ℕ} {o o′ : Reading} → Stays false true s s′ o o′ → {m : Refusal} {p : ℕ} → o ≡ refused m p → OfReading m
+says : {s s′ : List ℕ} {o o′ : Reading} → Stays false both s s′ o o′ → {m : Refusal} {p : ℕ} → o ≡ refused m p → OfReading m
 says accepts e = refused-got (sym e)
 says (refuses {m = n} h) {m} e = let i : n ≡ m = cc in rw i at h
 says (changes (little-nesting h)) {m} e = let i : TooDeep ≡ m = cc in rw (← i) tt
 says (changes (little-room h)) {m} e = let i : NoRow ≡ m = cc in rw (← i) tt
 says (changes (few-bytes h w)) e = clash h refl
+
+-- a refusal stays with the limits raised that it does not speak of
+stays-refused :
+    {limits : Raised} {s s′ : List ℕ} {o o′ : Reading} → Stays false limits s s′ o o′ → {m : Refusal} {p : ℕ} → o ≡ refused m p
+    → (limits .nesting ≡ true → numberOf m ≢ 8) → (limits .room ≡ true → numberOf m ≢ 9) → o′ ≡ refused m p
+stays-refused accepts e f g = refused-got (sym e)
+stays-refused (refuses h) e f g = e
+stays-refused (changes (little-nesting h)) {m} e f g = let i : TooDeep ≡ m = cc in absurd (f h (ap numberOf (sym i)))
+stays-refused (changes (little-room h)) {m} e f g = let i : NoRow ≡ m = cc in absurd (g h (ap numberOf (sym i)))
+stays-refused (changes (few-bytes h w)) e f g = clash h refl
 
 module _ (s : List ℕ) where
   -- no test of the number of bytes, no 10
@@ -86,29 +96,48 @@ module _ (s : List ℕ) where
       let room = max (length cs) (length ds) in
       reads-once (reads room (max d d′) b (omega arith) (omega arith)) (reads room (max d d′) c (omega arith) (omega arith))
 
+  -- a refusal, with the limits raised that it does not speak of, still is one, so nothing is derived within these
+  within-raised :
+      (limits : Raised) (room room′ deep deep′ : ℕ) {m : Refusal} {p : ℕ} → message s room deep ≡ refused m p → room ≤ room′
+      → (limits .room ≡ false → room′ ≤ room) → deep ≤ deep′ → (limits .nesting ≡ false → deep′ ≤ deep) → (limits .nesting ≡ true → numberOf m ≢ 8)
+      → (limits .room ≡ true → numberOf m ≢ 9) → {used d : ℕ} {cs : List Cell} → Begins s used d cs → length cs ≤ room′ → d ≤ deep′ → ⊥
+  within-raised limits room room′ deep deep′ e i i′ k k′ f g b fits nests =
+      let t = message-grows limits s s room room′ (no-longer s) i i′ deep deep′ k k′ in
+      refused-got (sym (stays-refused t e f g) ∙ reads room′ deep′ b fits nests .is)
+
   -- a refusal other than 8 and 9
   pub underived :
       (room deep : ℕ) {m : Refusal} {p : ℕ} → message s room deep ≡ refused m p → numberOf m ≢ 8 → numberOf m ≢ 9 → {used d : ℕ} {cs : List Cell}
       → Begins s used d cs → ⊥
-  underived room deep {m} {p} e f g {used} {d} {cs} b =
-      let most = max room (length cs) in
-      let k = reads most (max deep d) b (omega arith) (omega arith) in
-      let t = message-stays s s room most (no-longer s) (omega arith) deep (max deep d) (omega arith) in
-      let i = stays-but t (λ h. clash h refl) (λ q j. f (same-number e j)) (λ q j. g (same-number e j)) in
-      refused-got (sym (i ∙ e) ∙ k .is)
-    where
-      same-number : {o : Reading} {n : Refusal} {q : ℕ} → o ≡ refused m p → o ≡ refused n q → numberOf m ≡ numberOf n
-      same-number {n = n} e j = let i : m ≡ n = cc in ap numberOf i
+  underived room deep e f g {used} {d} {cs} b =
+      within-raised both room (max room (length cs)) deep (max deep d) e (omega arith) (λ h. clash refl h) (omega arith) (λ h. clash refl h)
+      (λ h. f) (λ h. g) b (omega arith) (omega arith)
 
-  -- a refusal, where the nesting is within the limit
-  pub beyond :
-      (room deep : ℕ) {m : Refusal} {p : ℕ} → message s room deep ≡ refused m p → {used d : ℕ} {cs : List Cell} → Begins s used d cs → d ≤ deep
-      → room < length cs
-  beyond room deep {m} {p} e {used} {d} {cs} b k = go (leb (length cs) room) refl
+  -- 8, or any refusal but 9: with more room it stays, so what is derived nests deeper
+  pub too-deep :
+      (room deep : ℕ) {m : Refusal} {p : ℕ} → message s room deep ≡ refused m p → numberOf m ≢ 9 → {used d : ℕ} {cs : List Cell} → Begins s used d cs
+      → deep < d
+  too-deep room deep e g {used} {d} {cs} b = go (leb d deep) refl
     where
-      go : (b : Bool) → leb (length cs) room ≡ b → room < length cs
+      go : (x : Bool) → leb d deep ≡ x → deep < d
+      go false i = leb-false d deep i
+      go true i =
+          let h = leb-true d deep i in
+          absurd (within-raised (record { nesting = false; room = true }) room (max room (length cs)) deep deep e (omega arith) (λ h. clash refl h) (omega arith)
+          (λ h. omega arith) (λ h. clash h refl) (λ h. g) b (omega arith) h)
+
+  -- 9, or any refusal but 8: with more nesting it stays, so what is derived has more rows
+  pub too-many :
+      (room deep : ℕ) {m : Refusal} {p : ℕ} → message s room deep ≡ refused m p → numberOf m ≢ 8 → {used d : ℕ} {cs : List Cell} → Begins s used d cs
+      → room < length cs
+  too-many room deep e f {used} {d} {cs} b = go (leb (length cs) room) refl
+    where
+      go : (x : Bool) → leb (length cs) room ≡ x → room < length cs
       go false i = leb-false (length cs) room i
-      go true i = refused-got (sym e ∙ reads room deep b (leb-true (length cs) room i) k .is)
+      go true i =
+          let h = leb-true (length cs) room i in
+          absurd (within-raised (record { nesting = true; room = false }) room room deep (max deep d) e (omega arith) (λ h. omega arith) (omega arith)
+          (λ h. clash refl h) (λ h. f) (λ h. clash h refl) b h (omega arith))
 
 -- the test of the number of bytes
 module _ (most : ℕ) (s : List ℕ) (room deep : ℕ) where

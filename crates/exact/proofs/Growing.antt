@@ -44,10 +44,16 @@ use Rattle.exact.proofs.Realising.{held-below}
 use Rattle.exact.proofs.Completing.{value-is}
 use Rattle.exact.proofs.Deriving.{Production, Sound, OneString, one-string, Member, a-member, string-sound, only-sound, name-sound, key-sound, member-sound, alike-sound, value-sound, struct-sound}
 
--- what says that there is too little; bytes only if there may be more of them, and are as many as are wanted
-pub data TooLittle (more limits : Bool) (s s′ : List ℕ) : Refusal → ℕ → Type 0 where
-  little-nesting : {at : ℕ} → limits ≡ true → TooLittle more limits s s′ TooDeep at
-  little-room : {at : ℕ} → limits ≡ true → TooLittle more limits s s′ NoRow at
+-- which limits may be higher
+pub record Raised : Type 0 where
+  pub nesting : Bool
+  pub room : Bool
+
+-- what says that there is too little: nesting or room only if there may be more of it; bytes only if there may be more of them, and are as many as
+-- are wanted
+pub data TooLittle (more : Bool) (limits : Raised) (s s′ : List ℕ) : Refusal → ℕ → Type 0 where
+  little-nesting : {at : ℕ} → limits .nesting ≡ true → TooLittle more limits s s′ TooDeep at
+  little-room : {at : ℕ} → limits .room ≡ true → TooLittle more limits s s′ NoRow at
   few-bytes : {at : ℕ} → more ≡ true → wantOf s at ≤ length s′ → TooLittle more limits s s′ Ended at
 
 -- what reading a message says, without the test of the number of bytes
@@ -70,7 +76,7 @@ OfReading RepeatedKey = Unit {0}
 OfReading NoLimit = ⊥
 
 -- an answer, and the answer when there is more: acceptance stays, and so does a refusal that does not say that there is too little
-pub data Stays (more limits : Bool) (s s′ : List ℕ) : Reading → Reading → Type 0 where
+pub data Stays (more : Bool) (limits : Raised) (s s′ : List ℕ) : Reading → Reading → Type 0 where
   accepts : {rows : List Row} {to : ℕ} {book : Book} → Stays more limits s s′ (got rows to book) (got rows to book)
   refuses : {m : Refusal} {at : ℕ} → OfReading m → Stays more limits s s′ (refused m at) (refused m at)
   changes : {m : Refusal} {at : ℕ} {o : Reading} → TooLittle more limits s s′ m at → Stays more limits s s′ (refused m at) o
@@ -107,14 +113,14 @@ module _ {more : Bool} {s s′ : List ℕ} (l : Longer more s s′) where
   same-all : more ≡ false → s′ ≡ s
   same-all e = l .is ∙ rw (l .none e) (append-nil s)
 
-  cut : (limits : Bool) (n at : ℕ) → wantOf s at ≤ n → length s < n → n ≤ length s′ → TooLittle more limits s s′ Ended at
+  cut : (limits : Raised) (n at : ℕ) → wantOf s at ≤ n → length s < n → n ≤ length s′ → TooLittle more limits s s′ Ended at
   cut limits n at w h k = go more refl
     where
       go : (m : Bool) → more ≡ m → TooLittle more limits s s′ Ended at
       go true e = few-bytes {at = at} e (omega arith)
       go false e = absurd (omega (arith, ap length (same-all e)))
 
-module _ {more limits : Bool} {s s′ : List ℕ} where
+module _ {more : Bool} {limits : Raised} {s s′ : List ℕ} where
   then-stays :
       {o o′ : Reading} {k k′ : List Row → ℕ → Book → Reading} → Stays more limits s s′ o o′
       → ((rows : List Row) (at : ℕ) (book : Book) → o ≡ got rows at book → Stays more limits s s′ (k rows at book) (k′ rows at book))
@@ -183,7 +189,7 @@ unfolding faultRule
 fault-of items e = fine-of (isFault items) BadFault tt e
 
 judged-stays :
-    {more limits : Bool} {s s′ : List ℕ} (v : Verdict) (at : ℕ) (rows : List Row) (to : ℕ) (book : Book) → ((m : Refusal) → v ≡ Bad m → OfReading m)
+    {more : Bool} {limits : Raised} {s s′ : List ℕ} (v : Verdict) (at : ℕ) (rows : List Row) (to : ℕ) (book : Book) → ((m : Refusal) → v ≡ Bad m → OfReading m)
     → Stays more limits s s′ (judged v at (got rows to book)) (judged v at (got rows to book))
 judged-stays Fine at rows to book h = accepts
 judged-stays (Bad m) at rows to book h = refuses (h m refl)
@@ -242,19 +248,19 @@ unfolding tagOf
 tag-struct = refl
 
 -- a message's bytes and room, and those when there is more
-module _ {more : Bool} (limits : Bool) (s s′ : List ℕ) (room room′ : ℕ) (l : Longer more s s′) (k : room ≤ room′) (k′ : limits ≡ false → room′ ≤ room) where
+module _ {more : Bool} (limits : Raised) (s s′ : List ℕ) (room room′ : ℕ) (l : Longer more s s′) (k : room ≤ room′) (k′ : limits .room ≡ false → room′ ≤ room) where
   -- what makes a difference in the limits
-  roomier : (r : ℕ) → room ≤ r → r < room′ → limits ≡ true
-  roomier r h j = by limits refl
+  roomier : (r : ℕ) → room ≤ r → r < room′ → limits .room ≡ true
+  roomier r h j = by (limits .room) refl
     where
-      by : (b : Bool) → limits ≡ b → limits ≡ true
+      by : (b : Bool) → limits .room ≡ b → limits .room ≡ true
       by true e = e
       by false e = let i = k′ e in absurd (omega arith)
 
-  deeper : (d : ℕ) → (limits ≡ false → suc d ≤ 0) → limits ≡ true
-  deeper d h = by limits refl
+  deeper : (d : ℕ) → (limits .nesting ≡ false → suc d ≤ 0) → limits .nesting ≡ true
+  deeper d h = by (limits .nesting) refl
     where
-      by : (b : Bool) → limits ≡ b → limits ≡ true
+      by : (b : Bool) → limits .nesting ≡ b → limits .nesting ≡ true
       by true e = e
       by false e = let i = h e in absurd (omega arith)
 
@@ -487,12 +493,12 @@ module _ {more : Bool} (limits : Bool) (s s′ : List ℕ) (room room′ : ℕ) 
       }
 
   -- Arrays and Structs, at the floor and under what grows
-  array-floor : (d′ : ℕ) → (limits ≡ false → d′ ≤ 0) → GrowsAt tag.Array (arrayItem s room floor) (arrayItem s′ room′ (nested s′ room′ d′))
+  array-floor : (d′ : ℕ) → (limits .nesting ≡ false → d′ ≤ 0) → GrowsAt tag.Array (arrayItem s room floor) (arrayItem s′ room′ (nested s′ room′ d′))
   unfolding nested
   array-floor zero i = record { stays = λ at r book R a g. refuses {m = TooDeep} tt }
   array-floor (suc d′) i = record { stays = λ at r book R a g. changes (little-nesting (deeper d′ i)) }
 
-  struct-floor : (d′ : ℕ) → (limits ≡ false → d′ ≤ 0) → GrowsAt tag.Struct (structItem s room floor) (structItem s′ room′ (nested s′ room′ d′))
+  struct-floor : (d′ : ℕ) → (limits .nesting ≡ false → d′ ≤ 0) → GrowsAt tag.Struct (structItem s room floor) (structItem s′ room′ (nested s′ room′ d′))
   unfolding nested
   struct-floor zero i = record { stays = λ at r book R a g. refuses {m = TooDeep} tt }
   struct-floor (suc d′) i = record { stays = λ at r book R a g. changes (little-nesting (deeper d′ i)) }
@@ -517,7 +523,7 @@ module _ {more : Bool} (limits : Bool) (s s′ : List ℕ) (room room′ : ℕ) 
         counted-grows (Member d) (member-sound s room d (value-sound s room d)) member-grows
         (λ seen r rows used cells sents y m. keeps-same rows y m) 10 tag.Struct refl
 
-  value-grows : (d d′ : ℕ) → d ≤ d′ → (limits ≡ false → d′ ≤ d) → Grows (value s room d) (value s′ room′ d′)
+  value-grows : (d d′ : ℕ) → d ≤ d′ → (limits .nesting ≡ false → d′ ≤ d) → Grows (value s room d) (value s′ room′ d′)
   unfolding nested
   value-grows zero d′ h eq = by-tag zero d′ (array-floor d′ eq) (struct-floor d′ eq)
   value-grows (suc d) zero h eq = absurd (omega arith)
@@ -525,19 +531,19 @@ module _ {more : Bool} (limits : Bool) (s s′ : List ℕ) (room room′ : ℕ) 
       by-tag (suc d) (suc d′) (array-under d d′ (value-grows d d′ (omega arith) (λ e. let i = eq e in omega arith)))
       (struct-under d d′ (value-grows d d′ (omega arith) (λ e. let i = eq e in omega arith)))
 
-  array-grows : (d d′ : ℕ) → d ≤ d′ → (limits ≡ false → d′ ≤ d) → GrowsAt tag.Array (arrayItem s room (nested s room d)) (arrayItem s′ room′ (nested s′ room′ d′))
+  array-grows : (d d′ : ℕ) → d ≤ d′ → (limits .nesting ≡ false → d′ ≤ d) → GrowsAt tag.Array (arrayItem s room (nested s room d)) (arrayItem s′ room′ (nested s′ room′ d′))
   unfolding nested
   array-grows zero d′ h eq = array-floor d′ eq
   array-grows (suc d) zero h eq = absurd (omega arith)
   array-grows (suc d) (suc d′) h eq = array-under d d′ (value-grows d d′ (omega arith) (λ e. let i = eq e in omega arith))
 
-  struct-grows : (d d′ : ℕ) → d ≤ d′ → (limits ≡ false → d′ ≤ d) → GrowsAt tag.Struct (structItem s room (nested s room d)) (structItem s′ room′ (nested s′ room′ d′))
+  struct-grows : (d d′ : ℕ) → d ≤ d′ → (limits .nesting ≡ false → d′ ≤ d) → GrowsAt tag.Struct (structItem s room (nested s room d)) (structItem s′ room′ (nested s′ room′ d′))
   unfolding nested
   struct-grows zero d′ h eq = struct-floor d′ eq
   struct-grows (suc d) zero h eq = absurd (omega arith)
   struct-grows (suc d) (suc d′) h eq = struct-under d d′ (value-grows d d′ (omega arith) (λ e. let i = eq e in omega arith))
 
-  call-grows : (d d′ : ℕ) → d ≤ d′ → (limits ≡ false → d′ ≤ d) → GrowsThere (callItem s room d) (callItem s′ room′ d′)
+  call-grows : (d d′ : ℕ) → d ≤ d′ → (limits .nesting ≡ false → d′ ≤ d) → GrowsThere (callItem s room d) (callItem s′ room′ d′)
   call-grows d d′ h eq =
       record {
         stays = λ at r book R a j.
@@ -555,7 +561,7 @@ module _ {more : Bool} (limits : Bool) (s s′ : List ℕ) (room room′ : ℕ) 
   realises-more no-more = no-more
   realises-more (and-then (means i e p) m) = and-then (means i e (says-more p)) (realises-more m)
 
-  fault-grows : (d d′ : ℕ) → d ≤ d′ → (limits ≡ false → d′ ≤ d) → Grows (faultStruct s room d) (faultStruct s′ room′ d′)
+  fault-grows : (d d′ : ℕ) → d ≤ d′ → (limits .nesting ≡ false → d′ ≤ d) → Grows (faultStruct s room d) (faultStruct s′ room′ d′)
   unfolding faultStruct
   fault-grows d d′ h eq =
       record {
@@ -567,7 +573,7 @@ module _ {more : Bool} (limits : Bool) (s s′ : List ℕ) (room room′ : ℕ) 
             rw i (judged-stays (faultRule (heldRows s (below rows))) at rows to book′ (λ m. fault-of (heldRows s (below rows)))));
       }
 
-  response-grows : (d d′ : ℕ) → d ≤ d′ → (limits ≡ false → d′ ≤ d) → GrowsThere (responseItem s room d) (responseItem s′ room′ d′)
+  response-grows : (d d′ : ℕ) → d ≤ d′ → (limits .nesting ≡ false → d′ ≤ d) → GrowsThere (responseItem s room d) (responseItem s′ room′ d′)
   response-grows d d′ h eq =
       record {
         stays = λ at r book R a i₀.
@@ -579,7 +585,7 @@ module _ {more : Bool} (limits : Bool) (s s′ : List ℕ) (room room′ : ℕ) 
             (over-stays 2 1 r (value-grows d d′ h eq .stays (at + 1) (r + 1) book R a)))));
       }
 
-  whole-grows : (d d′ : ℕ) → d ≤ d′ → (limits ≡ false → d′ ≤ d) → Grows (callOrResponse s room d) (callOrResponse s′ room′ d′)
+  whole-grows : (d d′ : ℕ) → d ≤ d′ → (limits .nesting ≡ false → d′ ≤ d) → Grows (callOrResponse s room d) (callOrResponse s′ room′ d′)
   unfolding callOrResponse
   whole-grows d d′ h eq =
       record {
@@ -590,7 +596,7 @@ module _ {more : Bool} (limits : Bool) (s s′ : List ℕ) (room room′ : ℕ) 
             (pick-stays (eqb (byteAt s at) (code "R")) (response-grows d d′ h eq .stays at r book R a i) (refuses {m = UnexpectedByte} tt))));
       }
 
-  message-grows : (d d′ : ℕ) → d ≤ d′ → (limits ≡ false → d′ ≤ d) → Stays more limits s s′ (message s room d) (message s′ room′ d′)
+  pub message-grows : (d d′ : ℕ) → d ≤ d′ → (limits .nesting ≡ false → d′ ≤ d) → Stays more limits s s′ (message s room d) (message s′ room′ d′)
   unfolding message
   message-grows d d′ h eq = go (agree s prefix) refl (leb 12 (length s)) refl more refl
     where
@@ -612,22 +618,28 @@ module _ {more : Bool} (limits : Bool) (s s′ : List ℕ) (room room′ : ℕ) 
       go true e false f false g = rw (same-all l g, e, f) (refuses {m = Ended} tt)
 
 -- with more bytes, room or nesting
+abbrev pub both : Raised
+both = record { nesting = true; room = true }
+
 pub message-stays :
     {more : Bool} (s s′ : List ℕ) (room room′ : ℕ) → Longer more s s′ → room ≤ room′ → (d d′ : ℕ) → d ≤ d′
-    → Stays more true s s′ (message s room d) (message s′ room′ d′)
-message-stays s s′ room room′ l k d d′ h = message-grows true s s′ room room′ l k (λ e. clash refl e) d d′ h (λ e. clash refl e)
+    → Stays more both s s′ (message s room d) (message s′ room′ d′)
+message-stays s s′ room room′ l k d d′ h = message-grows both s s′ room room′ l k (λ e. clash refl e) d d′ h (λ e. clash refl e)
 
 -- with more bytes alone: every answer stays but 1, and 1 as long as there are fewer bytes than are wanted
-pub message-waits : (s ys : List ℕ) (room d : ℕ) → Stays true false s (s ++ ys) (message s room d) (message (s ++ ys) room d)
+abbrev pub neither : Raised
+neither = record { nesting = false; room = false }
+
+pub message-waits : (s ys : List ℕ) (room d : ℕ) → Stays true neither s (s ++ ys) (message s room d) (message (s ++ ys) room d)
 message-waits s ys room d =
-    message-grows false s (s ++ ys) room room (longer s ys) (omega arith) (λ e. omega arith) d d (omega arith) (λ e. omega arith)
+    message-grows neither s (s ++ ys) room room (longer s ys) (omega arith) (λ e. omega arith) d d (omega arith) (λ e. omega arith)
 
 pub waits :
     (s ys : List ℕ) (room d p : ℕ) → message s room d ≡ refused Ended p → length (s ++ ys) < wantOf s p
     → message (s ++ ys) room d ≡ refused Ended p
 waits s ys room d p e h = by (message-waits s ys room d) e
   where
-    by : {o o′ : Reading} → Stays true false s (s ++ ys) o o′ → o ≡ refused Ended p → o′ ≡ refused Ended p
+    by : {o o′ : Reading} → Stays true neither s (s ++ ys) o o′ → o ≡ refused Ended p → o′ ≡ refused Ended p
     by accepts f = f
     by (refuses g) f = f
     by (changes (little-nesting g)) f = clash g refl
@@ -638,7 +650,7 @@ pub decided :
     (s ys : List ℕ) (room d : ℕ) → ((p : ℕ) → message s room d ≡ refused Ended p → ⊥) → message (s ++ ys) room d ≡ message s room d
 decided s ys room d no-end = by (message-waits s ys room d) no-end
   where
-    by : {o o′ : Reading} → Stays true false s (s ++ ys) o o′ → ((p : ℕ) → o ≡ refused Ended p → ⊥) → o′ ≡ o
+    by : {o o′ : Reading} → Stays true neither s (s ++ ys) o o′ → ((p : ℕ) → o ≡ refused Ended p → ⊥) → o′ ≡ o
     by accepts f = refl
     by (refuses g) f = refl
     by (changes (little-nesting g)) f = clash g refl
