@@ -24,10 +24,10 @@ pub stepped : (n cards at : ℕ) (s : List ℕ) {cards′ size : ℕ} → Onward
 stepped n cards at s {cards′} {size} = go (looked n cards at s)
   where
     go : {look : Look} → Looked n cards at s look → Onward cards′ size ≡ look → Stepped n cards s cards′ size
-    go cut e = let z : _≡_ {A = ℕ} 0 1 = cc in absurd (omega arith)
+    go (cut h) e = let z : _≡_ {A = ℕ} 0 1 = cc in absurd (omega arith)
     go (asked w k m) e = let z : _≡_ {A = ℕ} 0 1 = cc in absurd (omega arith)
     go (ended w k m) e = let z : _≡_ {A = ℕ} 0 1 = cc in absurd (omega arith)
-    go wrong e = let z : _≡_ {A = ℕ} 0 1 = cc in absurd (omega arith)
+    go (wrong w k i) e = let z : _≡_ {A = ℕ} 0 1 = cc in absurd (omega arith)
     go (passed w k m) e =
         let p : cards′ ≡ cards + 1 = cc in
         let q : size ≡ bodyLength s = cc in

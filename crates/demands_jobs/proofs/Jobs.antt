@@ -1,108 +1,214 @@
--- Job files (request E2). `Reads s words (bodyOf s n) T a` is the promise of `job::read_card`, for a file s, the card's number n, a table of so
--- many words that is T after the call, and the answer a. The table before the call, and what was read before, are in no definition.
--- Assumes nothing.
+-- Laws of job files (request E2): what `job::read_card` answers and leaves, by the file's records. `Reads s words (bodyOf s n) T a` is its promise, for
+-- a file s, the card's number n, a table of so many words that is T after the call, and the answer a. Assumes nothing.
 use mathlib.Core.Path.{_≡_, refl, sym, ap, _∙_}
+use mathlib.Core.Bool.{Bool, true, false, _||_}
+use mathlib.Core.Logic.{_↔_}
 use mathlib.Core.List.{List, _++_}
 use Prim.Native.Nat.{ℕ, _+_, _≤_, _<_}
 use native.Mathlib.Omega.{arith}
+use lib.Dec.{eqb}
 use lib.ListN.{length, drop, replicate}
 use Rattle.draft.specs.declared.Refusal.{Refusal}
+use Rattle.draft.specs.declared.Refusal.the-variants as refusal
+use Rattle.draft.specs.Refusals.{numberOf}
 use Rattle.draft.specs.Bytes.{part}
 use Rattle.draft.specs.Read.{Reading, got, refused}
 use Rattle.read_answer.specs.declared.Answer.{Answer as ReaderAnswer}
 use Rattle.read_answer.specs.declared.Answer.the-variants as reader
 use Rattle.read_answer.specs.Answers.{reading, answerOf, tableOf, Answers}
+use Rattle.read_answer.specs.Answers as reads
 use Rattle.records.specs.declared.JobRefusal.{JobRefusal}
-use Rattle.records.specs.declared.JobRefusal.the-variants.{NoCard}
+use Rattle.records.specs.declared.JobRefusal.the-variants.{FileEnded, WrongEnd, NoCard}
 use Rattle.records.specs.declared.Found.{Found}
 use Rattle.records.specs.declared.Found.the-variants as found
+use Rattle.records.specs.Job.{refusalNumber, pickRefusal, recordLength, bodyOf}
+use Rattle.records.specs.Records.{Due, CardAt, EndAt, Counts}
+use Rattle.records.proofs.Standing.{lies, part-stands}
+use Rattle.records.proofs.Records.{card-exactly, cut-exactly, wrong-exactly, none-exactly, card-before, card-below, found-on, ended-on}
 use Rattle.job.specs.declared.Answer.{Answer}
 use Rattle.job.specs.declared.Answer.the-variants.{Accepted, Refused, Missing}
-use Rattle.records.specs.Job.{find, bodyOf}
-use Rattle.job.specs.Cards.{located, answerFor, tableFor, Reads}
-use Rattle.records.specs.Sound.{Sound}
-use Rattle.records.proofs.Standing.{lies, stands, part-stands, next-from-end}
-use Rattle.records.proofs.Counting.{IsBody, SoundAt, cards-below, none-beyond, no-card-sound}
+use Rattle.job.specs.Cards.{located, answerFor, tableFor, Reads, Report, reportOf}
+use Rattle.demands_jobs.specs.Jobs.{own, Reported}
+
+-- the numbers that a card's own refusal does not have: 0, and the job's
+abbrev notOwn : ℕ → Bool
+notOwn k = eqb k 0 || (eqb k 15 || (eqb k 16 || eqb k 26))
+
+own-number : (m : Refusal) → notOwn (numberOf m) ≡ false
+own-number refusal.Ended = refl
+own-number refusal.WrongPrefix = refl
+own-number refusal.UnexpectedByte = refl
+own-number refusal.BadText = refl
+own-number refusal.UnsetPosition = refl
+own-number refusal.StandardName = refl
+own-number refusal.TooDeep = refl
+own-number refusal.NoRow = refl
+own-number refusal.TooLong = refl
+own-number refusal.NotWritable = refl
+own-number refusal.FormTooLong = refl
+own-number refusal.OutputTooShort = refl
+own-number refusal.BadFault = refl
+own-number refusal.BadValue = refl
+own-number refusal.RepeatedKey = refl
+own-number refusal.NoLimit = refl
+
+not-own : (m : Refusal) (k : ℕ) → notOwn k ≡ true → numberOf m ≡ k → ⊥
+not-own m k t e = let z : true ≡ false = sym t ∙ ap notOwn (sym e) ∙ own-number m in let w : _≡_ {A = ℕ} 0 1 = cc in omega arith
+
+jobs-number : (m : JobRefusal) → notOwn (refusalNumber m) ≡ true
+jobs-number FileEnded = refl
+jobs-number WrongEnd = refl
+jobs-number NoCard = refl
+
+jobs-some : (m : JobRefusal) → 0 ≡ refusalNumber m → ⊥
+jobs-some FileEnded e = omega arith
+jobs-some WrongEnd e = omega arith
+jobs-some NoCard e = omega arith
+
+-- the job's refusal of a number
+abbrev refusalBy : ℕ → JobRefusal
+refusalBy k = pickRefusal (eqb k 15) FileEnded (pickRefusal (eqb k 16) WrongEnd NoCard)
+
+by-number : (m : JobRefusal) → refusalBy (refusalNumber m) ≡ m
+by-number FileEnded = refl
+by-number WrongEnd = refl
+by-number NoCard = refl
+
+-- the job's refusals are those that are reported with its numbers
+reported-missing : (m : JobRefusal) (place : ℕ) (a : Answer) → Reported a (refusalNumber m) place → a ≡ Missing m place
+reported-missing m place (Accepted rows used body) r = absurd (jobs-some m (r .0))
+reported-missing m place (Refused own p) r = absurd (not-own own (refusalNumber m) (jobs-number m) (r .0))
+reported-missing m place (Missing m′ p) r =
+    let e : m′ ≡ m = sym (by-number m′) ∙ ap refusalBy (r .0) ∙ by-number m in
+    rw (e, r .1)
+
+missing-found : (s : List ℕ) (words : ℕ) (m : JobRefusal) (place : ℕ) (f : Found) → answerFor s words f ≡ Missing m place → f ≡ found.Missing m place
+missing-found s words m place (found.Missing m′ p) e =
+    let i : m′ ≡ m = cc in
+    let j : p ≡ place = cc in
+    rw (i, j)
+missing-found s words m place (found.Body start size) e = go (answerOf (reading 32 (part s start size) words)) e
+  where
+    go : (b : ReaderAnswer) → located start b ≡ Missing m place → found.Body start size ≡ found.Missing m place
+    go (reader.Accepted rows used) e = let z : _≡_ {A = ℕ} 0 1 = cc in absurd (omega arith)
+    go (reader.Refused refusal p) e = let z : _≡_ {A = ℕ} 0 1 = cc in absurd (omega arith)
+
+missing-exactly :
+    (s : List ℕ) (words : ℕ) (m : JobRefusal) (place : ℕ) {f : Found} {T : List ℕ} {a : Answer} → Reads s words f T a
+    → Reported a (refusalNumber m) place ↔ (f ≡ found.Missing m place)
+missing-exactly s words m place {f} {a = a} d = (
+  λ r. missing-found s words m place f (sym (d .says) ∙ reported-missing m place a r),
+  λ e. let z : a ≡ Missing m place = d .says ∙ ap (answerFor s words) e in rw z (refl, refl),
+)
+
+-- 15, 16 AND 26, each with its place exactly where the file's records have it.
+module _ (s : List ℕ) (n words : ℕ) {T : List ℕ} {a : Answer} (d : Reads s words (bodyOf s n) T a) (place : ℕ) where
+  through : {P : Type 0} (m : JobRefusal) → (bodyOf s n ≡ found.Missing m place) ↔ P → Reported a (refusalNumber m) place ↔ P
+  through m h = let g = missing-exactly s words m place d in (λ r. h .0 (g .0 r), λ p. g .1 (h .1 p))
+
+  pub fifteen : Reported a 15 place ↔ ((cards : ℕ) × Due s cards place × (cards ≤ n) × (length (drop place s) < recordLength (drop place s)))
+  fifteen = through FileEnded (cut-exactly s n place)
+
+  pub sixteen : Reported a 16 place ↔ ((cards : ℕ) × EndAt s cards place × (cards ≤ n) × (Counts (drop place s) cards → ⊥))
+  sixteen = through WrongEnd (wrong-exactly s n place)
+
+  pub twenty-six : Reported a 26 place ↔ ((cards : ℕ) × EndAt s cards place × (cards ≤ n) × Counts (drop place s) cards)
+  twenty-six = through NoCard (none-exactly s n place)
 
 -- SETTLED. Two calls with one file, one number and equally large tables answer alike and leave the same words: a retried card reads as it did.
 pub settled : (s : List ℕ) (n words : ℕ) {T T′ : List ℕ} {a a′ : Answer} → Reads s words (bodyOf s n) T a → Reads s words (bodyOf s n) T′ a′ → (a ≡ a′) × (T ≡ T′)
 settled s n words d d′ = (d .says ∙ sym (d′ .says), d .leaves ∙ sym (d′ .leaves))
 
--- where the body of card n lies
-module _ (s : List ℕ) (n : ℕ) {start size : ℕ} (e : bodyOf s n ≡ found.Body start size) where
+-- COUNTED. Before a kind 2 record exactly the numbers below the count of its cards are cards.
+pub counted : (s : List ℕ) {cards at : ℕ} → EndAt s cards at → (n : ℕ) → (n < cards) ↔ ((start : ℕ) × (size : ℕ) × CardAt s n start size)
+counted s d n = (λ l. card-before s (d .due) n l, λ c. card-below s d (c .2))
+
+-- a card, where its body lies
+module _ {s : List ℕ} {n start size : ℕ} (c : CardAt s n start size) where
+  at-body : bodyOf s n ≡ found.Body start size
+  at-body = card-exactly s n start size .1 c
+
   -- IN THE FILE. The body is a part of the file.
   pub in-file : start + size ≤ length s
-  in-file = lies s n e
+  in-file = lies s n at-body
 
-  -- CARD ALONE. A card reads as its body alone would be read by `reader::read`, nested to at most 32, into a table as large: with an empty codebook, and with
-  -- places and offsets from the body; its acceptance names the body's first byte besides.
-  pub card-alone : (words : ℕ) {T T′ : List ℕ} {a : Answer} {b : ReaderAnswer} → Reads s words (bodyOf s n) T a → Answers (reading 32 (part s start size) words) words T′ b → (a ≡ located start b) × (T ≡ T′)
-  card-alone words d c = (d .says ∙ ap (answerFor s words) e ∙ ap (located start) (sym (c .says)), d .leaves ∙ ap (tableFor s words) e ∙ sym (c .leaves))
+  module _ (words : ℕ) {T : List ℕ} {a : Answer} (d : Reads s words (bodyOf s n) T a) where
+    body-read : a ≡ located start (answerOf (reading 32 (part s start size) words))
+    body-read = d .says ∙ ap (answerFor s words) at-body
 
-  -- NEXT. From the end of a card the next one is found, as it is from the start of the file.
-  pub next-card : find (n + 1) (n + 1) (start + size) 0 (drop (start + size) s) ≡ bodyOf s (n + 1)
-  next-card = next-from-end s n e
+    body-left : T ≡ tableOf words (reading 32 (part s start size) words)
+    body-left = d .leaves ∙ ap (tableFor s words) at-body
 
--- an answer, but for where the body lies
-abbrev pub elsewhere : Answer → Answer
-elsewhere (Accepted rows used body) = Accepted rows used 0
-elsewhere (Refused refusal place) = Refused refusal place
-elsewhere (Missing refusal place) = Missing refusal place
+    -- ALONE. A card reads as its body alone is read by `reader::read`, nested to at most 32, into a table as large.
+    pub card-alone : {T′ : List ℕ} {b : ReaderAnswer} → Answers (reading 32 (part s start size) words) words T′ b → (own (reportOf a) ≡ reads.reportOf b) × (T ≡ T′)
+    card-alone {b = b} h = (ap (λ (x : Answer). own (reportOf x)) (body-read ∙ ap (located start) (sym (h .says))) ∙ kept b, body-left ∙ sym (h .leaves))
+      where
+        kept : (b : ReaderAnswer) → own (reportOf (located start b)) ≡ reads.reportOf b
+        kept (reader.Accepted rows used) = refl
+        kept (reader.Refused refusal place) = refl
 
-same-elsewhere : (start start′ : ℕ) (b : ReaderAnswer) → elsewhere (located start b) ≡ elsewhere (located start′ b)
-same-elsewhere start start′ (reader.Accepted rows used) = refl
-same-elsewhere start start′ (reader.Refused refusal place) = refl
+    -- NAMED. Its acceptance names the body's first byte.
+    pub body-named : reportOf a .number ≡ 0 → reportOf a .body ≡ start
+    body-named e = rw body-read (go (answerOf (reading 32 (part s start size) words)) (rw body-read at e))
+      where
+        go : (b : ReaderAnswer) → reportOf (located start b) .number ≡ 0 → reportOf (located start b) .body ≡ start
+        go (reader.Accepted rows used) z = refl
+        go (reader.Refused m place) z = absurd (not-own m 0 refl z)
 
--- ALIKE. Reads of equal bodies into equally large tables answer alike, save where the body lies, and leave the same words, whatever else the
--- two jobs hold.
-pub alike : (s s′ : List ℕ) (n n′ words : ℕ) {start size start′ size′ : ℕ} {T T′ : List ℕ} {a a′ : Answer} → bodyOf s n ≡ found.Body start size → bodyOf s′ n′ ≡ found.Body start′ size′ → part s start size ≡ part s′ start′ size′ → Reads s words (bodyOf s n) T a → Reads s′ words (bodyOf s′ n′) T′ a′ → (elsewhere a ≡ elsewhere a′) × (T ≡ T′)
-alike s s′ n n′ words {start} {size} {start′} {size′} e e′ p d d′ =
-    let o : reading 32 (part s start size) words ≡ reading 32 (part s′ start′ size′) words = ap (λ (l : List ℕ). reading 32 l words) p in (
-      ap elsewhere (d .says ∙ ap (answerFor s words) e) ∙ ap (λ (r : Reading). elsewhere (located start (answerOf r))) o ∙ same-elsewhere start start′ (answerOf (reading 32 (part s′ start′ size′) words)) ∙ sym (ap elsewhere (d′ .says ∙ ap (answerFor s′ words) e′)),
-      d .leaves ∙ ap (tableFor s words) e ∙ ap (tableOf words) o ∙ sym (d′ .leaves ∙ ap (tableFor s′ words) e′),
-    )
+-- ALIKE. Reads of equal bodies into equally large tables answer alike, save where the body lies, and leave the same words, whatever else the two jobs
+-- hold.
+pub alike :
+    (s s′ : List ℕ) (n n′ words : ℕ) {start size start′ size′ : ℕ} {T T′ : List ℕ} {a a′ : Answer} → CardAt s n start size → CardAt s′ n′ start′ size′
+    → part s start size ≡ part s′ start′ size′ → Reads s words (bodyOf s n) T a → Reads s′ words (bodyOf s′ n′) T′ a′
+    → (own (reportOf a) ≡ own (reportOf a′)) × (T ≡ T′)
+alike s s′ n n′ words {start} {size} c c′ p d d′ =
+    let alone : Answers (reading 32 (part s start size) words) words _ _ = record { says = refl; leaves = refl } in
+    let g = card-alone c words d alone in
+    let h = card-alone c′ words d′ (record { says = ap (λ (l : List ℕ). answerOf (reading 32 l words)) p; leaves = ap (λ (l : List ℕ). tableOf words (reading 32 l words)) p }) in
+    (g .0 ∙ sym (h .0), g .1 ∙ sym (h .1))
 
--- STANDS WHOLE. A card that lies whole in the bytes u of a file reads the same whatever follows u: no fault further on touches it.
-pub stands-whole : (u t t′ : List ℕ) (n words : ℕ) {start size : ℕ} {T T′ : List ℕ} {a a′ : Answer} → bodyOf (u ++ t) n ≡ found.Body start size → start + size ≤ length u → Reads (u ++ t) words (bodyOf (u ++ t) n) T a → Reads (u ++ t′) words (bodyOf (u ++ t′) n) T′ a′ → (a ≡ a′) × (T ≡ T′)
-stands-whole u t t′ n words {start} {size} {T} {T′} {a} {a′} e h d d′ =
-    let e′ : bodyOf (u ++ t′) n ≡ found.Body start size = stands u t t′ n e h in
-    let p : part (u ++ t) start size ≡ part (u ++ t′) start size = part-stands u t start size h ∙ sym (part-stands u t′ start size h) in
-    let o : reading 32 (part (u ++ t) start size) words ≡ reading 32 (part (u ++ t′) start size) words = ap (λ (l : List ℕ). reading 32 l words) p in (
-      d .says ∙ ap (answerFor (u ++ t) words) e ∙ ap (λ (r : Reading). located start (answerOf r)) o ∙ sym (d′ .says ∙ ap (answerFor (u ++ t′) words) e′),
-      d .leaves ∙ ap (tableFor (u ++ t) words) e ∙ ap (tableOf words) o ∙ sym (d′ .leaves ∙ ap (tableFor (u ++ t′) words) e′),
-    )
+-- what is found in u alone is read there, whatever follows u
+found-read :
+    (u t : List ℕ) (words : ℕ) (f : Found) → ((start size : ℕ) → f ≡ found.Body start size → start + size ≤ length u)
+    → (answerFor (u ++ t) words f ≡ answerFor u words f) × (tableFor (u ++ t) words f ≡ tableFor u words f)
+found-read u t words (found.Missing m place) h = (refl, refl)
+found-read u t words (found.Body start size) h = rw (part-stands u t start size (h start size refl)) (refl, refl)
 
--- COUNTED. In a sound job exactly the numbers below its kind 2 count are cards; asking for another gives 26 at the kind 2 record.
-module _ (s : List ℕ) {total place : ℕ} (j : Sound s total place) (n : ℕ) where
-  pub counted : n < total → IsBody (bodyOf s n)
-  counted = cards-below s j n
+read-on :
+    (u t : List ℕ) (n words : ℕ) {T T′ : List ℕ} {a a′ : Answer} → bodyOf (u ++ t) n ≡ bodyOf u n → Reads u words (bodyOf u n) T a
+    → Reads (u ++ t) words (bodyOf (u ++ t) n) T′ a′ → (a ≡ a′) × (T ≡ T′)
+read-on u t n words e d d′ =
+    let g = found-read u t words (bodyOf u n) (λ start size i. lies u n i) in
+    (d .says ∙ sym (d′ .says ∙ ap (answerFor (u ++ t) words) e ∙ g .0), d .leaves ∙ sym (d′ .leaves ∙ ap (tableFor (u ++ t) words) e ∙ g .1))
 
-  pub not-counted : total ≤ n → bodyOf s n ≡ found.Missing NoCard place
-  not-counted = none-beyond s j n
+-- WHATEVER FOLLOWS. A card that stands whole in the bytes u reads the same whatever follows them, and so does any number once a kind 2 record stands.
+module _ (u t : List ℕ) (n words : ℕ) {T T′ : List ℕ} {a a′ : Answer} (d : Reads u words (bodyOf u n) T a) (d′ : Reads (u ++ t) words (bodyOf (u ++ t) n) T′ a′) where
+  pub still-reads : {start size : ℕ} → CardAt u n start size → (a ≡ a′) × (T ≡ T′)
+  still-reads c = read-on u t n words (found-on u t n c) d d′
 
--- 26 is given for sound jobs alone, with the count at most the number asked for.
-pub only-sound : (s : List ℕ) (n : ℕ) {place : ℕ} → bodyOf s n ≡ found.Missing NoCard place → SoundAt 0 0 n place s
-only-sound = no-card-sound
+  pub rest-ignored : {cards at : ℕ} → EndAt u cards at → (a ≡ a′) × (T ≡ T′)
+  rest-ignored e = read-on u t n words (ended-on u t n e) d d′
 
--- REFUSED. On a refusal, the job's or the card's own, the table is all zeros.
-pub job-refused-zeros : (s : List ℕ) (words : ℕ) (f : Found) {T : List ℕ} {m : JobRefusal} {p : ℕ} → Reads s words f T (Missing m p) → T ≡ replicate words 0
-job-refused-zeros s words f {T} {m} {p} d = d .leaves ∙ go f (d .says)
+-- REFUSED. A refusal, the job's or the card's own, has 0 for the body, and the table is all zeros.
+pub refused-body : (a : Answer) → (reportOf a .number ≡ 0 → ⊥) → reportOf a .body ≡ 0
+refused-body (Accepted rows used body) h = absurd (h refl)
+refused-body (Refused m p) h = refl
+refused-body (Missing m p) h = refl
+
+pub refused-zeros : (s : List ℕ) (words : ℕ) (f : Found) {T : List ℕ} {a : Answer} → Reads s words f T a → (reportOf a .number ≡ 0 → ⊥) → T ≡ replicate words 0
+refused-zeros s words f {T} {a} d h = d .leaves ∙ go f (rw (d .says) at h)
   where
-    over : (start : ℕ) (b : ReaderAnswer) → Missing m p ≡ located start b → ⊥
-    over start (reader.Accepted rows used) e = let z : _≡_ {A = ℕ} 0 1 = cc in omega arith
-    over start (reader.Refused refusal place) e = let z : _≡_ {A = ℕ} 0 1 = cc in omega arith
+    own-zeros : (start : ℕ) (o : Reading) → (reportOf (located start (answerOf o)) .number ≡ 0 → ⊥) → tableOf words o ≡ replicate words 0
+    own-zeros start (refused n q) h = refl
+    own-zeros start (got rows used book) h = absurd (h refl)
 
-    go : (f : Found) → Missing m p ≡ answerFor s words f → tableFor s words f ≡ replicate words 0
-    go (found.Missing refusal place) e = refl
-    go (found.Body start size) e = absurd (over start (answerOf (reading 32 (part s start size) words)) e)
+    go : (f : Found) → (reportOf (answerFor s words f) .number ≡ 0 → ⊥) → tableFor s words f ≡ replicate words 0
+    go (found.Missing refusal place) h = refl
+    go (found.Body start size) h = own-zeros start (reading 32 (part s start size) words) h
+
+-- by the answer's variant
+pub job-refused-zeros : (s : List ℕ) (words : ℕ) (f : Found) {T : List ℕ} {m : JobRefusal} {p : ℕ} → Reads s words f T (Missing m p) → T ≡ replicate words 0
+job-refused-zeros s words f {m = m} d = refused-zeros s words f d (λ e. jobs-some m (sym e))
 
 pub card-refused-zeros : (s : List ℕ) (words : ℕ) (f : Found) {T : List ℕ} {m : Refusal} {p : ℕ} → Reads s words f T (Refused m p) → T ≡ replicate words 0
-card-refused-zeros s words f {T} {m} {p} d = d .leaves ∙ go f (d .says)
-  where
-    own : (start : ℕ) (o : Reading) → Refused m p ≡ located start (answerOf o) → tableOf words o ≡ replicate words 0
-    own start (refused n q) e = refl
-    own start (got rows used book) e = let z : _≡_ {A = ℕ} 0 1 = cc in absurd (omega arith)
-
-    go : (f : Found) → Refused m p ≡ answerFor s words f → tableFor s words f ≡ replicate words 0
-    go (found.Missing refusal place) e = let z : _≡_ {A = ℕ} 0 1 = cc in absurd (omega arith)
-    go (found.Body start size) e = own start (reading 32 (part s start size) words) e
+card-refused-zeros s words f {m = m} d = refused-zeros s words f d (not-own m 0 refl)

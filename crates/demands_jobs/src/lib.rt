@@ -1,1 +1,1 @@
-// What is demanded of job files, as statements over the definitions: see specs/.
+// What is demanded of job files: laws, and what the page of E2 says of a report. No function.

@@ -2,12 +2,12 @@
 use mathlib.Core.Path.{_≡_, refl, sym, ap, _∙_}
 use mathlib.Core.Bool.{Bool, true, false}
 use mathlib.Core.List.{List, [], _∷_}
-use Prim.Native.Nat.{ℕ, zero, suc, _+_, _≤_}
+use Prim.Native.Nat.{ℕ, zero, suc, _+_, _≤_, _<_}
 use native.Mathlib.Omega.{arith}
 use lib.ListN.{length, drop}
 use lib.Seq.{drop-nil}
 use lib.Dec.{eqb}
-use borrow.Author.Tests.{leb-true, eqb-true, eqb-false}
+use borrow.Author.Tests.{leb-true, leb-false, eqb-true, eqb-false}
 use Rattle.records.specs.declared.Kind.{Kind}
 use Rattle.records.specs.declared.Kind.the-variants.{Card, End, Other}
 use Rattle.records.specs.declared.JobRefusal.the-variants.{FileEnded, WrongEnd, NoCard}
@@ -45,11 +45,11 @@ find-step n cards at (b ∷ s) =
 
 -- what looking at a record can give, and what the record is then
 pub data Looked (n cards at : ℕ) (s : List ℕ) : Look → Type 0 where
-  cut : Looked n cards at s (Settled (Missing FileEnded at))
+  cut : length s < recordLength s → Looked n cards at s (Settled (Missing FileEnded at))
   asked : recordLength s ≤ length s → kindAt s ≡ Card → cards ≡ n → Looked n cards at s (Settled (Body (at + 6) (bodyLength s)))
   passed : recordLength s ≤ length s → kindAt s ≡ Card → (cards ≡ n → ⊥) → Looked n cards at s (Onward (cards + 1) (bodyLength s))
   ended : recordLength s ≤ length s → kindAt s ≡ End → endsWith s cards ≡ true → Looked n cards at s (Settled (Missing NoCard at))
-  wrong : Looked n cards at s (Settled (Missing WrongEnd at))
+  wrong : recordLength s ≤ length s → kindAt s ≡ End → endsWith s cards ≡ false → Looked n cards at s (Settled (Missing WrongEnd at))
   other : recordLength s ≤ length s → kindAt s ≡ Other → Looked n cards at s (Onward cards (bodyLength s))
 
 module _ (n cards at : ℕ) (s : List ℕ) where
@@ -59,7 +59,7 @@ module _ (n cards at : ℕ) (s : List ℕ) where
 
   looked-end : (b : Bool) → endsWith s cards ≡ b → recordLength s ≤ length s → kindAt s ≡ End → Looked n cards at s (Settled (Missing (pickRefusal b NoCard WrongEnd) at))
   looked-end true e w k = ended w k e
-  looked-end false e w k = wrong
+  looked-end false e w k = wrong w k e
 
   looked-record : (k : Kind) → kindAt s ≡ k → recordLength s ≤ length s → Looked n cards at s (recordSays k n cards at s)
   looked-record Card k w = looked-card (eqb cards n) refl w k
@@ -68,7 +68,7 @@ module _ (n cards at : ℕ) (s : List ℕ) where
 
   looked-whole : (b : Bool) → whole s ≡ b → Looked n cards at s (pickLook b (recordSays (kindAt s) n cards at s) (Settled (Missing FileEnded at)))
   looked-whole true e = looked-record (kindAt s) refl (leb-true _ _ e)
-  looked-whole false e = cut
+  looked-whole false e = cut (leb-false _ _ e)
 
   pub looked : Looked n cards at s (lookAt n cards at s)
   unfolding lookAt

@@ -2,4 +2,4 @@ pub mod Looking
 pub mod Finding
 pub mod Trails
 pub mod Standing
-pub mod Counting
+pub mod Records

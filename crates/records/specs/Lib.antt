@@ -1,2 +1,2 @@
 pub mod Job
-pub mod Sound
+pub mod Records
