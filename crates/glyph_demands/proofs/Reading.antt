@@ -28,7 +28,7 @@ use Rattle.glyph_exact.proofs.Deriving.{root-sound}
 use Rattle.glyph_exact.proofs.Concluding.{root-reads, refused-true, one-root}
 use Rattle.glyph_demands.specs.Answered.{Allowed, Derived, Underived, RefusedFor, ended, unexpected-byte, bad-text, repeated-key, out-of-range, too-deep, no-row, too-long, no-limit}
 
-message-is : (e : Edition) {limit : ℕ} {s : List ℕ} (room : ℕ) → Allowed limit s → message e limit s room ≡ root s room e limit
+pub message-is : (e : Edition) {limit : ℕ} {s : List ℕ} (room : ℕ) → Allowed limit s → message e limit s room ≡ root s room e limit
 unfolding message
 message-is e room a = simp (le-leb _ _ (a .least), le-leb _ _ (a .most), le-leb _ _ (a .bytes))
 

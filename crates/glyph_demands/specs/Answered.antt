@@ -2,19 +2,32 @@
 -- a higher limit and in a larger table. Assumes nothing.
 use mathlib.Core.Path.{_≡_}
 use mathlib.Core.Logic.{_≢_}
-use mathlib.Core.List.{List, []}
+use mathlib.Core.Bool.{Bool, false, _||_}
+use mathlib.Core.List.{List, [], _∷_}
 use Prim.Native.Nat.{ℕ, _+_, _*_, _≤_, _<_}
+use Prim.Native.Char.{code}
+use lib.Dec.{eqb}
 use lib.ListN.{length, getD}
 use Rattle.draft.specs.declared.Row.{Row}
 use Rattle.draft.specs.Rows.{row}
 use Rattle.draft.specs.Table.{roomOf}
 use Rattle.draft.specs.Meaning.{Realises}
 use Rattle.glyph.specs.declared.Edition.{Edition}
+use Rattle.glyph.specs.declared.Edition.the-variants.{New, Old}
 use Rattle.glyph.specs.declared.Answer.{Answer}
 use Rattle.glyph.specs.declared.Answer.the-variants.{Accepted, Refused}
 use Rattle.glyph.specs.Read.{Reading, got, refused}
 use Rattle.glyph.specs.Tree.{Tree, cells}
 use Rattle.glyph.specs.Grammar.{Root}
+
+abbrev pub has : List ℕ → ℕ → Bool
+has [] n = false
+has (x ∷ xs) n = eqb n x || has xs n
+
+-- the letters of each edition
+abbrev pub lettersOf : Edition → List ℕ
+lettersOf New = code "i" ∷ code "u" ∷ code "b" ∷ code "T" ∷ code "F" ∷ code "N" ∷ code "L" ∷ code "D" ∷ code "O" ∷ code "X" ∷ []
+lettersOf Old = code "i" ∷ code "u" ∷ code "b" ∷ code "T" ∷ code "F" ∷ code "N" ∷ code "L" ∷ code "D" ∷ code "O" ∷ code "X" ∷ code "H" ∷ []
 
 -- the tests before the root: the limit is 1 to 32, and there are no more than 65,536 bytes
 pub record Allowed (limit : ℕ) (s : List ℕ) : Type 0 where

@@ -25,8 +25,9 @@ use Rattle.glyph_form.specs.declared.Answer.the-variants.{Written, Refused}
 use Rattle.glyph_form.specs.Writable.{writable}
 use Rattle.glyph_form.specs.Form.{formOf}
 use Rattle.glyph_form.specs.Answers.{given, answerOf, Did}
+use Rattle.glyph_demands.specs.Answered.{has}
 use Rattle.glyph_told.specs.Tables.{Words}
-use Rattle.glyph_written.specs.RowKinds.{glyphKinds, has}
+use Rattle.glyph_written.specs.RowKinds.{glyphKinds}
 use Rattle.glyph_written.proofs.RowKinds.{glyph-has}
 use Rattle.glyph_writing_demands.specs.Accepting.{Says, AcceptedFor, RefusedFor, no-limit, long-text, not-writable, long-form, short-output}
 use Rattle.glyph_writing_demands.proofs.Tables.{read-writable, read-short}

@@ -21,9 +21,10 @@ use Rattle.glyph.specs.declared.Want.{Want}
 use Rattle.glyph.specs.Tree.{Tree, Trees, none, also, Pairs, cells, cellsOf, pairCells}
 use Rattle.glyph.specs.Grammar as glyph
 use Rattle.glyph_form.specs.Writable.{writable}
+use Rattle.glyph_demands.specs.Answered.{has}
 use Rattle.glyph_told.specs.Tables.{Words}
 use Rattle.glyph_told.proofs.Concluding as told
-use Rattle.glyph_written.specs.RowKinds.{binmodeKinds, nodeKinds, glyphKinds, has}
+use Rattle.glyph_written.specs.RowKinds.{binmodeKinds, nodeKinds, glyphKinds}
 
 -- cells of these kinds alone
 data Kinds (ks : List ℕ) : List Cell → Type 0 where

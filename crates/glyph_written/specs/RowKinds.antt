@@ -1,8 +1,6 @@
 -- The kinds of rows that each form has: document 01's for Binmode, and those that document 02 names for an edition of glyph. Assumes nothing.
-use mathlib.Core.Bool.{Bool, false, _||_}
 use mathlib.Core.List.{List, [], _∷_}
 use Prim.Native.Nat.{ℕ}
-use lib.Dec.{eqb}
 use Rattle.glyph.specs.declared.Edition.{Edition}
 use Rattle.glyph.specs.declared.Edition.the-variants.{New, Old}
 
@@ -18,7 +16,3 @@ nodeKinds Old = 16 ∷ []
 -- integer, T and F, bytearray, list, dict, unicode, nil, ordered_dict and extension
 abbrev pub glyphKinds : Edition → List ℕ
 glyphKinds e = 4 ∷ 5 ∷ 8 ∷ 9 ∷ 10 ∷ 11 ∷ 13 ∷ 14 ∷ 15 ∷ nodeKinds e
-
-abbrev pub has : List ℕ → ℕ → Bool
-has [] kind = false
-has (k ∷ ks) kind = eqb kind k || has ks kind
