@@ -1,3 +1,4 @@
 pub mod Cases
+pub mod Letters
 pub mod Reading
 pub mod Settled

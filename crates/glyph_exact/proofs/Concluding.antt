@@ -3,7 +3,7 @@
 use mathlib.Core.Path.{_≡_, refl, sym, ap, _∙_}
 use mathlib.Core.Bool.{false}
 use mathlib.Core.List.{List, [], _++_, append-nil}
-use Prim.Native.Nat.{ℕ, _+_, _≤_}
+use Prim.Native.Nat.{ℕ, _+_, _≤_, _<_, max}
 use native.Mathlib.Omega.{arith}
 use lib.ListN.{length, length-append}
 use borrow.Author.Tests.{le-leb}
@@ -54,33 +54,44 @@ root-reads {e} {d} {s} {used} {t} g room m =
     }
 
 -- what stays
-got-stays : {rows : List Row} {used : ℕ} {o : Reading} → Grows (got rows used) o → o ≡ got rows used
+got-stays : {D R : Type 0} {rows : List Row} {used : ℕ} {o : Reading} → Grows D R (got rows used) o → o ≡ got rows used
 got-stays stays = refl
 
-pub refused-stays : {m : Refusal} {p : ℕ} {o : Reading} → Grows (refused m p) o → (m ≡ TooDeep → ⊥) → (m ≡ NoRow → ⊥) → o ≡ refused m p
+refused-stays : {D R : Type 0} {m : Refusal} {p : ℕ} {o : Reading} → Grows D R (refused m p) o → (D → m ≡ TooDeep → ⊥) → (R → m ≡ NoRow → ⊥) → o ≡ refused m p
 refused-stays stays n k = refl
-refused-stays deep n k = absurd (n refl)
-refused-stays full n k = absurd (k refl)
+refused-stays (deep x) n k = absurd (n x refl)
+refused-stays (full x) n k = absurd (k x refl)
 
--- REFUSALS ARE TRUE: a message that has a root is refused for 8 or 9, or not at all
-pub refused-true : {e : Edition} {d : ℕ} {s : List ℕ} {used : ℕ} {t : Tree} → Root e d s used t → (room limit : ℕ) {m : Refusal} {p : ℕ} → root s room e limit ≡ refused m p → (m ≡ TooDeep → ⊥) → (m ≡ NoRow → ⊥) → ⊥
-refused-true {e} {d} {s} {used} {t} g room limit {m} {p} i n k =
-    let a = root-reads g (length (cells t)) (omega arith) in
-    let b : Grows (got (a .rows) used) (root s (room + length (cells t)) e (limit + d)) = rw (a .is) at (root-grows s {room = length (cells t)} {room′ = room + length (cells t)} (omega arith) e d (limit + d) (omega arith)) in
-    let c : Grows (refused m p) (root s (room + length (cells t)) e (limit + d)) = rw i at (root-grows s {room = room} {room′ = room + length (cells t)} (omega arith) e limit (limit + d) (omega arith)) in
-    let q : got (a .rows) used ≡ refused m p = sym (got-stays b) ∙ refused-stays c n k in
-    let z : _≡_ {A = ℕ} 0 1 = cc in
-    absurd (omega arith)
+-- a message with a root, and limits that are enough for it
+module _ {e : Edition} {d : ℕ} {s : List ℕ} {used : ℕ} {t : Tree} (g : Root e d s used t) where
+  abbrev size : ℕ
+  size = length (cells t)
+
+  reads-within : (room limit : ℕ) → size ≤ room → d ≤ limit → (rows : List Row) × (root s room e limit ≡ got rows used) × Realises s 0 rows (cells t)
+  reads-within room limit m h =
+      let a = root-reads g size (omega arith) in
+      let b : Grows (d < limit) (size < room) (got (a .rows) used) (root s room e limit) = rw (a .is) at (root-grows s m e d limit h) in
+      (a .rows, got-stays b, a .realises)
+
+  -- REFUSALS ARE TRUE: such a message is refused with 8 only if the limit is lower than its nesting, and with 9 only if it has more rows than
+  -- there is room for; and with nothing else
+  pub refused-true :
+      (room limit : ℕ) {m : Refusal} {p : ℕ} → root s room e limit ≡ refused m p → (limit < d → m ≡ TooDeep → ⊥) → (room < size → m ≡ NoRow → ⊥) → ⊥
+  refused-true room limit {m} {p} i n k =
+      let a = reads-within (max room size) (max limit d) (omega arith) (omega arith) in
+      let c : Grows (limit < max limit d) (room < max room size) (refused m p) (root s (max room size) e (max limit d)) =
+      rw i at (root-grows s {room = room} {room′ = max room size} (omega arith) e limit (max limit d) (omega arith)) in
+      let q : got (a .0) used ≡ refused m p = sym (a .1) ∙ refused-stays c (λ h. n (omega (arith, h))) (λ h. k (omega (arith, h))) in
+      let z : _≡_ {A = ℕ} 0 1 = cc in
+      absurd (omega arith)
 
 -- ONE MEANING
 pub one-root : {e : Edition} {d d′ : ℕ} {s : List ℕ} {used used′ : ℕ} {t t′ : Tree} → Root e d s used t → Root e d′ s used′ t′ → (used ≡ used′) × (cells t ≡ cells t′)
 one-root {e} {d} {d′} {s} {used} {used′} {t} {t′} g h =
-    let a = root-reads g (length (cells t)) (omega arith) in
-    let b = root-reads h (length (cells t′)) (omega arith) in
-    let x : Grows (got (a .rows) used) (root s (length (cells t) + length (cells t′)) e (d + d′)) = rw (a .is) at (root-grows s {room = length (cells t)} {room′ = length (cells t) + length (cells t′)} (omega arith) e d (d + d′) (omega arith)) in
-    let y : Grows (got (b .rows) used′) (root s (length (cells t) + length (cells t′)) e (d + d′)) = rw (b .is) at (root-grows s {room = length (cells t′)} {room′ = length (cells t) + length (cells t′)} (omega arith) e d′ (d + d′) (omega arith)) in
-    let q : got (a .rows) used ≡ got (b .rows) used′ = sym (got-stays x) ∙ got-stays y in
+    let a = reads-within g (max (length (cells t)) (length (cells t′))) (max d d′) (omega arith) (omega arith) in
+    let b = reads-within h (max (length (cells t)) (length (cells t′))) (max d d′) (omega arith) (omega arith) in
+    let q : got (a .0) used ≡ got (b .0) used′ = sym (a .1) ∙ b .1 in
     let u : used ≡ used′ = cc in
-    let w : a .rows ≡ b .rows = cc in
-    let z : Realises s 0 (a .rows) (cells t′) = rw w (b .realises) in
-    (u, one-meaning (a .realises) z)
+    let w : a .0 ≡ b .0 = cc in
+    let z : Realises s 0 (a .0) (cells t′) = rw w (b .2) in
+    (u, one-meaning (a .2) z)

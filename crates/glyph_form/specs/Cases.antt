@@ -1,35 +1,22 @@
 -- Tables of both editions, written: what reading makes of the documents' examples and of others, and tables that are not writable. One table of
--- cases, under a single statement. Assumes nothing.
-use mathlib.Core.Path.{_≡_, refl}
+-- cases, and what is to be shown of it. Assumes nothing.
 use mathlib.Core.List.{List, [], _∷_, _++_}
 use Prim.Native.Nat.{ℕ, _-_}
 use Prim.Native.String.{String}
 use lib.ListN.{length, replicate}
-use Rattle.text.specs.Utf8.{within, dueBy, dueAfter, step, octets, wellFormed}
-use Rattle.text.specs.Texts.{same, among}
-use Rattle.lexical.specs.Digits.{digit}
-use Rattle.order.specs.ByteOrder.{compared}
 use Rattle.draft.specs.declared.Row.{Row}
 use Rattle.draft.specs.declared.Refusal.{Refusal}
 use Rattle.draft.specs.declared.Refusal.the-variants.{NotWritable, OutputTooShort, NoLimit}
 use Rattle.draft.specs.Bytes.{bytes}
-use Rattle.draft.specs.Limits.{allowed}
 use Rattle.draft.specs.Rows.{row}
-use Rattle.draft.specs.Content.{contentRule, verdict, keyRule}
-use Rattle.draft.specs.Table.{place, setRow, putRows, rowAt}
-use Rattle.draft.specs.Writable.{pair, items, alike, nothing, contentItem, only, string, stringBy, member, keeping}
+use Rattle.draft.specs.Table.{putRows}
 use Rattle.glyph.specs.declared.Edition.{Edition}
 use Rattle.glyph.specs.declared.Edition.the-variants.{New, Old}
-use Rattle.glyph.specs.Letters.{letterOf}
-use Rattle.glyph.specs.Numbers.{isBlank, blanks, past, digits, decimal, isMinus, signs, inRange}
-use Rattle.glyph.specs.Read.{Reading, got, refused, goodText, single, numberFrom, content, lengthened, text, run, distinct, entry as readEntry, kept as readKept, many, three, object as readObject, root, message}
+use Rattle.glyph.specs.Read.{Reading, got, refused}
 use Rattle.glyph.specs.Answers.{reading}
 use Rattle.glyph_form.specs.declared.Answer.{Answer}
 use Rattle.glyph_form.specs.declared.Answer.the-variants.{Written, Refused}
-use Rattle.glyph_form.specs.Sorts.{sortOf, meets}
-use Rattle.glyph_form.specs.Writable.{entry, kept, entries, object, writableWithin, writable}
-use Rattle.glyph_form.specs.Told.{trees, pairs, treeAt}
-use Rattle.glyph_form.specs.Form.{insert, sort, canon, canonAll, canonPairs, digitsBefore, integerBytes, booleanBytes, contentBytes, leafBytes, letterFor, bytesOf, bytesOfAll, bytesOfPairs, written as formOfTree, formWithin, formOf}
+use Rattle.glyph_form.specs.Form.{formOf}
 use Rattle.glyph_form.specs.Answers.{answerOf, outputOf}
 
 -- rows and the bytes that their texts lie in, an edition, a limit of nesting and an output's length; the answer and the form, none if refused
@@ -76,7 +63,7 @@ rewritten rows form =
 abbrev unwritable : List Row → Case
 unwritable rows = record { rows = rows; texts = bytes "key"; edition = Old; limit = 8; room = 20; answer = Refused NotWritable; form = [] }
 
-pub cases : List Case
+unfoldable pub cases : List Case
 cases =
     -- the documents' data types
     again New "i1;" "i1;"
@@ -161,19 +148,16 @@ tableOf rows = putRows 16 (replicate 64 0) 0 rows
 pub data Outcome : Type 0 where
   outcome : Answer → List ℕ → Outcome
 
-abbrev expected : List Case → List Outcome
+-- what a table of cases says
+abbrev pub expected : List Case → List Outcome
 expected [] = []
 expected (c ∷ cs) = outcome (c .answer) (c .form ++ replicate (c .room - length (c .form)) 0) ∷ expected cs
 
 abbrev outcomeOf : Case → Answer → Outcome
 outcomeOf c answer = outcome answer (outputOf answer (formOf (c .edition) (c .limit) (tableOf (c .rows)) (c .texts)) (c .room))
 
-abbrev written : List Case → List Outcome
+-- and what writing gives
+abbrev pub written : List Case → List Outcome
 written [] = []
 written (c ∷ cs) =
     outcomeOf c (answerOf (c .edition) (c .limit) (tableOf (c .rows)) (length (c .rows)) (c .texts) (c .room)) ∷ written cs
-
--- THE STATEMENT: writing gives what documents 02, 003 and 000 say, for each case
-pub cases-written : written cases ≡ expected cases
-unfolding cases answerOf allowed formOf formWithin formOfTree bytesOfPairs bytesOfAll bytesOf letterFor leafBytes contentBytes booleanBytes integerBytes digitsBefore canonPairs canonAll canon sort insert compared treeAt pairs trees writable writableWithin object entries kept entry meets sortOf keeping member stringBy string only contentItem nothing alike items pair rowAt putRows setRow place keyRule verdict contentRule reading message root readObject three many readKept readEntry distinct run text lengthened content numberFrom single goodText inRange signs isMinus decimal digits past blanks isBlank letterOf digit among same wellFormed octets step dueAfter dueBy within
-cases-written = refl

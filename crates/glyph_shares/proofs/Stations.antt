@@ -3,40 +3,30 @@
 -- `WroteFor e limit T station split rows s out out′ a` that of `glyph_stations::write`. `shareOf station split T` are the share's words. Assumes nothing.
 use mathlib.Core.Path.{_≡_, refl, sym, ap, _∙_}
 use mathlib.Core.Bool.{Bool, true, false}
-use mathlib.Core.Logic.{_↔_, _≢_}
+use mathlib.Core.Logic.{_↔_}
 use mathlib.Core.List.{List}
 use Prim.Native.Nat.{ℕ, _*_, _/_, _≤_}
 use native.Mathlib.Omega.{arith}
 use lib.ListN.{length, drop, replicate}
+use Rattle.draft.specs.declared.Refusal.the-variants.{NoLimit}
+use Rattle.draft.specs.Limits.{allowed}
 use Rattle.shares.specs.declared.Station.{Station}
-use Rattle.shares.specs.Share.{other, splits, sizeOf, shareOf, tableOn}
+use Rattle.shares.specs.Share.{other, splits, sizeOf, shareOf}
 use Rattle.shares.proofs.Lent.{below}
 use Rattle.shares.proofs.Sharing as sharing
 use Rattle.glyph.specs.declared.Edition.{Edition}
-use Rattle.glyph.specs.declared.Answer.{Answer}
 use Rattle.glyph.specs.declared.Answer.the-variants as answer
-use Rattle.glyph.specs.Answers.{reading, answerOf, Answers}
-use Rattle.glyph_form.specs.declared.Answer as written
+use Rattle.glyph.specs.Answers.{reading, answerOf}
+use Rattle.glyph_form.specs.declared.Answer.the-variants as unwritten
 use Rattle.glyph_form.specs.Answers as writer
-use Rattle.glyph_form.specs.Answers.{Did}
+use Rattle.glyph_demands.specs.Answered.{rowsIn, Columns}
 use Rattle.glyph_demands.proofs.Settled as whole-table
 use Rattle.glyph_stations.specs.declared.StationAnswer.{StationAnswer}
 use Rattle.glyph_stations.specs.declared.StationAnswer.the-variants.{Answered, NotSplit}
 use Rattle.glyph_stations.specs.declared.WriteAnswer.{WriteAnswer}
 use Rattle.glyph_stations.specs.declared.WriteAnswer.the-variants as write
 use Rattle.glyph_stations.specs.Answers.{readAnswer, readWords, ReadFor, writeAnswer, writtenBytes, WroteFor}
-
--- `glyph_reader::read` of a message s into n words, which are W′ after it
-pub record OwnRead (e : Edition) (limit : ℕ) (s : List ℕ) (n : ℕ) (W′ : List ℕ) (a : StationAnswer) : Type 0 where
-  pub own : Answer
-  pub is : a ≡ Answered own
-  pub did : Answers (reading e limit s n) n W′ own
-
--- `glyph_writer::write` of so many rows of the words W, whose texts lie in s
-pub record OwnWrite (e : Edition) (limit : ℕ) (W : List ℕ) (rows : ℕ) (s out out′ : List ℕ) (a : WriteAnswer) : Type 0 where
-  pub own : written.Answer
-  pub is : a ≡ write.Answered own
-  pub did : Did e limit W rows s out out′ own
+use Rattle.glyph_shares.specs.Own.{OwnRead, OwnWrite, LastingFor}
 
 -- a share keeps its length
 keeps : (e : Edition) (limit : ℕ) (s W : List ℕ) → length (readWords e limit s W) ≡ length W
@@ -138,24 +128,6 @@ module _ (station : Station) (split : ℕ) (T : List ℕ) (ok : splits split (le
         did = record { says = refl; leaves = d .leaves ∙ sharing.given-there station split T ok (writtenBytes e limit rows s (length out)) out };
       }
 
--- IN TURN. Whatever call of the other station came before, of glyph or of Binmode, that left `after` of its own share's words, as many as there were: the
--- answer is the same as without it, and so is what is written.
-module _
-    (station : Station) (split : ℕ) (T : List ℕ) (ok : splits split (length T) ≡ true) (after : List ℕ → List ℕ)
-    (same : length (after (shareOf (other station) split T)) ≡ length (shareOf (other station) split T)) (e : Edition) (limit : ℕ) where
-  pub read-stays :
-      (s : List ℕ) {T′ U′ : List ℕ} {a b : StationAnswer} → ReadFor e limit s station split T T′ a
-      → ReadFor e limit s station split (tableOn (other station) split T after) U′ b → a ≡ b
-  read-stays s c d = c .says ∙ sym (d .says ∙ sharing.told-stays station split T ok after same (readAnswer e limit s) NotSplit)
-
-  pub write-stays :
-      (rows : ℕ) (s out : List ℕ) {out′ out″ : List ℕ} {a b : WriteAnswer} → WroteFor e limit T station split rows s out out′ a
-      → WroteFor e limit (tableOn (other station) split T after) station split rows s out out″ b → (a ≡ b) × (out′ ≡ out″)
-  write-stays rows s out c d = (
-    c .says ∙ sym (d .says ∙ sharing.told-stays station split T ok after same (writeAnswer e limit rows s (length out)) write.NotSplit),
-    c .leaves ∙ sym (d .leaves ∙ sharing.told-stays station split T ok after same (writtenBytes e limit rows s (length out)) out),
-  )
-
 -- ALIKE. Answer and share's words depend on the edition, the limit, the message and the share's size: for any two tables, rows and stations.
 pub read-alike :
     (station other-station : Station) (split other-split : ℕ) (T U : List ℕ) → splits split (length T) ≡ true → splits other-split (length U) ≡ true
@@ -168,17 +140,52 @@ read-alike station other-station split other-split T U ok ok′ size e limit s c
     let z = whole-table.settled e limit s (sizeOf station split (length T)) (x .did) (y .did) in
     (x .is ∙ ap Answered (z .0) ∙ sym (y .is), z .1)
 
--- E11 at stations: an answer other than 8, 9, 22 and 23 stays under a higher limit and in a larger share
-pub station-stays :
+-- Answer and output depend on the edition, the limit, the share's words, the stated rows, the text bytes and the output's length.
+pub write-alike :
+    (station other-station : Station) (split other-split : ℕ) (T U : List ℕ) → splits split (length T) ≡ true → splits other-split (length U) ≡ true
+    → shareOf station split T ≡ shareOf other-station other-split U → (e : Edition) (limit rows : ℕ) (s out₀ out₁ : List ℕ) → length out₀ ≡ length out₁
+    → {out out′ : List ℕ} {a b : WriteAnswer} → WroteFor e limit T station split rows s out₀ out a → WroteFor e limit U other-station other-split rows s out₁ out′ b
+    → (a ≡ b) × (out ≡ out′)
+write-alike station other-station split other-split T U ok ok′ same e limit rows s out₀ out₁ size c d =
+    let x = own-write station split T ok e limit rows s out₀ c in
+    let y = own-write other-station other-split U ok′ e limit rows s out₁ d in
+    let i : x .own ≡ y .own = x .did .says ∙ rw (same, size) (sym (y .did .says)) in
+    (x .is ∙ ap write.Answered i ∙ sym (y .is), x .did .leaves ∙ rw (i, same, size) (sym (y .did .leaves)))
+
+-- COLUMNS (E12) and GROWTH (E11) in a share: word j of its row r stands at its own room times j plus r, and its spare words are zero; and an answer
+-- other than 8, 9, 22 and 23 stays under a higher limit and in a larger share, with its place and rows, the added words being zero.
+pub share-columns :
+    (station : Station) (split : ℕ) (T : List ℕ) → splits split (length T) ≡ true → (e : Edition) (limit : ℕ) (s : List ℕ) {T′ : List ℕ} {a : StationAnswer}
+    → ReadFor e limit s station split T T′ a
+    → Columns (sizeOf station split (length T)) (shareOf station split T′) (rowsIn (reading e limit s (sizeOf station split (length T))))
+share-columns station split T ok e limit s d = whole-table.columns e limit s (sizeOf station split (length T)) (own-read station split T ok e limit s d .did)
+
+pub share-stays :
     (here there : Station) (split split′ : ℕ) (T U : List ℕ) → splits split (length T) ≡ true → splits split′ (length U) ≡ true
     → (e : Edition) (s : List ℕ) {limit later : ℕ} → limit ≤ later → later ≤ 32 → sizeOf here split (length T) ≤ sizeOf there split′ (length U)
-    → {T′ U′ : List ℕ} {a b : StationAnswer} → ReadFor e limit s here split T T′ a → ReadFor e later s there split′ U U′ b
-    → ((p : ℕ) → a ≢ Answered (answer.Refused 8 p)) → ((p : ℕ) → a ≢ Answered (answer.Refused 9 p)) → ((p : ℕ) → a ≢ Answered (answer.Refused 23 p)) → b ≡ a
-station-stays here there split split′ T U is is′ e s {limit} {later} higher most larger c d f g h =
-    let x = own-read here split T is e limit s c in
-    let y = own-read there split′ U is′ e later s d in
-    y .is
-    ∙ ap Answered
-    (whole-table.answer-stays e s higher most larger (x .did) (y .did)
-    (λ p z. f p (x .is ∙ ap Answered z)) (λ p z. g p (x .is ∙ ap Answered z)) (λ p z. h p (x .is ∙ ap Answered z)))
-    ∙ sym (x .is)
+    → {T′ U′ : List ℕ} {a b : StationAnswer} → ReadFor e limit s here split T T′ a → ReadFor e later s there split′ U U′ b → LastingFor a
+    → (b ≡ a) × Columns (sizeOf there split′ (length U)) (shareOf there split′ U′) (rowsIn (reading e limit s (sizeOf here split (length T))))
+share-stays here there split split′ T U ok ok′ e s {limit} {later} higher most larger c d l =
+    let x = own-read here split T ok e limit s c in
+    let y = own-read there split′ U ok′ e later s d in
+    let z = whole-table.stays e s higher most larger (x .did) (y .did) (rw (x .is) at l) in
+    (y .is ∙ ap Answered (z .0) ∙ sym (x .is), z .1)
+
+-- 23: the share, or the output, is zeros.
+module _ (station : Station) (split : ℕ) (T : List ℕ) (ok : splits split (length T) ≡ true) (e : Edition) {limit : ℕ} (h : allowed limit ≡ false) where
+  pub read-unlimited :
+      (s : List ℕ) {T′ : List ℕ} {a : StationAnswer} → ReadFor e limit s station split T T′ a
+      → (a ≡ Answered (answer.Refused 23 0)) × (shareOf station split T′ ≡ replicate (sizeOf station split (length T)) 0)
+  read-unlimited s d =
+      let x = own-read station split T ok e limit s d in
+      let z = whole-table.unlimited e limit s (sizeOf station split (length T)) h (x .did) in
+      (x .is ∙ ap Answered (z .0), z .1)
+
+  pub write-unlimited :
+      (rows : ℕ) (s out : List ℕ) {out′ : List ℕ} {a : WriteAnswer} → WroteFor e limit T station split rows s out out′ a
+      → (a ≡ write.Answered (unwritten.Refused NoLimit)) × (out′ ≡ replicate (length out) 0)
+  unfolding writer.answerOf
+  write-unlimited rows s out d =
+      let x = own-write station split T ok e limit rows s out d in
+      let i : x .own ≡ unwritten.Refused NoLimit = x .did .says ∙ rw h in
+      (x .is ∙ ap write.Answered i, x .did .leaves ∙ rw i)

@@ -39,8 +39,9 @@ use Rattle.glyph_back.proofs.Sizes.{size}
 use Rattle.glyph_told.proofs.Deeper.{deeper}
 use Rattle.glyph_told.specs.Tables.{Words, treeOf, Derivable}
 use Rattle.glyph_written.proofs.Back.{Means, read-back-same}
+use Rattle.glyph_writing_demands.specs.Accepting.{AcceptedFor}
 use Rattle.glyph_writing_demands.proofs.Tables.{writable-exactly, told, writable-means, writable-rows, writable-higher, form-told, one-form, read-told}
-use Rattle.glyph_writing_demands.proofs.Writer.{AcceptedFor, accepted-exactly, written-whole}
+use Rattle.glyph_writing_demands.proofs.Writer.{accepted-exactly, written-whole}
 
 -- what a table tells that was made of a message with this meaning
 read-of :

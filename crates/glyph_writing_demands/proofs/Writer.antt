@@ -15,6 +15,7 @@ use Rattle.draft.specs.declared.Refusal.{Refusal}
 use Rattle.draft.specs.declared.Refusal.the-variants.{TooLong, NotWritable, FormTooLong, OutputTooShort, NoLimit}
 use Rattle.draft.specs.Refusals.{numberOf}
 use Rattle.draft.specs.Limits.{allowed}
+use Rattle.draft.specs.Table.{roomOf, rowAt}
 use Rattle.draft.proofs.Limiting.{limit-most}
 use Rattle.glyph.specs.declared.Edition.{Edition}
 use Rattle.glyph.specs.declared.Answer.the-variants.{Accepted}
@@ -24,33 +25,17 @@ use Rattle.glyph_form.specs.declared.Answer.the-variants.{Written, Refused}
 use Rattle.glyph_form.specs.Writable.{writable}
 use Rattle.glyph_form.specs.Form.{formOf}
 use Rattle.glyph_form.specs.Answers.{given, answerOf, Did}
+use Rattle.glyph_demands.specs.Answered.{has}
+use Rattle.glyph_told.specs.Tables.{Words}
+use Rattle.glyph_written.specs.RowKinds.{glyphKinds}
+use Rattle.glyph_written.proofs.RowKinds.{glyph-has}
+use Rattle.glyph_writing_demands.specs.Accepting.{Says, AcceptedFor, RefusedFor, no-limit, long-text, not-writable, long-form, short-output}
 use Rattle.glyph_writing_demands.proofs.Tables.{read-writable, read-short}
 
 -- an answer behind a test
 given-written : (b : Bool) (m : Refusal) (o : Answer) {n : ℕ} → given b m o ≡ Written n → (b ≡ true) × (o ≡ Written n)
 given-written true m o e = (refl, e)
 given-written false m o e = let z : _≡_ {A = ℕ} 0 1 = cc in absurd (omega arith)
-
--- what acceptance with length n asks: the limit is one of 1 to 32, the text bytes are at most 65,536, the table is writable, and its form, which is n
--- bytes long, is at most 65,536 and fits the output
-pub record AcceptedFor (e : Edition) (limit : ℕ) (T : List ℕ) (rows : ℕ) (s : List ℕ) (room n : ℕ) : Type 0 where
-  pub stated : allowed limit ≡ true
-  pub text : length s ≤ 65536
-  pub shape : writable e limit T rows s ≡ true
-  pub long : n ≡ length (formOf e limit T s)
-  pub most : n ≤ 65536
-  pub fits : n ≤ room
-
--- why the writer refuses, in order: each test after those before it held
-pub data RefusedFor (e : Edition) (limit : ℕ) (T : List ℕ) (rows : ℕ) (s : List ℕ) (room : ℕ) : Refusal → Type 0 where
-  no-limit : allowed limit ≡ false → RefusedFor e limit T rows s room NoLimit
-  long-text : allowed limit ≡ true → 65536 < length s → RefusedFor e limit T rows s room TooLong
-  not-writable : allowed limit ≡ true → length s ≤ 65536 → writable e limit T rows s ≡ false → RefusedFor e limit T rows s room NotWritable
-  long-form :
-      allowed limit ≡ true → length s ≤ 65536 → writable e limit T rows s ≡ true → 65536 < length (formOf e limit T s) → RefusedFor e limit T rows s room FormTooLong
-  short-output :
-      allowed limit ≡ true → length s ≤ 65536 → writable e limit T rows s ≡ true → length (formOf e limit T s) ≤ 65536 → room < length (formOf e limit T s)
-      → RefusedFor e limit T rows s room OutputTooShort
 
 -- what a refusal says that comes from the first of five tests that does not hold
 first-of :
@@ -98,31 +83,49 @@ module _ (e : Edition) (limit : ℕ) (T : List ℕ) (rows : ℕ) (s : List ℕ) 
           rw (h .stated, le-leb (length s) 65536 (h .text), h .shape, le-leb size 65536 c, le-leb size room d, h .long)
 
   -- ORDER: the writer refuses with 23, 10, 11, 12 and 13 in this order, each exactly for its reason, and with no other number.
-  pub refused-exactly : {m : Refusal} → (answerOf e limit T rows s room ≡ Refused m) ↔ RefusedFor e limit T rows s room m
+  pub refused-exactly : {n : ℕ} → Says n (answerOf e limit T rows s room) ↔ RefusedFor e limit T rows s room n
   unfolding answerOf
-  refused-exactly {m} = (there, back)
+  refused-exactly {n} = (there, back)
     where
-      there : answerOf e limit T rows s room ≡ Refused m → RefusedFor e limit T rows s room m
+      there : Says n (answerOf e limit T rows s room) → RefusedFor e limit T rows s room n
       there h =
-          first-of (allowed limit) (leb (length s) 65536) (writable e limit T rows s) (leb size 65536) (leb size room) size (RefusedFor e limit T rows s room) h
+          rw (← h .number-is)
+          (first-of (allowed limit) (leb (length s) 65536) (writable e limit T rows s) (leb size 65536) (leb size room) size (λ m. RefusedFor e limit T rows s room (numberOf m)) (h .is)
           no-limit
           (λ l a. long-text l (leb-false (length s) 65536 a))
           (λ l a b. not-writable l (leb-true (length s) 65536 a) b)
           (λ l a b c. long-form l (leb-true (length s) 65536 a) b (leb-false size 65536 c))
-          (λ l a b c d. short-output l (leb-true (length s) 65536 a) b (leb-true size 65536 c) (leb-false size room d))
+          (λ l a b c d. short-output l (leb-true (length s) 65536 a) b (leb-true size 65536 c) (leb-false size room d)))
 
-      back : {m : Refusal} → RefusedFor e limit T rows s room m → answerOf e limit T rows s room ≡ Refused m
-      back (no-limit l) = rw l
-      back (long-text l a) = rw (l, lt-leb (length s) 65536 a)
-      back (not-writable l a b) = rw (l, le-leb (length s) 65536 a, b)
-      back (long-form l a b c) = rw (l, le-leb (length s) 65536 a, b, lt-leb size 65536 c)
-      back (short-output l a b c d) = rw (l, le-leb (length s) 65536 a, b, le-leb size 65536 c, lt-leb size room d)
+      back : {n : ℕ} → RefusedFor e limit T rows s room n → Says n (answerOf e limit T rows s room)
+      back (no-limit l) = record { refusal = NoLimit; is = rw l; number-is = refl }
+      back (long-text l a) = record { refusal = TooLong; is = rw (l, lt-leb (length s) 65536 a); number-is = refl }
+      back (not-writable l a b) = record { refusal = NotWritable; is = rw (l, le-leb (length s) 65536 a, b); number-is = refl }
+      back (long-form l a b c) = record { refusal = FormTooLong; is = rw (l, le-leb (length s) 65536 a, b, lt-leb size 65536 c); number-is = refl }
+      back (short-output l a b c d) =
+          record { refusal = OutputTooShort; is = rw (l, le-leb (length s) 65536 a, b, le-leb size 65536 c, lt-leb size room d); number-is = refl }
 
 -- a call of the writer
 module _ (e : Edition) (limit : ℕ) (T : List ℕ) (rows : ℕ) (s out₀ out : List ℕ) where
   -- REFUSED: all zeros.
   pub refused-zeros : {m : Refusal} → Did e limit T rows s out₀ out (Refused m) → out ≡ replicate (length out₀) 0
   refused-zeros d = d .leaves
+
+  -- 23 is said, with zeros, for a limit that is not 1 to 32.
+  pub unlimited : allowed limit ≡ false → {a : Answer} → Did e limit T rows s out₀ out a → Says 23 a × (out ≡ replicate (length out₀) 0)
+  unlimited h {a} d =
+      let x : Says 23 a = rw (d .says) (refused-exactly e limit T rows s (length out₀) .1 (no-limit h)) in
+      (x, d .leaves ∙ rw (x .is))
+
+  -- LACKED. 11 is said, after 23 and 10, for a table with a stated row of a kind that the edition lacks.
+  pub lacked :
+      Words T → allowed limit ≡ true → length s ≤ 65536 → (r : ℕ) → r < rows → has (glyphKinds e) (rowAt (roomOf 4096 (length T)) T r .kind) ≡ false
+      → {a : Answer} → Did e limit T rows s out₀ out a → Says 11 a
+  lacked w ok short r k h d = rw (d .says) (refused-exactly e limit T rows s (length out₀) .1 (not-writable ok short (go (writable e limit T rows s) refl)))
+    where
+      go : (b : Bool) → writable e limit T rows s ≡ b → writable e limit T rows s ≡ false
+      go true i = absurd (clash (glyph-has limit T rows s w e i r k) h)
+      go false i = i
 
   -- WRITTEN: the form, and zeros behind it, as many bytes as there were.
   pub written-whole :
@@ -146,15 +149,18 @@ module _
     (e : Edition) (limit : ℕ) (s : List ℕ) (words : ℕ) {T : List ℕ} {n used : ℕ} (d : Answers (reading e limit s words) words T (Accepted n used))
     (later : ℕ) (h : limit ≤ later)
   where
-    neither : (room : ℕ) {m : Refusal} → RefusedFor e later T n s room m → (numberOf m ≡ 11 → ⊥) × (numberOf m ≡ 12 → ⊥)
+    neither : (room : ℕ) {m : ℕ} → RefusedFor e later T n s room m → (m ≡ 11 → ⊥) × (m ≡ 12 → ⊥)
     neither room (no-limit i) = (λ z. omega arith, λ z. omega arith)
     neither room (long-text i a) = (λ z. omega arith, λ z. omega arith)
     neither room (not-writable i a b) = (λ z. clash (read-writable e limit s words d later h (limit-most later i)) b, λ z. omega arith)
     neither room (long-form i a b c) = (λ z. omega arith, λ z. let k = read-short e limit s words d later h (limit-most later i) in omega (arith, c, k .0, k .1, k .2))
     neither room (short-output i a b c g) = (λ z. omega arith, λ z. omega arith)
 
-    pub from-the-reader : (out₀ out : List ℕ) {m : Refusal} → Did e later T n s out₀ out (Refused m) → (numberOf m ≡ 11 → ⊥) × (numberOf m ≡ 12 → ⊥)
-    from-the-reader out₀ out w = neither (length out₀) (refused-exactly e later T n s (length out₀) .0 (sym (w .says)))
+    pub from-the-reader : (out₀ out : List ℕ) {a : Answer} → Did e later T n s out₀ out a → (Says 11 a → ⊥) × (Says 12 a → ⊥)
+    from-the-reader out₀ out {a} w = (λ x. why x .0 refl, λ x. why x .1 refl)
+      where
+        why : {k : ℕ} → Says k a → (k ≡ 11 → ⊥) × (k ≡ 12 → ⊥)
+        why x = neither (length out₀) (refused-exactly e later T n s (length out₀) .0 (rw (w .says) at x))
 
     -- WRITTEN OR 13, if that limit is one of 1 to 32; and an output as long as the bytes that the message used is long enough.
     pub written-or-short : allowed later ≡ true → (room : ℕ) → answerOf e later T n s room ≡ given (leb (length (formOf e later T s)) room) OutputTooShort (Written (length (formOf e later T s)))

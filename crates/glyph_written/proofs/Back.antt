@@ -20,7 +20,8 @@ use Rattle.glyph_back.proofs.Back.{read-back}
 use Rattle.glyph_back.proofs.Derived.{brief, distinct}
 use Rattle.glyph_back.proofs.Sizes.{size}
 use Rattle.glyph_told.proofs.Shorter.{no-longer as shorter}
-use Rattle.glyph_demands.proofs.Reading.{Allowed, Derived, Accepts, sound, complete, one-meaning}
+use Rattle.glyph_demands.specs.Answered.{Allowed, Derived}
+use Rattle.glyph_demands.proofs.Reading.{Accepts, sound, complete, one-meaning}
 
 -- t is what some bytes mean in an edition, its texts of fewer than 10,000,000,000 bytes each; those of a message or a table have 65,536 at most
 pub record Means (e : Edition) (d : ℕ) (t : Tree) : Type 0 where
