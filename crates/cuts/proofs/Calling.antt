@@ -19,7 +19,7 @@ use Rattle.pieces.specs.declared.PieceRefusal.the-variants.{Message}
 use Rattle.pieces.specs.declared.State.{State}
 use Rattle.pieces.specs.declared.State.the-variants.{More, Accepted, Refused}
 use Rattle.pieces.specs.Pieces.{outcome, wanting, through, roomWith}
-use Rattle.pieces.specs.Steps.{pickState, stillMore, stateOf, stateWent, roomWent, tableWent, Went}
+use Rattle.pieces.specs.Steps.{pickState, stillMore, wantedOf, stateOf, stateWent, roomWent, tableWent, Went}
 use Rattle.cuts.proofs.Outcomes.{View, cut-short, other, view, stays-cut, within, outcome-over, outcome-settled, wanting-within, through-more, through-done}
 use Rattle.cuts.proofs.Holding.{cut, length-cut, room-next, held-next, fits}
 
@@ -28,11 +28,12 @@ abbrev pub decidedAs : Reading → State
 decidedAs (got rows used book) = Accepted (length rows) used
 decidedAs (refused m place) = Refused (Message m) place
 
--- a state, against the bytes through the deciding piece. Of `wanted` it says: with fewer bytes, whatever they are, nothing changes
+-- a state, against the bytes through the deciding piece. Of `wanted` it says: with fewer bytes, whatever they are, nothing changes, and it is at
+-- most 65,537
 pub data Is (limit : ℕ) (s : List ℕ) (words : ℕ) (T : List ℕ) : State → Type 0 where
   waiting :
-      {held wanted q : ℕ} → held ≡ length s → outcome limit s words ≡ refused Ended q
-      → ((ys : List ℕ) → length (s ++ ys) ≤ 65536 → length (s ++ ys) < wanted → reading limit (s ++ ys) words ≡ refused Ended q)
+      {held wanted q : ℕ} → held ≡ length s → outcome limit s words ≡ refused Ended q → wanted ≤ 65537
+      → ((ys : List ℕ) → length (s ++ ys) < wanted → reading limit (s ++ ys) words ≡ refused Ended q)
       → (0 < wanted → T ≡ replicate words 0) → Is limit s words T (More held wanted q)
   done : {state : State} → wanting limit s words ≡ false → state ≡ decidedAs (outcome limit s words) → T ≡ tableOf words (outcome limit s words) → Is limit s words T state
 
@@ -60,17 +61,15 @@ module _ (limit : ℕ) (ok : allowed limit ≡ true) (s p : List ℕ) (words : �
 
   -- fewer bytes are held than are wanted: nothing is read
   skipped :
-      (wanted q : ℕ) (T : List ℕ)
-      → ((ys : List ℕ) → length (s ++ ys) ≤ 65536 → length (s ++ ys) < wanted → reading limit (s ++ ys) words ≡ refused Ended q) → T ≡ replicate words 0
+      (wanted q : ℕ) (T : List ℕ) → wanted ≤ 65537
+      → ((ys : List ℕ) → length (s ++ ys) < wanted → reading limit (s ++ ys) words ≡ refused Ended q) → T ≡ replicate words 0
       → length s + taken (length s) p < wanted → Known limit (s ++ p) words T (stillMore (length s) (length p) wanted q)
-  skipped wanted q T law zeros h = by (ltb (65536 - length s) (length p)) refl
+  skipped wanted q T most law zeros h = by (ltb (65536 - length s) (length p)) refl
     where
       here : reading limit (take 65536 (s ++ p)) words ≡ refused Ended q
       here =
           rw (cut s p [] short)
-          (law (take (taken (length s) p) p)
-          (omega (arith, ap length (cut s p [] short), length-cut s p [] short))
-          (omega (arith, ap length (cut s p [] short), length-cut s p [] short)))
+          (law (take (taken (length s) p) p) (omega (arith, ap length (cut s p [] short), length-cut s p [] short)))
 
       by :
           (b : Bool) → ltb (65536 - length s) (length p) ≡ b
@@ -80,8 +79,8 @@ module _ (limit : ℕ) (ok : allowed limit ≡ true) (s p : List ℕ) (words : �
           let o : outcome limit (s ++ p) words ≡ refused Ended q = outcome-fits (ltb-false _ _ e) ∙ here in
           record {
             is =
-                waiting {wanted = wanted} (sym (length-append s p)) o
-                (λ ys k l. rw (append-assoc s p ys) (law (p ++ ys) (rw (append-assoc s p ys) at k) (rw (append-assoc s p ys) at l))) (λ k. zeros);
+                waiting {wanted = wanted} (sym (length-append s p)) o most
+                (λ ys l. rw (append-assoc s p ys) (law (p ++ ys) (rw (append-assoc s p ys) at l))) (λ k. zeros);
             table = rw o zeros;
           }
 
@@ -108,7 +107,10 @@ module _ (limit : ℕ) (ok : allowed limit ≡ true) (s p : List ℕ) (words : �
           let r : reading limit (s ++ p) words ≡ refused Ended q = rw g at e in
           rw f
           (rw g
-          (record { is = waiting (sym (length-append s p)) x (λ ys k l. stays-cut limit ok words (s ++ p) ys k q r l) (λ k. z); table = rw x z }))
+          (record {
+            is = waiting {wanted = wantedOf (s ++ p) q} (sym (length-append s p)) x (omega arith) (λ ys l. stays-cut limit ok words (s ++ p) ys (omega (arith, l)) q r (omega (arith, l))) (λ k. z);
+            table = rw x z;
+          }))
       of o (other h) e b f =
           let i : refusedWithOne (reading limit (take 65536 (s ++ p)) words) ≡ false = ap refusedWithOne e ∙ h in
           let z : T ≡ tableOf words o = rw e at t in
@@ -195,11 +197,11 @@ pub record Next (limit : ℕ) (s R₀ : List ℕ) (words : ℕ) (state : State) 
 
 step-more :
     (limit : ℕ) (ok : allowed limit ≡ true) (s p R₀ : List ℕ) (words wanted q : ℕ) (T R′ T′ : List ℕ) (state : State)
-    → length T ≡ words → outcome limit s words ≡ refused Ended q
-    → ((ys : List ℕ) → length (s ++ ys) ≤ 65536 → length (s ++ ys) < wanted → reading limit (s ++ ys) words ≡ refused Ended q)
+    → length T ≡ words → outcome limit s words ≡ refused Ended q → wanted ≤ 65537
+    → ((ys : List ℕ) → length (s ++ ys) < wanted → reading limit (s ++ ys) words ≡ refused Ended q)
     → (0 < wanted → T ≡ replicate words 0) → Plain limit (More (length s) wanted q) p (roomWith s R₀) T R′ T′ state
     → Next limit (s ++ p) R₀ words state R′ T′
-step-more limit ok s p R₀ words wanted q T R′ T′ state l o law zeros w = by (ltb (length s + taken (length s) p) wanted) refl
+step-more limit ok s p R₀ words wanted q T R′ T′ state l o most law zeros w = by (ltb (length s + taken (length s) p) wanted) refl
   where
     short : length s ≤ 65536
     short = wanting-within limit ok words s (ap refusedWithOne o)
@@ -210,7 +212,7 @@ step-more limit ok s p R₀ words wanted q T R′ T′ state l o law zeros w = b
         let a : state ≡ stillMore (length s) (length p) wanted q = w .says ∙ says-more limit s p R₀ wanted q T short (length T) ∙ rw e in
         let t : T′ ≡ T = w .table ∙ table-more limit s p R₀ wanted q T short ∙ rw e in
         let k : Known limit (s ++ p) words T (stillMore (length s) (length p) wanted q)
-        = skipped limit ok s p words short wanted q T law (zeros (omega arith)) h in
+        = skipped limit ok s p words short wanted q T most law (zeros (omega arith)) h in
         rw (a, t) (record { stands = record { room = w .room ∙ room-more limit s p R₀ wanted q T short; size = l; is = k .is }; table = k .table })
     by false e =
         let a : state ≡ stateOf (length s) (length p) (take 65536 (s ++ p)) (reading limit (take 65536 (s ++ p)) words)
@@ -259,9 +261,9 @@ pub step :
     (limit : ℕ) (ok : allowed limit ≡ true) (s p R₀ : List ℕ) (words : ℕ) {state : State} (R T R′ T′ : List ℕ) (state′ : State)
     → R ≡ roomWith s R₀ → length T ≡ words → Is limit s words T state → Plain limit state p R T R′ T′ state′
     → Next limit (through limit words s (p ∷ [])) R₀ words state′ R′ T′
-step limit ok s p R₀ words R T R′ T′ state′ e l (waiting {held = held} {wanted = wanted} {q = q} h o law zeros) w =
+step limit ok s p R₀ words R T R′ T′ state′ e l (waiting {held = held} {wanted = wanted} {q = q} h o most law zeros) w =
     let v : Plain limit (More (length s) wanted q) p (roomWith s R₀) T R′ T′ state′ = rw (h, e) at w in
-    rw (through-more limit ok words s p (ap refusedWithOne o)) (step-more limit ok s p R₀ words wanted q T R′ T′ state′ l o law zeros v)
+    rw (through-more limit ok words s p (ap refusedWithOne o)) (step-more limit ok s p R₀ words wanted q T R′ T′ state′ l o most law zeros v)
 step limit ok s p R₀ words R T R′ T′ state′ e l (done {state = state} z i t) w =
     let v : Plain limit (decidedAs (outcome limit s words)) p R T R′ T′ state′ = rw i at w in
     let a : state′ ≡ decidedAs (outcome limit s words) = v .says ∙ state-done limit (outcome limit s words) p R (length T) in

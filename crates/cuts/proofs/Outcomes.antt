@@ -187,3 +187,37 @@ module _ (limit : ℕ) (ok : allowed limit ≡ true) (words : ℕ) where
       by : (b : Bool) → wanting limit s words ≡ b → pickBytes b (through limit words (s ++ p) ps) s ≡ through limit words (pickBytes b (s ++ p) s) ps
       by true e = refl
       by false e = sym (through-done s ps e)
+
+  -- the pieces ps, and then qs
+  pub through-append : (ps qs : List (List ℕ)) (s : List ℕ) → through limit words s (ps ++ qs) ≡ through limit words (through limit words s ps) qs
+  unfolding through
+  through-append [] qs s = refl
+  through-append (p ∷ ps) qs s = by (wanting limit s words) refl (through-append ps qs (s ++ p))
+    where
+      by :
+          (b : Bool) → wanting limit s words ≡ b
+          → through limit words (s ++ p) (ps ++ qs) ≡ through limit words (through limit words (s ++ p) ps) qs
+          → pickBytes b (through limit words (s ++ p) (ps ++ qs)) s ≡ through limit words (pickBytes b (through limit words (s ++ p) ps) s) qs
+      by true e i = i
+      by false e i = sym (through-done s qs e)
+
+  -- while more is wanted, the bytes through the deciding piece are all
+  through-all : (ps : List (List ℕ)) (s : List ℕ) → wanting limit (through limit words s ps) words ≡ true → through limit words s ps ≡ s ++ joined ps
+  unfolding through joined
+  through-all [] s w = sym (append-nil s)
+  through-all (p ∷ ps) s w = by (wanting limit s words) refl (through-all ps (s ++ p)) w
+    where
+      by :
+          (b : Bool) → wanting limit s words ≡ b
+          → (wanting limit (through limit words (s ++ p) ps) words ≡ true → through limit words (s ++ p) ps ≡ (s ++ p) ++ joined ps)
+          → wanting limit (pickBytes b (through limit words (s ++ p) ps) s) words ≡ true → pickBytes b (through limit words (s ++ p) ps) s ≡ s ++ (p ++ joined ps)
+      by true e i v = i v ∙ later s p ps
+      by false e i v = clash (sym e ∙ v) refl
+
+  pub all-joined : (ps : List (List ℕ)) → wanting limit (through limit words [] ps) words ≡ true → through limit words [] ps ≡ joined ps
+  all-joined ps w = through-all ps [] w
+
+pub joined-append : (ps qs : List (List ℕ)) → joined (ps ++ qs) ≡ joined ps ++ joined qs
+unfolding joined
+joined-append [] qs = refl
+joined-append (p ∷ ps) qs = ap (λ (l : List ℕ). p ++ l) (joined-append ps qs) ∙ sym (append-assoc p (joined ps) (joined qs))

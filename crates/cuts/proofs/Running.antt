@@ -1,7 +1,7 @@
 -- Runs of calls from `start` on, and the end call: what they come to. Assumes nothing.
 use mathlib.Core.Path.{_≡_, refl, _∙_, ap}
 use mathlib.Core.Bool.{Bool, true, false}
-use mathlib.Core.List.{List, [], _∷_}
+use mathlib.Core.List.{List, [], _∷_, _++_}
 use Prim.Native.Nat.{ℕ, _≤_}
 use native.Mathlib.Omega.{arith}
 use lib.ListN.{length, drop, replicate}
@@ -24,6 +24,13 @@ use Rattle.cuts.proofs.Outcomes.{through-step}
 use Rattle.cuts.proofs.Holding.{same-room, past}
 use Rattle.cuts.proofs.Calling.{decidedAs, Is, waiting, done, Stands, plain, Next, step}
 
+-- calls over some pieces, and then over others
+pub run-append :
+    {limit : ℕ} {ps qs : List (List ℕ)} {state between last : State} {R T R′ T′ R″ T″ : List ℕ}
+    → Runs limit ps state R T between R′ T′ → Runs limit qs between R′ T′ last R″ T″ → Runs limit (ps ++ qs) state R T last R″ T″
+run-append none then = then
+run-append (piece w run) then = piece w (run-append run then)
+
 -- nothing has come
 begins : (limit : ℕ) (ok : allowed limit ≡ true) (R T : List ℕ) → Stands limit [] R (length T) begun R T
 unfolding roomWith outcome reading messageWithin message agree
@@ -31,7 +38,7 @@ begins limit ok R T =
     record {
       room = refl;
       size = refl;
-      is = waiting {wanted = 0} {q = 0} refl (rw ok) (λ ys k l. let z : _≡_ {A = ℕ} 0 1 = omega (arith, l) in cc) (λ k. let z : _≡_ {A = ℕ} 0 1 = omega (arith, k) in cc);
+      is = waiting {wanted = 0} {q = 0} refl (rw ok) (omega arith) (λ ys l. let z : _≡_ {A = ℕ} 0 1 = omega (arith, l) in cc) (λ k. let z : _≡_ {A = ℕ} 0 1 = omega (arith, k) in cc);
     }
 
 module _ (limit : ℕ) (ok : allowed limit ≡ true) (R₀ : List ℕ) (words : ℕ) (long : 65536 ≤ length R₀) where
@@ -69,7 +76,7 @@ told-done (refused m q) = refl
 
 -- what a state tells is what the bytes through the deciding piece come to
 pub is-told : {limit : ℕ} {s : List ℕ} {words : ℕ} {T : List ℕ} {state : State} → Is limit s words T state → told state ≡ soFar (outcome limit s words)
-is-told (waiting h o law z) = rw o
+is-told (waiting h o most law z) = rw o
 is-told {limit = limit} {s = s} {words = words} (done z i t) = ap told i ∙ told-done (outcome limit s words) ∙ rw z
 
 -- a state, and a table, that are a whole message's
@@ -96,7 +103,7 @@ module _ (o : Reading) where
 pub end-is :
     (limit : ℕ) (ok : allowed limit ≡ true) {s : List ℕ} {state : State} (words bytes : ℕ) (T T′ : List ℕ) (last : State)
     → 65536 ≤ bytes → length T ≡ words → Is limit s words T state → Closed limit state bytes T T′ last → Ends (outcome limit s words) words last T′
-end-is limit ok words bytes T T′ last long l (waiting {q = q} h o law z) w =
+end-is limit ok words bytes T T′ last long l (waiting {q = q} h o most law z) w =
     let a : last ≡ Refused (Message Ended) q = simp (ok, le-ltb _ _ long) at (w .says) in
     let t : T′ ≡ replicate words 0 = rw l at (simp (ok, le-ltb _ _ long) at (w .table)) in
     rw o (record { says = ap told a; table = t })

@@ -12,7 +12,6 @@ use Rattle.draft.specs.Refusals.{numberOf, refusalOf}
 use Rattle.draft.specs.Limits.{allowed}
 use Rattle.draft.specs.Read.{Reading, got, refused}
 use Rattle.draft.proofs.Limiting.{limit-is}
-use Rattle.wanting.specs.Want.{wantOf}
 use Rattle.read_answer.specs.declared.Answer.{Answer}
 use Rattle.read_answer.specs.declared.Answer.the-variants as answer
 use Rattle.read_answer.specs.Answers.{reading, answerOf}
@@ -22,7 +21,7 @@ use Rattle.pieces.specs.declared.PieceRefusal.{PieceRefusal}
 use Rattle.pieces.specs.declared.PieceRefusal.the-variants.{Message, ShortRoom}
 use Rattle.pieces.specs.declared.State.{State}
 use Rattle.pieces.specs.declared.State.the-variants.{More, Accepted, Refused}
-use Rattle.pieces.specs.Steps.{refusalFor, stillMore, stateOf, bytesHeld, stateWent, roomWent, tableWent, Settled, Went, Closed}
+use Rattle.pieces.specs.Steps.{refusalFor, stillMore, wantedOf, stateOf, bytesHeld, stateWent, roomWent, tableWent, Settled, Went, Closed}
 
 module _ (n : ℕ) where
   pub number-short : n ≡ 4 → ShortRoom ≡ refusalFor n
@@ -55,7 +54,7 @@ module _ (held n : ℕ) (s : List ℕ) (o : Reading) (a : Answer) (d : a ≡ ans
         of (got r u b) h = cc
         of (refused m′ p) h = cc
 
-    state-more : (w : ℕ) (state : State) → numberOf m ≡ 1 → w ≡ wantOf s q → state ≡ stillMore held n w q → state ≡ stateOf held n s o
+    state-more : (w : ℕ) (state : State) → numberOf m ≡ 1 → w ≡ wantedOf s q → state ≡ stillMore held n w q → state ≡ stateOf held n s o
     state-more w state j g h = rw (is-refused, eq-eqb _ _ j, ← g) h
 
     state-refused : (numberOf m ≡ 1 → ⊥) → Refused (Message m) q ≡ stateOf held n s o
@@ -67,7 +66,7 @@ module _ (limit held n wanted : ℕ) (s T T′ : List ℕ) (a : Answer) (d : Rer
   settle-accepted rows used e = record { says = state-accepted held n s (reading limit s (length T)) a (d .says) rows used e; table = d .leaves }
 
   module _ (m : Refusal) (q x : ℕ) (e : a ≡ answer.Refused m q) (i : x ≡ numberOf m) where
-    pub settle-more : (w : ℕ) (state : State) → x ≡ 1 → w ≡ wantOf s q → state ≡ stillMore held n w q → Settled limit held n wanted s T T′ state
+    pub settle-more : (w : ℕ) (state : State) → x ≡ 1 → w ≡ wantedOf s q → state ≡ stillMore held n w q → Settled limit held n wanted s T T′ state
     settle-more w state f g h =
         record { says = state-more held n s (reading limit s (length T)) a (d .says) m q e w state (sym i ∙ f) g h; table = d .leaves }
 

@@ -2,7 +2,7 @@
 use mathlib.Core.Path.{_≡_}
 use mathlib.Core.Bool.{Bool, true, false}
 use mathlib.Core.List.{List}
-use Prim.Native.Nat.{ℕ, _+_, _-_}
+use Prim.Native.Nat.{ℕ, _+_, _-_, min}
 use lib.ListN.{length, take, replicate}
 use lib.Dec.{ltb, eqb}
 use Rattle.draft.specs.declared.Refusal.the-variants.{TooLong, Ended, NoLimit}
@@ -47,11 +47,16 @@ abbrev pub stillMore : ℕ → ℕ → ℕ → ℕ → State
 stillMore held n wanted place =
     pickState (ltb (65536 - held) n) (Refused (Message TooLong) 0) (More (held + n) wanted place)
 
--- what reading the bytes s in the room comes to; refused with 1, as many bytes are wanted as the item at its place has
+-- how many bytes are wanted where the bytes s are refused with 1 at a place: as many as the item there has, and at most 65,537, since
+-- with that byte there is an answer
+abbrev pub wantedOf : List ℕ → ℕ → ℕ
+wantedOf s place = min 65537 (wantOf s place)
+
+-- what reading the bytes s in the room comes to
 abbrev pub stateOf : ℕ → ℕ → List ℕ → Reading → State
 stateOf held n s (got rows used book) = Accepted (length rows) used
 stateOf held n s (refused m place) =
-    pickState (eqb (numberOf m) 1) (stillMore held n (wantOf s place) place) (Refused (Message m) place)
+    pickState (eqb (numberOf m) 1) (stillMore held n (wantedOf s place) place) (Refused (Message m) place)
 
 -- the bytes held after a piece
 abbrev pub bytesHeld : ℕ → List ℕ → List ℕ → List ℕ

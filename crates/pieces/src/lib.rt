@@ -6,7 +6,7 @@ ghost use mathlib.Core.Bool.{true};
 ghost use Prim.Native.Nat.{_≤_};
 ghost use lib.ListN.{length};
 ghost use Rattle.draft.specs.Limits.{allowed};
-ghost use Rattle.pieces.specs.Steps.{numberFor, refusalFor, stillMore, Settled, Went, Closed};
+ghost use Rattle.pieces.specs.Steps.{numberFor, refusalFor, stillMore, wantedOf, Settled, Went, Closed};
 ghost use Rattle.pieces.specs.Runs.{begun};
 
 // Why a message in pieces is refused: as a whole message is, or with 4.
@@ -15,8 +15,8 @@ pub enum PieceRefusal {
     ShortRoom,
 }
 
-// Where the reading of the pieces stands. If more is wanted: so many bytes are held; no other answer is possible while fewer than `wanted` are;
-// and the place is that of refusal 1, if no more came.
+// Where the reading of the pieces stands. If more is wanted: so many bytes are held; no other answer is possible while fewer than `wanted` are,
+// which is at most 65,537; and the place is that of refusal 1, if no more came.
 pub enum State {
     More {
         held: usize,
@@ -82,6 +82,18 @@ fn still(held: usize, brought: usize, wanted: usize, place: usize) -> State
     }
 }
 
+// How many bytes are wanted where those held are refused with 1 at a place: with one more than there is room for comes an answer.
+fn wanted_of(message: &[u8], place: usize) -> usize
+    requires { ⌜ length (now message) ≤ 65536 ⌝ }
+    ensures { λ r. ⌜ r ≡ wantedOf (now (message .entry)) place ⌝ }
+{
+    let wanted = want::wants(message, place);
+    if room::MOST < wanted {
+        return room::MOST + 1;
+    }
+    wanted
+}
+
 // Reads the bytes held. Before the last piece and what it brought, the first `held` of them were.
 fn settle(
     message: &[u8],
@@ -99,7 +111,7 @@ fn settle(
         Answer::Accepted { rows, used } => State::Accepted { rows, used },
         Answer::Refused { refusal, place } => {
             if draft::number(refusal) == 1 {
-                return still(held, brought, want::wants(message, place), place);
+                return still(held, brought, wanted_of(message, place), place);
             }
             State::Refused {
                 refusal: PieceRefusal::Message(refusal),

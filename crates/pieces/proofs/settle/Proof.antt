@@ -9,7 +9,7 @@ settle-spec = tie.close (tie.spec
     (λ c. search needs)  -- enum-known-answer
     (λ c. search needs)  -- enum-known-answer-2
     (λ c κs. search needs)  -- number-requires
-    (λ c κs. search needs)  -- wants-requires
+    (λ c κs. search needs)  -- wanted-of-requires
     (λ c κs. search needs)  -- still-requires
     (λ c. search needs)  -- same-length
     (λ c. search piecing)  -- returns
