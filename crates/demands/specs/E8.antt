@@ -45,7 +45,6 @@ pub record E8 : Type 0 where
   pub each-key :
       (c : Source) (es : List Member) (keys ends : List ℕ) (n i : ℕ) (d : Report) → i < n
       → getD (reportsOf (c .table) (c .rows) (c .text) (c .row) es keys ends n) i d ≡ reportOf (lookedThrough c es (keyAt keys ends i))
-
   -- 'Handed any other list, 11 apart, it answers as that search does or 18, and always 18 if no entry names the key's two rows: a free result in 01's
   -- sense, and this is its property.'
   pub any-list : (c : Source) → Below 4294967296 (c .table) → isWritable c ≡ true → (es : List Member) (key : List ℕ) → Free c es key (lookedThrough c es key)
@@ -54,7 +53,6 @@ pub record E8 : Type 0 where
       → told (lookedThrough c es key) ≡ 18
   pub eleven-apart :
       (c : Source) → Below 4294967296 (c .table) → (es : List Member) (key : List ℕ) → (told (lookedThrough c es key) ≡ 11) ↔ (isWritable c ≡ false)
-
   -- 'Refusals: 11,'
   pub eleven : (c : Source) → Below 4294967296 (c .table) → (n answer : ℕ) (es : List Member) → Fills c n answer es → (answer ≡ 11) ↔ (isWritable c ≡ false)
   -- '18 as in E5,'

@@ -30,7 +30,6 @@ pub record E9 : Type 0 where
   pub card-alone :
       (card : Source) (key : List ℕ) (m : Member) → Has card key m → isWritable card ≡ true → Below 4294967296 (card .table) → (d d′ : Source) → Fit d → Fit d′
       → chosen card d key ≡ chosen card d′ key
-
   -- 'What comes back is a part of the card's bytes or of the defaults' bytes, and which.' 0 names the card, 1 the defaults.
   pub card-part :
       (card defaults : Source) (key : List ℕ) (s d r : RefT (List ℕ)) (number from o n : ℕ) → Handed s d (chosen card defaults key) r number from
