@@ -49,7 +49,6 @@ pub record E5 : Type 0 where
       (c : Source) → Below 4294967296 (c .table) → (x y turn : Float)
       → (placed c ≡ acceptedAt (at x y turn))
       ↔ ((isWritable c ≡ true) × DoubleOf c (bytes "x") x × DoubleOf c (bytes "y") y × DoubleOf c (bytes "turn") turn)
-
   -- 'Looking up a member yields a whole number, a decimal, a yes or no, a text, or another item's row; [..] A DateTime, Binary, Array, Struct or Other
   -- answers with its row; a text is a String's offset and length.' By the kind of the member's value; and, of a message that was read, by what the
   -- draft derives for it.
@@ -62,7 +61,6 @@ pub record E5 : Type 0 where
   -- 'with repeated keys the first wins': E7 leaves none, so of a writable table the member with a key is the only one.
   pub only-one :
       (c : Source) → isWritable c ≡ true → Below 4294967296 (c .table) → (key : List ℕ) (m m′ : Member) → Has c key m → Has c key m′ → m ≡ m′
-
   -- 'A decimal holds at most 15 digits after leading zeros are dropped and at most 22 after the point.'
   pub decimal-holds :
       (sign before fraction t : List ℕ) → Written sign before fraction t
@@ -74,10 +72,8 @@ pub record E5 : Type 0 where
       ≡ Value (signed (same sign (code "-" ∷ [])) (div binary64 (ofInt binary64 (pos (whole 0 (counted before fraction)))) (power (length fraction))))
   -- 'Powers come from a table of the powers of ten up to 22.' The table is `decimal`'s POWERS, whose entry k `decimal::power` equates with `power k`.
   pub powers : (k : ℕ) → k ≤ 22 → HasValue (power k) false (10 ^ k) 1
-
   -- 'A position keeps x, y and turn together as decimals, each from a Double.' This is position-taken. 'A refused one is three plus zeros.'
   pub refused-zeros : (c : Source) → Below 4294967296 (c .table) → (placedNumber c ≡ 0 → ⊥) → placed c .position ≡ at plusZero plusZero plusZero
-
   -- 'Refusals: 11 first, for an unwritable table;'
   pub eleven : (c : Source) → Below 4294967296 (c .table) → (key : List ℕ) → (told (looked c key) ≡ 11) ↔ (isWritable c ≡ false)
   pub position-eleven : (c : Source) → Below 4294967296 (c .table) → (placedNumber c ≡ 11) ↔ (isWritable c ≡ false)

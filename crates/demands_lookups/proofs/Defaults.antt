@@ -6,46 +6,34 @@ use mathlib.Core.Logic.{_↔_}
 use mathlib.Core.List.{List, []}
 use Prim.Native.Nat.{ℕ, _+_, _≤_, min}
 use native.Mathlib.Omega.{arith}
+use lib.Dec.{eqb}
 use lib.ListN.{length}
 use denote.Ref.{RefT, now}
+use borrow.Author.Tests.{eqb-true, eqb-false}
+use Rattle.text.proofs.Comparing.{clash}
 use Rattle.decimal.specs.Decimal.{decimalOf}
-use Rattle.draft.specs.Bytes.{part}
 use Rattle.draft.specs.Grammar.{Cell}
+use Rattle.member.specs.declared.Member.{Member}
 use Rattle.member.specs.declared.Found.{Found}
 use Rattle.member.specs.declared.Found.the-variants as found
-use Rattle.member.specs.Members.{isStruct, members, find}
+use Rattle.member.specs.Members.{isStruct}
 use Rattle.lookup_answer.specs.declared.Answer.{Answer}
 use Rattle.lookup_answer.specs.declared.Answer.the-variants as answer
-use Rattle.lookup_answer.specs.Answers.{look, lookup}
+use Rattle.lookup_answer.specs.Answers.{look}
 use Rattle.choice.specs.declared.Held.{Held}
 use Rattle.choice.specs.declared.Held.the-variants as held
-use Rattle.choice.specs.declared.Refusal.{Refusal}
-use Rattle.choice.specs.declared.Refusal.the-variants.{NotWritable, NoMember}
+use Rattle.choice.specs.declared.Refusal.the-variants.{NoMember}
 use Rattle.choice.specs.declared.Choice.{Choice}
 use Rattle.choice.specs.declared.Choice.the-variants.{Card, Defaults, Refused}
-use Rattle.choice.specs.Choosing.{numberOf, preferred, byteOf, Handed}
-use Rattle.defaults.specs.Defaults.{Source, heldIn, structsThen, rowIn, isWritable, chosen, unless}
+use Rattle.choice.specs.Choosing.{preferred, byteOf, choiceNumber, Handed}
+use Rattle.defaults.specs.Defaults.{Source, pickHeld, textAt, foundText, heldIn, unless, structsThen, rowIn, isWritable, chosen}
 use Rattle.sources.proofs.Asking.{decimal-other, Agrees, agrees, card-of, card-by, defaults-of, defaults-by, unchanged, Some, of-card, of-defaults, past-refusals}
 use Rattle.meant.specs.Meant.{Meaning, Answers, whole-number, yes-or-no, decimal, text, datetime, binary, array, struct, other, Said, no-member, this-member, later-member, Answered, in-struct, no-struct}
 use Rattle.demands_writing.proofs.Writing.{Words, form-derived, judged}
+use Rattle.demands_lookups.specs.Asked.{looked, Has, Without, kindIn}
+use Rattle.demands_lookups.specs.Handed.{Fit, NoText, card-no-struct, defaults-no-struct, neither, card-no-string, defaults-no-string, Lies}
 use Rattle.demands_lookups.proofs.Lookups.{table-says}
-
--- E5's lookup
-abbrev pub looked : Source → List ℕ → Answer
-looked c key = lookup (c .table) (c .rows) (c .text) (c .row) key
-
--- the Struct's first member with a key, or that it lacks the key
-abbrev pub foundIn : Source → List ℕ → Found
-foundIn c key = find (rowIn c) (c .text) key (members (rowIn c) (c .rows) (c .row))
-
--- a writable table, and a Struct's row
-pub record Fit (c : Source) : Type 0 where
-  pub writes : isWritable c ≡ true
-  pub structs : isStruct (rowIn c) (c .rows) (c .row) ≡ true
-
-looks : (c : Source) (key : List ℕ) → isWritable c ≡ true → look (rowIn c) (c .rows) (c .text) (c .row) key ≡ looked c key
-unfolding lookup
-looks c key e = rw e
+use Rattle.demands_lookups.proofs.Refusals.{foundIn, has-by, found-without, without-found, only-one, looks}
 
 module _ (card defaults : Source) (key : List ℕ) where
   -- what each of the two has
@@ -77,37 +65,29 @@ module _ (card defaults : Source) (key : List ℕ) where
     -- THE CARD'S. The text is the card's exactly if both are fit and E5's lookup in the card answers with that text.
     pub card-text : (chosen card defaults key ≡ Card o n) ↔ (Fit card × Fit defaults × (looked card key ≡ answer.Text o n))
     card-text = (
-      λ e. let h = fit of-card e in (h .0, h .1, sym (looks card key (h .0 .writes)) ∙ card-by theirs own-agrees (h .2)),
-      λ (f, g, e). fit-chosen f g ∙ card-of theirs own-agrees (looks card key (f .writes) ∙ e),
+      λ e. let h = fit of-card e in (h .0, h .1, looks card key (h .0 .writes) ∙ card-by theirs own-agrees (h .2)),
+      λ (f, g, e). fit-chosen f g ∙ card-of theirs own-agrees (sym (looks card key (f .writes)) ∙ e),
     )
 
     -- THE DEFAULTS'. It is the defaults' exactly if both are fit, the card's Struct lacks the key, and E5's lookup in the defaults answers with it.
     pub defaults-text :
-        (chosen card defaults key ≡ Defaults o n)
-        ↔ (Fit card × Fit defaults × (foundIn card key ≡ found.Absent) × (looked defaults key ≡ answer.Text o n))
-    defaults-text = (
+        Words (card .table) → (chosen card defaults key ≡ Defaults o n) ↔ (Fit card × Fit defaults × Without card key × (looked defaults key ≡ answer.Text o n))
+    defaults-text w = (
       λ e.
           let h = fit of-defaults e in
           let i = defaults-by own-agrees their-agrees (h .2) in
-          (h .0, h .1, i .0, sym (looks defaults key (h .1 .writes)) ∙ i .1),
-      λ (f, g, i, e). fit-chosen f g ∙ defaults-of own-agrees their-agrees i (looks defaults key (g .writes) ∙ e),
+          (h .0, h .1, found-without card (h .0 .writes) w key (i .0), looks defaults key (h .1 .writes) ∙ i .1),
+      λ (f, g, i, e). fit-chosen f g ∙ defaults-of own-agrees their-agrees (without-found card key i) (sym (looks defaults key (g .writes)) ∙ e),
     )
-
-  -- UNWRITABLE first: 11 for the card's table, and for the defaults', whatever the card has.
-  pub card-unwritable : isWritable card ≡ false → chosen card defaults key ≡ Refused NotWritable
-  unfolding chosen
-  card-unwritable e = rw e
-
-  pub defaults-unwritable : isWritable card ≡ true → isWritable defaults ≡ false → chosen card defaults key ≡ Refused NotWritable
-  unfolding chosen
-  defaults-unwritable e f = rw (e, f)
 
 -- THE DEFAULTS NEVER CHANGE what a card that has the key gives, be it a text or a refusal, whatever they hold, as long as they are fit.
 pub defaults-change-nothing :
-    (card : Source) (key : List ℕ) → (foundIn card key ≡ found.Absent → ⊥) → (d d′ : Source) → Fit d → Fit d′ → chosen card d key ≡ chosen card d′ key
+    (card : Source) (key : List ℕ) {m : Member} → Has card key m → isWritable card ≡ true → Words (card .table) → (d d′ : Source) → Fit d → Fit d′
+    → chosen card d key ≡ chosen card d′ key
 unfolding chosen structsThen
-defaults-change-nothing card key has d d′ f f′ =
-    rw (f .writes, f′ .writes, f .structs, f′ .structs, unchanged (theirs card d key) (theirs card d′ key) (own-agrees card d key) has)
+defaults-change-nothing card key {m} has e w d d′ f f′ =
+    let there : foundIn card key ≡ found.Absent → ⊥ = λ i. found-without card e w key i m has in
+    rw (f .writes, f′ .writes, f .structs, f′ .structs, unchanged (theirs card d key) (theirs card d′ key) (own-agrees card d key) there)
 
 -- INSIDE. A text that is handed out lies wholly in the bytes of the one that it is of.
 value-inside : {s : List ℕ} {r o n : ℕ} {cs : List Cell} {a : Answer} → Answers s r cs a → a ≡ answer.Text o n → o + n ≤ length s
@@ -134,59 +114,135 @@ looked-inside : (c : Source) (key : List ℕ) {o n : ℕ} → Words (c .table) �
 looked-inside c key w e i =
     answered-inside (table-says (c .table) (c .rows) (c .text) e (form-derived 32 (c .table) (c .rows) (c .text) (sym (judged (c .table) (c .rows) (c .text)) ∙ e) w) (c .row) key) i
 
-module _ (card defaults : Source) (key : List ℕ) {o n : ℕ} where
-  pub card-inside : Words (card .table) → chosen card defaults key ≡ Card o n → o + n ≤ length (card .text)
-  card-inside w e = let h = card-text card defaults key .0 e in looked-inside card key w (h .0 .writes) (h .2)
-
-  pub defaults-inside : Words (defaults .table) → chosen card defaults key ≡ Defaults o n → o + n ≤ length (defaults .text)
-  defaults-inside w e = let h = defaults-text card defaults key .0 e in looked-inside defaults key w (h .1 .writes) (h .3)
-
 -- WHERE IT LIES. What is handed out is that part of that slice, not only bytes like it; refused, it is the empty start of the card's bytes, and the answer
 -- names the card.
-pub record Lies (s : RefT (List ℕ)) (o n : ℕ) (r : RefT (List ℕ)) : Type 0 where
-  pub bytes : now r ≡ part (now s) o n
-  pub first : r .ptr ≡ byteOf s o
+module _ (card defaults : Source) (key : List ℕ) {s d r : RefT (List ℕ)} {number from : ℕ} (h : Handed s d (chosen card defaults key) r number from) where
+  pub card-part :
+      Words (card .table) → now s ≡ card .text → {o n : ℕ} → chosen card defaults key ≡ Card o n → Lies s o n r × (number ≡ 0) × (from ≡ 0)
+  card-part w t {o} {n} e =
+      let f = card-text card defaults key .0 e in
+      let i : o + n ≤ length (now s) = rw t (looked-inside card key w (f .0 .writes) (f .2)) in
+      let m : min o (length (now s)) ≡ o = omega arith in
+      let g : Handed s d (Card o n) r number from = rw e at h in
+      (record { inside = i; bytes = g .gives .bytes; first = g .gives .lies ∙ ap (byteOf s) m }, g .says, g .names)
 
-module _ {card defaults r : RefT (List ℕ)} {number from : ℕ} where
-  pub card-lies : {o n : ℕ} → Handed card defaults (Card o n) r number from → o + n ≤ length (now card) → Lies card o n r × (number ≡ 0) × (from ≡ 0)
-  card-lies {o} h i =
-      let m : min o (length (now card)) ≡ o = omega arith in
-      (record { bytes = h .gives .bytes; first = h .gives .lies ∙ ap (byteOf card) m }, h .says, h .names)
+  pub defaults-part :
+      Words (card .table) → Words (defaults .table) → now d ≡ defaults .text → {o n : ℕ} → chosen card defaults key ≡ Defaults o n
+      → Lies d o n r × (number ≡ 0) × (from ≡ 1)
+  defaults-part w w′ t {o} {n} e =
+      let f = defaults-text card defaults key w .0 e in
+      let i : o + n ≤ length (now d) = rw t (looked-inside defaults key w′ (f .1 .writes) (f .3)) in
+      let m : min o (length (now d)) ≡ o = omega arith in
+      let g : Handed s d (Defaults o n) r number from = rw e at h in
+      (record { inside = i; bytes = g .gives .bytes; first = g .gives .lies ∙ ap (byteOf d) m }, g .says, g .names)
 
-  pub defaults-lies : {o n : ℕ} → Handed card defaults (Defaults o n) r number from → o + n ≤ length (now defaults) → Lies defaults o n r × (number ≡ 0) × (from ≡ 1)
-  defaults-lies {o} h i =
-      let m : min o (length (now defaults)) ≡ o = omega arith in
-      (record { bytes = h .gives .bytes; first = h .gives .lies ∙ ap (byteOf defaults) m }, h .says, h .names)
+  pub refused-part : (number ≡ 0 → ⊥) → (now r ≡ []) × (r .ptr ≡ byteOf s 0) × (from ≡ 0)
+  refused-part n = go (chosen card defaults key) h
+    where
+      go : (c : Choice) → Handed s d c r number from → (now r ≡ []) × (r .ptr ≡ byteOf s 0) × (from ≡ 0)
+      go (Card o k) g = absurd (n (g .says))
+      go (Defaults o k) g = absurd (n (g .says))
+      go (Refused why) g =
+          let m : min 0 (length (now s)) ≡ 0 = omega arith in
+          (g .gives .bytes, g .gives .lies ∙ ap (byteOf s) m, g .names)
 
-  pub refused-lies :
-      {why : Refusal} → Handed card defaults (Refused why) r number from
-      → (now r ≡ []) × (r .ptr ≡ byteOf card 0) × (number ≡ numberOf why) × (from ≡ 0)
-  refused-lies h =
-      let m : min 0 (length (now card)) ≡ 0 = omega arith in
-      (h .gives .bytes, h .gives .lies ∙ ap (byteOf card) m, h .says, h .names)
+-- ---- the numbers
 
--- REFUSED EXACTLY. 11 only if one of the two tables is not writable; so every other refusal is 18.
-pub eleven-only : (card defaults : Source) (key : List ℕ) → chosen card defaults key ≡ Refused NotWritable → (isWritable card && isWritable defaults) ≡ false
-unfolding chosen structsThen
-eleven-only card defaults key e =
-    through (isWritable card) (isWritable defaults) (isStruct (rowIn card) (card .rows) (card .row)) (isStruct (rowIn defaults) (defaults .rows) (defaults .row))
-    (preferred (own card defaults key) (theirs card defaults key)) (never (own card defaults key) (theirs card defaults key)) e
+-- what a Struct has under a key, by its member with the key
+data HeldIs (c : Source) (key : List ℕ) : Held → Type 0 where
+  lacks : Without c key → HeldIs c key held.Absent
+  no-string : (m : Member) → Has c key m → (kindIn c m ≡ 11 → ⊥) → HeldIs c key held.NoText
+  a-string : {o n : ℕ} (m : Member) → Has c key m → kindIn c m ≡ 11 → HeldIs c key (held.Text o n)
+
+held-is : (c : Source) (key : List ℕ) → isWritable c ≡ true → Words (c .table) → HeldIs c key (heldIn (rowIn c) (c .rows) (c .text) (c .row) key)
+unfolding heldIn textAt
+held-is c key e w = go (foundIn c key) refl
   where
-    wrong : Refused NoMember ≡ Refused NotWritable → ⊥
-    wrong e = let z : numberOf NoMember ≡ numberOf NotWritable = cc in omega (arith, z)
+    kind : (m : Member) → Has c key m → (b : Bool) → eqb (kindIn c m) 11 ≡ b
+        → HeldIs c key (pickHeld b (held.Text (rowIn c (m .value) .a) (rowIn c (m .value) .b)) held.NoText)
+    kind m h true i = a-string m h (eqb-true (kindIn c m) 11 i)
+    kind m h false i = no-string m h (eqb-false (kindIn c m) 11 i)
 
-    never : (x y : Held) → preferred x y ≡ Refused NotWritable → ⊥
-    never (held.Text o n) y e = let z : _≡_ {A = ℕ} 0 1 = cc in omega arith
-    never held.NoText y e = wrong e
-    never held.Absent held.Absent e = wrong e
-    never held.Absent held.NoText e = wrong e
-    never held.Absent (held.Text o n) e = let z : _≡_ {A = ℕ} 0 1 = cc in omega arith
+    go : (f : Found) → foundIn c key ≡ f → HeldIs c key (foundText (rowIn c) f)
+    go (found.At m) i = kind m (has-by c key i) (eqb (kindIn c m) 11) refl
+    go found.Absent i = lacks (found-without c e w key i)
 
-    through :
-        (a b c d : Bool) (x : Choice) → (x ≡ Refused NotWritable → ⊥)
-        → unless a NotWritable (unless b NotWritable (unless c NoMember (unless d NoMember x))) ≡ Refused NotWritable → (a && b) ≡ false
-    through false b c d x n e = refl
-    through true false c d x n e = refl
-    through true true false d x n e = absurd (wrong e)
-    through true true true false x n e = absurd (wrong e)
-    through true true true true x n e = absurd (n e)
+module _ (card defaults : Source) (key : List ℕ) (w : Words (card .table)) (w′ : Words (defaults .table)) where
+  -- the number, and why
+  data Numbered (n : ℕ) : Type 0 where
+    unwritable : n ≡ 11 → (isWritable card && isWritable defaults) ≡ false → Numbered n
+    no-text : n ≡ 18 → isWritable card ≡ true → isWritable defaults ≡ true → NoText card defaults key → Numbered n
+    a-text : n ≡ 0 → isWritable card ≡ true → isWritable defaults ≡ true → (NoText card defaults key → ⊥) → Numbered n
+
+  numbered : Numbered (choiceNumber (chosen card defaults key))
+  unfolding chosen structsThen
+  numbered = writable (isWritable card) refl (isWritable defaults) refl
+    where
+      -- both are fit: the member found is a String, so there is a text
+      some :
+          isWritable card ≡ true → isWritable defaults ≡ true → isStruct (rowIn card) (card .rows) (card .row) ≡ true
+          → isStruct (rowIn defaults) (defaults .rows) (defaults .row) ≡ true
+          → {x y : Held} → HeldIs card key x → HeldIs defaults key y → Numbered (choiceNumber (preferred x y))
+      some e f i j (lacks n) (lacks k) = no-text refl e f (neither n k)
+      some e f i j (lacks n) (no-string m h k) = no-text refl e f (defaults-no-string n m h k)
+      some e f i j (lacks n) (a-string m h k) = a-text refl e f no
+        where
+          no : NoText card defaults key → ⊥
+          no (card-no-struct a) = clash i a
+          no (defaults-no-struct a) = clash j a
+          no (neither a b) = b m h
+          no (card-no-string o a b) = n o a
+          no (defaults-no-string a o b l) = l (ap (kindIn defaults) (only-one defaults f w′ key b h) ∙ k)
+      some e f i j (no-string m h k) y = no-text refl e f (card-no-string m h k)
+      some e f i j (a-string m h k) y = a-text refl e f no
+        where
+          no : NoText card defaults key → ⊥
+          no (card-no-struct a) = clash i a
+          no (defaults-no-struct a) = clash j a
+          no (neither a b) = a m h
+          no (card-no-string o a b) = b (ap (kindIn card) (only-one card e w key a h) ∙ k)
+          no (defaults-no-string a o b l) = a m h
+
+      structs :
+          isWritable card ≡ true → isWritable defaults ≡ true → (b : Bool) → isStruct (rowIn card) (card .rows) (card .row) ≡ b
+          → (d : Bool) → isStruct (rowIn defaults) (defaults .rows) (defaults .row) ≡ d
+          → Numbered (choiceNumber (unless b NoMember (unless d NoMember (preferred (own card defaults key) (theirs card defaults key)))))
+      structs e f false i d j = no-text refl e f (card-no-struct i)
+      structs e f true i false j = no-text refl e f (defaults-no-struct j)
+      structs e f true i true j = some e f i j (held-is card key e w) (held-is defaults key f w′)
+
+      writable :
+          (a : Bool) → isWritable card ≡ a → (b : Bool) → isWritable defaults ≡ b → Numbered (choiceNumber (chosen card defaults key))
+      writable false e b f = rw e (unwritable refl (rw e))
+      writable true e false f = rw (e, f) (unwritable refl (rw (e, f)))
+      writable true e true f =
+          rw (e, f)
+          (structs e f (isStruct (rowIn card) (card .rows) (card .row)) refl (isStruct (rowIn defaults) (defaults .rows) (defaults .row)) refl)
+
+  -- 11 exactly if the card's table or the defaults' is not writable
+  pub eleven : (choiceNumber (chosen card defaults key) ≡ 11) ↔ ((isWritable card && isWritable defaults) ≡ false)
+  eleven = (λ h. to h numbered, λ h. from h numbered)
+    where
+      to : {n : ℕ} → n ≡ 11 → Numbered n → (isWritable card && isWritable defaults) ≡ false
+      to h (unwritable z e) = e
+      to h (no-text z e f n) = absurd (omega arith)
+      to h (a-text z e f n) = absurd (omega arith)
+
+      from : {n : ℕ} → (isWritable card && isWritable defaults) ≡ false → Numbered n → n ≡ 11
+      from h (unwritable z e) = z
+      from h (no-text z e f n) = clash (rw (e, f)) h
+      from h (a-text z e f n) = clash (rw (e, f)) h
+
+  -- 18 exactly if both are writable, and a row is no Struct's, neither has the key, or the member found is no String
+  pub eighteen : (choiceNumber (chosen card defaults key) ≡ 18) ↔ ((isWritable card ≡ true) × (isWritable defaults ≡ true) × NoText card defaults key)
+  eighteen = (λ h. to h numbered, λ (e, f, n). from e f n numbered)
+    where
+      to : {n : ℕ} → n ≡ 18 → Numbered n → (isWritable card ≡ true) × (isWritable defaults ≡ true) × NoText card defaults key
+      to h (unwritable z e) = absurd (omega arith)
+      to h (no-text z e f n) = (e, f, n)
+      to h (a-text z e f n) = absurd (omega arith)
+
+      from : {n : ℕ} → isWritable card ≡ true → isWritable defaults ≡ true → NoText card defaults key → Numbered n → n ≡ 18
+      from e f n (unwritable z h) = clash (rw (e, f)) h
+      from e f n (no-text z g h i) = z
+      from e f n (a-text z g h i) = absurd (i n)

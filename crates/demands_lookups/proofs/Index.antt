@@ -2,12 +2,13 @@
 -- member in byte order of the keys, and through it what E5's lookup gives; through any other list, that or 18. Assumes nothing.
 use mathlib.Core.Path.{_≡_, refl, sym, ap, _∙_}
 use mathlib.Core.Bool.{Bool, true, false, cond, _||_}
+use mathlib.Core.Logic.{_↔_}
 use mathlib.Core.List.{List, []}
 use Prim.Native.Nat.{ℕ, _+_, _^_, _≤_, _<_}
 use native.Mathlib.Omega.{arith}
 use lib.Dec.{ltb}
 use lib.ListN.{length, getD}
-use borrow.Author.Tests.{le-ltb}
+use borrow.Author.Tests.{le-ltb, lt-ltb, ltb-true}
 use Rattle.draft.specs.declared.Row.{Row}
 use Rattle.draft.specs.Read.{textOf}
 use Rattle.draft.specs.Table.{roomOf, rowAt}
@@ -32,20 +33,15 @@ use Rattle.shape.proofs.Judged.{rows-stated, room-most}
 use Rattle.seeking.specs.Seeking.{unused}
 use Rattle.index.specs.Filling.{refusalIn, refusalOf, orderOf, entries, Filled}
 use Rattle.index_search.specs.Through.{throughIf, through, keyAt, reportsOf}
+use Rattle.defaults.specs.Defaults.{Source, rowIn, isWritable}
 use Rattle.index_search.proofs.Theorems as index
 use Rattle.meant.proofs.Saying.{standing}
 use Rattle.meant.proofs.Only.{members-stand}
 use Rattle.demands_writing.proofs.Writing.{Words, form-derived, judged}
+use Rattle.demands_lookups.specs.Asked.{told, itsMembers, NoStruct}
+use Rattle.demands_lookups.specs.Through.{Fills, lookedThrough, Names, Free, as-front, no-member}
 use Rattle.demands_lookups.proofs.Lookups.{distinct-members}
-
--- UNWRITABLE first: filling is refused with 11, and so is every key looked up, through whatever list.
-pub unwritable-fill : (T : List ℕ) (rows : ℕ) (s : List ℕ) (r n : ℕ) → writable T rows s ≡ false → refusalOf T rows s r n ≡ 11
-unfolding refusalOf
-unwritable-fill T rows s r n e = rw e
-
-pub unwritable-through : (T : List ℕ) (rows : ℕ) (s : List ℕ) (r : ℕ) (es : List Member) (key : List ℕ) → writable T rows s ≡ false → through T rows s r es key ≡ Refused NotWritable
-unfolding through throughIf
-unwritable-through T rows s r es key e = rw e
+use Rattle.demands_lookups.proofs.Refusals.{has-by, eleven}
 
 -- REFUSED. Whatever was refused, all entries are unused: (0, 0).
 pub refused-unused :
@@ -138,27 +134,6 @@ module _ (T : List ℕ) (rows : ℕ) (s : List ℕ) (e : writable T rows s ≡ t
     pub filled-finds : n < 2 ^ 64 → (key : List ℕ) → through T rows s r es key ≡ lookup T rows s r key
     filled-finds h key = rw is (index.through-index T rows s r sound key n filled-room (omega arith))
 
-  -- ANY LIST, with no word on how it was made. The result is free, in document 01's sense; its property: it is what the lookup from the front answers, and
-  -- an entry names the two rows of the member with the key; or it is 18.
-  pub data Free (es : List Member) (key : List ℕ) (a : Answer) : Type 0 where
-    as-front : (i : ℕ) → i < length es → find row s key its ≡ At (getD es i unused) → a ≡ lookup T rows s r key → Free es key a
-    no-member : a ≡ Refused NoMember → Free es key a
-
-  pub any-list : (es : List Member) (key : List ℕ) → Free es key (through T rows s r es key)
-  any-list es key = go (index.through-any T rows s r sound key es)
-    where
-      go : index.Answered T rows s r sound key es (through T rows s r es key) → Free es key (through T rows s r es key)
-      go (index.as-front i h f g) = as-front i h f g
-      go (index.no-member g) = no-member g
-
-  -- So it is always 18 if no entry names the key's two rows.
-  pub not-named : (es : List Member) (key : List ℕ) → ((i : ℕ) → i < length es → find row s key its ≡ At (getD es i unused) → ⊥) → through T rows s r es key ≡ Refused NoMember
-  not-named es key n = go (any-list es key)
-    where
-      go : Free es key (through T rows s r es key) → through T rows s r es key ≡ Refused NoMember
-      go (as-front i h f g) = absurd (n i h f)
-      go (no-member g) = g
-
 -- SEVERAL KEYS in one call: as many reports as were lent room for, each that of a single lookup of its key.
 module _ (T : List ℕ) (rows : ℕ) (s : List ℕ) (r : ℕ) (es : List Member) (keys ends : List ℕ) (n : ℕ) where
   pub reports-length : length (reportsOf T rows s r es keys ends n) ≡ n
@@ -168,3 +143,84 @@ module _ (T : List ℕ) (rows : ℕ) (s : List ℕ) (r : ℕ) (es : List Member)
   pub each-key : (i : ℕ) (d : Report) → i < n → getD (reportsOf T rows s r es keys ends n) i d ≡ reportOf (through T rows s r es (keyAt keys ends i))
   unfolding reportsOf
   each-key i d h = let z : 0 + i ≡ i = omega arith in index.getD-from (λ j. reportOf (through T rows s r es (keyAt keys ends j))) 0 n i d h ∙ rw z
+
+-- ---- of a source
+
+-- the number of filling, by three tests: 11 before 18, 18 before 21
+abbrev number : Bool → Bool → Bool → ℕ
+number a b d = cond a (cond b (cond d 21 0) 18) 11
+
+when-eleven : (a b d : Bool) → number a b d ≡ 11 → a ≡ false
+when-eleven false b d h = refl
+when-eleven true false d h = absurd (omega arith)
+when-eleven true true true h = absurd (omega arith)
+when-eleven true true false h = absurd (omega arith)
+
+when-eighteen : (a b d : Bool) → number a b d ≡ 18 → (a ≡ true) × (b ≡ false)
+when-eighteen false b d h = absurd (omega arith)
+when-eighteen true false d h = (refl, refl)
+when-eighteen true true true h = absurd (omega arith)
+when-eighteen true true false h = absurd (omega arith)
+
+when-short : (a b d : Bool) → number a b d ≡ 21 → (a ≡ true) × (b ≡ true) × (d ≡ true)
+when-short false b d h = absurd (omega arith)
+when-short true false d h = absurd (omega arith)
+when-short true true true h = (refl, refl, refl)
+when-short true true false h = absurd (omega arith)
+
+module _ (c : Source) (w : Words (c .table)) where
+  module _ {n answer : ℕ} {es : List Member} (f : Fills c n answer es) where
+    abbrev short : Bool
+    short = ltb n (length (itsMembers c))
+
+    -- the answer, by three tests
+    fill-number : answer ≡ number (isWritable c) (isStruct (rowIn c) (c .rows) (c .row)) short
+    unfolding refusalOf
+    fill-number = f .answers ∙ go (isWritable c) refl
+      where
+        go : (b : Bool) → isWritable c ≡ b
+            → refusalOf (c .table) (c .rows) (c .text) (c .row) n ≡ number b (isStruct (rowIn c) (c .rows) (c .row)) short
+        go true e = fill-answers (c .table) (c .rows) (c .text) e w (c .row) n
+        go false e = rw e
+
+    pub fill-eleven : (answer ≡ 11) ↔ (isWritable c ≡ false)
+    fill-eleven = (λ h. when-eleven (isWritable c) (isStruct (rowIn c) (c .rows) (c .row)) short (sym fill-number ∙ h), λ e. fill-number ∙ rw e)
+
+    pub fill-eighteen : (answer ≡ 18) ↔ ((isWritable c ≡ true) × NoStruct c)
+    fill-eighteen = (λ h. when-eighteen (isWritable c) (isStruct (rowIn c) (c .rows) (c .row)) short (sym fill-number ∙ h), λ (e, i). fill-number ∙ rw (e, i))
+
+    pub fill-short : (answer ≡ 21) ↔ ((isWritable c ≡ true) × (isStruct (rowIn c) (c .rows) (c .row) ≡ true) × (n < length (itsMembers c)))
+    fill-short = (
+      λ h. let i = when-short (isWritable c) (isStruct (rowIn c) (c .rows) (c .row)) short (sym fill-number ∙ h) in (i .0, i .1, ltb-true n (length (itsMembers c)) (i .2)),
+      λ (e, i, h). fill-number ∙ rw (e, i, lt-ltb n (length (itsMembers c)) h),
+    )
+
+  -- THROUGH ANY LIST: the property of the free result
+  pub free : isWritable c ≡ true → (es : List Member) (key : List ℕ) → Free c es key (lookedThrough c es key)
+  free e es key = go (index.through-any (c .table) (c .rows) (c .text) (c .row) (sound (c .table) (c .rows) (c .text) e w (c .row)) key es)
+    where
+      go : index.Answered (c .table) (c .rows) (c .text) (c .row) (sound (c .table) (c .rows) (c .text) e w (c .row)) key es (lookedThrough c es key)
+          → Free c es key (lookedThrough c es key)
+      go (index.as-front i h f g) = as-front (record { at = i; inside = h; has = has-by c key f }) g
+      go (index.no-member g) = no-member (ap told g)
+
+  -- so 18 if no entry names the key's two rows
+  pub not-named : isWritable c ≡ true → (es : List Member) (key : List ℕ) → (Names c es key → ⊥) → told (lookedThrough c es key) ≡ 18
+  not-named e es key n = go (free e es key)
+    where
+      go : Free c es key (lookedThrough c es key) → told (lookedThrough c es key) ≡ 18
+      go (as-front i g) = absurd (n i)
+      go (no-member g) = g
+
+  -- and 11 exactly for an unwritable table
+  pub through-eleven : (es : List Member) (key : List ℕ) → (told (lookedThrough c es key) ≡ 11) ↔ (isWritable c ≡ false)
+  unfolding through throughIf
+  through-eleven es key = (λ h. go h (isWritable c) refl, λ e. rw e)
+    where
+      go : told (lookedThrough c es key) ≡ 11 → (b : Bool) → isWritable c ≡ b → isWritable c ≡ false
+      go h false e = e
+      go h true e = by (free e es key)
+        where
+          by : Free c es key (lookedThrough c es key) → isWritable c ≡ false
+          by (as-front i g) = eleven c w key .0 (sym (ap told g) ∙ h)
+          by (no-member g) = absurd (omega arith)

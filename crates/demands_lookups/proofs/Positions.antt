@@ -205,9 +205,10 @@ module _ (c : Source) (w : Words (c .table)) where
       go true e =
           tested (any 18) refl (any 19) refl e
           (none-of 11 _ _ _ (none-by 11 (
-          never-eleven (coordinate c w e (bytes "x")),
-          never-eleven (coordinate c w e (bytes "y")),
-          never-eleven (coordinate c w e (bytes "turn")))))
+            never-eleven (coordinate c w e (bytes "x")),
+            never-eleven (coordinate c w e (bytes "y")),
+            never-eleven (coordinate c w e (bytes "turn")),
+          )))
 
   -- 11 exactly for an unwritable table
   pub position-eleven : (placedNumber c ≡ 11) ↔ (isWritable c ≡ false)

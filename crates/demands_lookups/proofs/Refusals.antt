@@ -67,6 +67,13 @@ foundIn c key = find (rowIn c) (c .text) key (itsMembers c)
 pub has-by : (c : Source) (key : List ℕ) {m : Member} → foundIn c key ≡ At m → Has c key m
 has-by c key e = let h = found-has (rowIn c) (c .text) key (itsMembers c) e in record { among = h .0; named = h .1 }
 
+pub without-found : (c : Source) (key : List ℕ) → Without c key → foundIn c key ≡ Absent
+without-found c key n = go (foundIn c key) refl
+  where
+    go : (f : Found) → foundIn c key ≡ f → foundIn c key ≡ Absent
+    go (At m) i = absurd (n m (has-by c key i))
+    go Absent i = i
+
 -- a row that is no Struct has no members
 pub missing-without : (c : Source) (key : List ℕ) → Missing c key → Without c key
 unfolding members isAmong
@@ -131,6 +138,9 @@ module _ (c : Source) (e : isWritable c ≡ true) (w : Words (c .table)) where
         found-at (rowIn c) (c .text) apart key (distinct-members (c .table) (c .rows) (c .text) e w (c .row)) (m .key) (u .there) (h .named)
         ∙ ap At (sym (u .is))
 
+    pub found-without : foundIn c key ≡ Absent → Without c key
+    found-without i m h = let f : At m ≡ Absent = sym (has-found h) ∙ i in let z : _≡_ {A = ℕ} 0 1 = cc in omega arith
+
     -- THE ONLY ONE: no two members have the key
     pub only-one : {m m′ : Member} → Has c key m → Has c key m′ → m ≡ m′
     only-one {m} {m′} h i = let f : At m ≡ At m′ = sym (has-found h) ∙ has-found i in cc
@@ -156,7 +166,7 @@ module _ (c : Source) (e : isWritable c ≡ true) (w : Words (c .table)) where
       where
         go : (f : Found) → foundIn c key ≡ f → Sought
         go (At m) h = let i = has-by c key h in there m i (yields i)
-        go Absent h = nowhere (λ m i. let f : At m ≡ Absent = sym (has-found i) ∙ h in let z : _≡_ {A = ℕ} 0 1 = cc in omega arith) (found-answers c key e ∙ rw h)
+        go Absent h = nowhere (found-without h) (found-answers c key e ∙ rw h)
 
 -- ---- the numbers
 

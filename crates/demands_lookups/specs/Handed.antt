@@ -17,14 +17,6 @@ pub record Fit (c : Source) : Type 0 where
   pub writes : isWritable c ≡ true
   pub structs : isStruct (rowIn c) (c .rows) (c .row) ≡ true
 
--- the member with the key is a String, whose text lies at o and has n bytes
-pub record TextAt (c : Source) (key : List ℕ) (o n : ℕ) : Type 0 where
-  pub member : Member
-  pub has : Has c key member
-  pub kind : kindIn c member ≡ 11
-  pub offset : rowIn c (member .value) .a ≡ o
-  pub size : rowIn c (member .value) .b ≡ n
-
 -- 'either row is no Struct', 'neither has the key', or 'the one found is no String'
 pub data NoText (card defaults : Source) (key : List ℕ) : Type 0 where
   card-no-struct : NoStruct card → NoText card defaults key

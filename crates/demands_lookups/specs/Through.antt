@@ -4,14 +4,12 @@ use mathlib.Core.List.{List}
 use Prim.Native.Nat.{ℕ, _<_}
 use lib.ListN.{length, getD}
 use Rattle.member.specs.declared.Member.{Member}
-use Rattle.lookup_answer.specs.declared.Refusal.the-variants.{NoMember}
 use Rattle.lookup_answer.specs.declared.Answer.{Answer}
-use Rattle.lookup_answer.specs.declared.Answer.the-variants.{Refused}
 use Rattle.seeking.specs.Seeking.{unused}
 use Rattle.index.specs.Filling.{Filled}
 use Rattle.index_search.specs.Through.{through}
 use Rattle.defaults.specs.Defaults.{Source}
-use Rattle.demands_lookups.specs.Asked.{looked, Has}
+use Rattle.demands_lookups.specs.Asked.{looked, told, Has}
 
 -- `binmode_index_fill` with a list of n entries, its answer and the entries after the call
 abbrev pub Fills : Source → ℕ → ℕ → List Member → Type 0
@@ -34,4 +32,4 @@ pub record Names (c : Source) (es : List Member) (key : List ℕ) : Type 0 where
 -- the property of the free result: the search from the front's answer, and then an entry names the key's two rows; or 18
 pub data Free (c : Source) (es : List Member) (key : List ℕ) (a : Answer) : Type 0 where
   as-front : Names c es key → a ≡ looked c key → Free c es key a
-  no-member : a ≡ Refused NoMember → Free c es key a
+  no-member : told a ≡ 18 → Free c es key a

@@ -114,37 +114,37 @@ module _ (row : ℕ → Row) (s : List ℕ) where
     module _
         (P : ℕ → List Member → Type 0) (no-members : (r : ℕ) → P r [])
         (of-pairs :
-            (d n r : ℕ) (xs : List ℕ) (ws : List Cell) (fs : List Sent) → Pairs d [] n xs ws fs → Standing row s r ws → r + length ws ≤ rows
-            → P r (membersFrom row rows n r))
+        (d n r : ℕ) (xs : List ℕ) (ws : List Cell) (fs : List Sent) → Pairs d [] n xs ws fs → Standing row s r ws → r + length ws ≤ rows
+        → P r (membersFrom row rows n r))
       where
-      of-struct : {r : ℕ} → StructAt cells r → P (r + 1) (membersFrom row rows (row r .b) (r + 1))
-      of-struct {r} st = go (rw (z, st .place) at (last-part row s (st .before) _ (rw (st .is) at t)))
-        where
-          z : 0 + length (st .before) ≡ length (st .before)
-          z = omega arith
+        of-struct : {r : ℕ} → StructAt cells r → P (r + 1) (membersFrom row rows (row r .b) (r + 1))
+        of-struct {r} st = go (rw (z, st .place) at (last-part row s (st .before) _ (rw (st .is) at t)))
+          where
+            z : 0 + length (st .before) ≡ length (st .before)
+            z = omega arith
 
-          total : length cells ≡ r + suc (length (st .ws) + length (st .after))
-          total =
-              rw (st .is, ← st .place)
-              (length-append (st .before) (struct-cell (st .n) (length (st .ws)) ∷ (st .ws ++ st .after))
-              ∙ ap (λ (k : ℕ). length (st .before) + suc k) (length-append (st .ws) (st .after)))
+            total : length cells ≡ r + suc (length (st .ws) + length (st .after))
+            total =
+                rw (st .is, ← st .place)
+                (length-append (st .before) (struct-cell (st .n) (length (st .ws)) ∷ (st .ws ++ st .after))
+                ∙ ap (λ (k : ℕ). length (st .before) + suc k) (length-append (st .ws) (st .after)))
 
-          go : Standing row s r (struct-cell (st .n) (length (st .ws)) ∷ (st .ws ++ st .after)) → P (r + 1) (membersFrom row rows (row r .b) (r + 1))
-          go (and-row (means k e (says-holding h i a b)) u) =
-              rw b (of-pairs (st .d) (st .n) (r + 1) (st .xs) (st .ws) (st .fs) (st .pairs) (first-part row s (st .ws) (st .after) (rw add-one u)) (omega (arith, total)))
+            go : Standing row s r (struct-cell (st .n) (length (st .ws)) ∷ (st .ws ++ st .after)) → P (r + 1) (membersFrom row rows (row r .b) (r + 1))
+            go (and-row (means k e (says-holding h i a b)) u) =
+                rw b (of-pairs (st .d) (st .n) (r + 1) (st .xs) (st .ws) (st .fs) (st .pairs) (first-part row s (st .ws) (st .after) (rw add-one u)) (omega (arith, total)))
 
-      of-row : {d : ℕ} {xs : List ℕ} → Derives d xs cells → (r : ℕ) → P (r + 1) (members row rows r)
-      unfolding members isStruct
-      of-row g r = go (ltb r rows) refl (eqb (row r .kind) 10) refl
-        where
-          go : (b : Bool) → ltb r rows ≡ b → (c : Bool) → eqb (row r .kind) 10 ≡ c → P (r + 1) (cond (b && c) (membersFrom row rows (row r .b) (r + 1)) [])
-          go false e c f = no-members (r + 1)
-          go true e false f = no-members (r + 1)
-          go true e true f =
-              let k : r < length cells = omega (arith, ltb-true r rows e) in
-              let z : 0 + r ≡ r = omega arith in
-              let m : kindAt cells r ≡ 10 = sym (rw z at (kind-at row s t r k)) ∙ eqb-true (row r .kind) 10 f in
-              of-struct (derived-structs g r m)
+        of-row : {d : ℕ} {xs : List ℕ} → Derives d xs cells → (r : ℕ) → P (r + 1) (members row rows r)
+        unfolding members isStruct
+        of-row g r = go (ltb r rows) refl (eqb (row r .kind) 10) refl
+          where
+            go : (b : Bool) → ltb r rows ≡ b → (c : Bool) → eqb (row r .kind) 10 ≡ c → P (r + 1) (cond (b && c) (membersFrom row rows (row r .b) (r + 1)) [])
+            go false e c f = no-members (r + 1)
+            go true e false f = no-members (r + 1)
+            go true e true f =
+                let k : r < length cells = omega (arith, ltb-true r rows e) in
+                let z : 0 + r ≡ r = omega arith in
+                let m : kindAt cells r ≡ 10 = sym (rw z at (kind-at row s t r k)) ∙ eqb-true (row r .kind) 10 f in
+                of-struct (derived-structs g r m)
 
     -- THE KEYS of a Struct's members, whichever row is asked for
     pub members-distinct : {d : ℕ} {xs : List ℕ} → Derives d xs cells → (r : ℕ) → Distinct (keysOf row s (members row rows r))
