@@ -1,3 +1,4 @@
 -- What is demanded and proved, a page each: the three demands, and the requests E1 to E14.
 pub mod E10
 pub mod E11
+pub mod E12
