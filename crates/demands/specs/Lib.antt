@@ -4,3 +4,6 @@ pub mod Demands
 pub mod E2
 pub mod E8
 pub mod E9
+pub mod E10
+pub mod E11
+pub mod E12

@@ -1,3 +1,4 @@
 pub mod Tables
+pub mod Stated
 pub mod Limits
 pub mod Columns

@@ -1,5 +1,4 @@
--- The limit of nesting that a call states (request E11): 23 exactly if it is none of 1 to 32; and the law of growth for each call that reads, of its own answers.
--- Assumes nothing.
+-- Request E11's law of growth, for each call that reads, of its own answers: one that is none of 8, 9, 22 and 23 stays. Assumes nothing.
 use mathlib.Core.Path.{_≡_, refl, sym, ap, _∙_}
 use mathlib.Core.Bool.{Bool, true, false, _&&_}
 use mathlib.Core.Logic.{_↔_, _≢_}
@@ -55,93 +54,8 @@ use Rattle.demands_stations.proofs.Numbers.{has-share}
 use Rattle.demands_stations.proofs.Stations.{own-read, own-card, its-end}
 use Rattle.demands_calls.specs.Growth.{Lasts, Stays}
 use Rattle.demands_calls.specs.Columns.{rowsIn, decided}
+use Rattle.demands_calls.proofs.Stated.{allowed-else, runs-limit}
 use Rattle.demands_calls.proofs.Tables.{fits, fits-outcome, stays}
-
--- 1 TO 32 may be stated, and nothing else.
-pub allowed-exactly : (limit : ℕ) → (allowed limit ≡ true) ↔ ((1 ≤ limit) × (limit ≤ 32))
-unfolding allowed
-allowed-exactly limit = (λ e. (limit-least limit e, limit-most limit e), λ h. rw (le-leb 1 limit (h .0), le-leb limit 32 (h .1)))
-
-allowed-else : (limit : ℕ) → (allowed limit ≡ false → ⊥) → allowed limit ≡ true
-allowed-else limit n = go (allowed limit) refl
-  where
-    go : (b : Bool) → allowed limit ≡ b → allowed limit ≡ true
-    go true e = e
-    go false e = absurd (n e)
-
--- ---- 23
-
--- with a limit that may be stated no reading is refused with 23
-pub unlimited-only : (limit : ℕ) (s : List ℕ) (words : ℕ) → allowed limit ≡ true → (at : ℕ) → reading limit s words ≢ refused NoLimit at
-unlimited-only limit s words e at f = go (within-refused 65536 s (roomOf 4096 words) limit (sym (reading-within limit s words e) ∙ f))
-  where
-    go : WithinRefused 65536 s (roomOf 4096 words) limit NoLimit at → ⊥
-    go (of-bytes h g) = omega (arith, ap numberOf g)
-    go (of-message g) = of-reading s (roomOf 4096 words) limit g
-
-the-limit : (m : Refusal) → numberOf m ≡ 23 → m ≡ NoLimit
-unfolding refusalOf
-the-limit m e = sym (number-own m) ∙ ap refusalOf e
-
-not-limit : (o : Reading) → ((at : ℕ) → o ≢ refused NoLimit at) → numberTold (toldOf o) ≢ 23
-not-limit (got rows used book) n e = omega arith
-not-limit (refused m p) n e = n p (ap (λ (k : Refusal). refused k p) (the-limit m e))
-
--- READ: 23 exactly if the limit is outside, whatever else; at place 0, the table zeros
-pub read-unlimited :
-    (limit : ℕ) (s : List ℕ) (words : ℕ) {T : List ℕ} {a : Answer} → Answers (reading limit s words) words T a
-    → ((reportOf a .number ≡ 23) ↔ (allowed limit ≡ false)) × (allowed limit ≡ false → (a ≡ Refused NoLimit 0) × (T ≡ replicate words 0))
-read-unlimited limit s words {T} {a} d = ((λ e. go (allowed limit) refl e, λ h. ap (λ (x : Answer). reportOf x .number) (told-so h .0)), told-so)
-  where
-    told-so : allowed limit ≡ false → (a ≡ Refused NoLimit 0) × (T ≡ replicate words 0)
-    told-so h =
-        let o : reading limit s words ≡ refused NoLimit 0 = reading-unlimited limit s words h in
-        (d .says ∙ ap answerOf o, d .leaves ∙ ap (tableOf words) o)
-
-    same : (o : Reading) → reportOf (answerOf o) .number ≡ numberTold (toldOf o)
-    same (got rows used book) = refl
-    same (refused m p) = refl
-
-    go : (b : Bool) → allowed limit ≡ b → reportOf a .number ≡ 23 → allowed limit ≡ false
-    go true ok e =
-        absurd
-        (not-limit (reading limit s words) (unlimited-only limit s words ok)
-        (sym (ap (λ (x : Answer). reportOf x .number) (d .says) ∙ same (reading limit s words)) ∙ e))
-    go false h e = h
-
--- IN PIECES: after any piece, from the first call on, with a room that is long enough
-runs-limit : {limit : ℕ} {p : List ℕ} {ps : List (List ℕ)} {a b : State} {R T R′ T′ : List ℕ} → allowed limit ≡ false → Runs limit (p ∷ ps) a R T b R′ T′ → told b ≡ refusal 23 0
-runs-limit {limit} h (piece {state = state} w none) = no-limit limit state w h .0
-runs-limit h (piece w (piece v x)) = runs-limit h (piece v x)
-
-so-far-limit : (o : Reading) → ((at : ℕ) → o ≢ refused NoLimit at) → numberTold (soFar o) ≢ 23
-so-far-limit o n = go (refusedWithOne o)
-  where
-    go : (b : Bool) → numberTold (pickTold b more (toldOf o)) ≢ 23
-    go true e = omega arith
-    go false e = not-limit o n e
-
-outcome-limit : (limit : ℕ) (s : List ℕ) (words : ℕ) → allowed limit ≡ true → (at : ℕ) → outcome limit s words ≢ refused NoLimit at
-unfolding outcome
-outcome-limit limit s words ok at = by (refusedWithOne (reading limit (take 65536 s) words) && ltb 65536 (length s))
-  where
-    by : (b : Bool) → pick b (refused TooLong 0) (reading limit (take 65536 s) words) ≢ refused NoLimit at
-    by true e = let z : _≡_ {A = ℕ} 0 1 = cc in omega arith
-    by false e = unlimited-only limit (take 65536 s) words ok at e
-
-pub pieces-unlimited :
-    (limit : ℕ) (R₀ T₀ : List ℕ) → 65536 ≤ length R₀ → (p : List ℕ) (ps : List (List ℕ)) {state : State} {R T : List ℕ} → Runs limit (p ∷ ps) begun R₀ T₀ state R T
-    → (numberTold (told state) ≡ 23) ↔ (allowed limit ≡ false)
-pieces-unlimited limit R₀ T₀ long p ps {state} calls = (λ e. go (allowed limit) refl e, λ h. ap numberTold (runs-limit h calls))
-  where
-    go : (b : Bool) → allowed limit ≡ b → numberTold (told state) ≡ 23 → allowed limit ≡ false
-    go true ok e =
-        let s = through limit (length T₀) [] (p ∷ ps) in
-        absurd
-        (so-far-limit (outcome limit s (length T₀)) (outcome-limit limit s (length T₀) ok) (sym (ap numberTold (after-each limit ok R₀ T₀ long (p ∷ ps) calls)) ∙ e))
-    go false h e = h
-
--- ---- what stays
 
 -- a reading that is refused with none of 8, 9 and 23
 record Lasting (o : Reading) : Type 0 where
