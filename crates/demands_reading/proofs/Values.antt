@@ -167,3 +167,16 @@ fault-said xs rest room deep {cells} x l h f =
     let here : Here s 14 xs = record { rest = rest; from = refl; starts = omega arith } in
     let g = only-read s room (code "S") (struct-begins s room x .0) (struct-begins s room x .1) (struct-read s room x) .reads 14 1 clear [] here l agrees-clear h in
     rw (le-leb 12 (length s) (omega arith), lt-ltb 12 (length s) (omega arith), lt-ltb 0 room (omega arith), lt-ltb 13 (length s) (omega arith), g .is, held-below (g .realises), bad-fault (heldCells (below cells)) f)
+
+-- FIVE AND SEVENTEEN. A Response with a Double or a DateTime of the text t, sent by the tag x, is judged by its content's rule at the item's place,
+-- whatever follows.
+pub value-said :
+    (c : Content) (x : ℕ) (t rest : List ℕ) (room deep : ℕ)
+    → ((s : List ℕ) → item s room (tagOf x) (nested s room deep) 13 1 clear ≡ shortItem s room c 13 1 clear) → eqb x (code "F") ≡ false → 2 ≤ room
+    → message (bytes "binmode-rpc:R" ++ (x ∷ length t ∷ (t ++ rest))) room deep
+    ≡ over 2 1 0 (judged (contentRule c t) 13 (leaf (kindOf c) 15 (length t) 1 (15 + length t) clear))
+unfolding message agree callOrResponse read-contents verdict
+value-said c x t rest room deep short f h =
+    let s = bytes "binmode-rpc:R" ++ (x ∷ length t ∷ (t ++ rest)) in
+    let l = length-append t rest in
+    rw (le-leb 12 (length s) (omega arith), lt-ltb 12 (length s) (omega arith), lt-ltb 0 room (omega arith), lt-ltb 13 (length s) (omega arith), f, value-is s room deep 13 1 clear, lt-ltb 13 (length s) (omega arith), short s, lt-ltb 1 room (omega arith), le-leb 15 (length s) (omega arith), le-leb (15 + length t) (length s) (omega (arith, l)), take-append-seam t rest)
