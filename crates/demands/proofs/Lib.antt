@@ -1,2 +1,4 @@
 -- That the pages hold, each by laws of the crates below.
 pub mod Demands
+pub mod E1
+pub mod E3
