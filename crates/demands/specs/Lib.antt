@@ -7,3 +7,5 @@ pub mod E9
 pub mod E10
 pub mod E11
 pub mod E12
+pub mod E1
+pub mod E3

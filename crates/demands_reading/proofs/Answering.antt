@@ -163,6 +163,13 @@ module _
         go (Refused m p) e =
             refused-for (λ x. x ≡ 9) m p e (λ k. let l = refused-deeper limit s words (rw e at d) k used nesting cells b in absurd (omega arith)) (λ k. refl)
 
+-- the answer within the limits on bytes and nesting
+pub answered :
+    (limit : ℕ) (s : List ℕ) (words : ℕ) {T : List ℕ} {a : Answer} → allowed limit ≡ true → length s ≤ 65536 → Answers (reading limit s words) words T a
+    → a ≡ answerOf (message s (roomOf 4096 words) limit)
+answered limit s words l h d =
+    d .says ∙ ap answerOf (reading-within limit s words l ∙ within-is 65536 s (roomOf 4096 words) limit h)
+
 -- THE FIRST TESTS: 10; then 2, over as many of the 12 bytes as are present; then 1 if fewer than 12; each with place 0
 module _ (limit : ℕ) (s : List ℕ) (words : ℕ) (stated : allowed limit ≡ true) where
   pub first-ten : 65536 < length s → reading limit s words ≡ refused TooLong 0

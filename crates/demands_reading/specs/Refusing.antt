@@ -1,12 +1,10 @@
 -- What a refusal says of a message, in the grammar's terms. Assumes nothing.
-use mathlib.Core.Path.{_≡_}
 use mathlib.Core.Bool.{Bool, false, _||_}
 use mathlib.Core.List.{List, [], _∷_}
-use Prim.Native.Nat.{ℕ, _+_, _≤_, _<_}
+use Prim.Native.Nat.{ℕ, _<_}
 use lib.Dec.{eqb}
-use lib.ListN.{length, take, drop}
-use Rattle.draft.specs.Bytes.{bytes}
-use Rattle.draft.specs.Grammar.{Cell, Sent, Struct, Legal, Begins}
+use lib.ListN.{length}
+use Rattle.draft.specs.Grammar.{Cell, Begins}
 
 -- no beginning of s is derived at all
 abbrev pub Underived : List ℕ → Type 0
@@ -24,13 +22,3 @@ Fuller s room = (used nesting : ℕ) (cells : List Cell) → Begins s used nesti
 abbrev pub oneOf : List ℕ → ℕ → Bool
 oneOf [] n = false
 oneOf (m ∷ ms) n = eqb m n || oneOf ms n
-
--- a fault whose Struct is read whole: `binmode-rpc:RF`, and from byte 14 on a Struct, of which these cells are the meaning, that the draft derives from
--- an empty codebook, nested to at most the limit
-pub record FaultSent (s : List ℕ) (limit : ℕ) (cells : List Cell) : Type 0 where
-  pub used : ℕ
-  pub sents : List Sent
-  pub inside : 14 + used ≤ length s
-  pub front : take 14 s ≡ bytes "binmode-rpc:RF"
-  pub derivation : Struct limit (take used (drop 14 s)) cells sents
-  pub legal : Legal [] sents

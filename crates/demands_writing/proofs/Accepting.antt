@@ -8,27 +8,32 @@ use mathlib.Core.List.{List, [], _∷_, _++_}
 use Prim.Native.Nat.{ℕ, _+_, _-_, _≤_, _<_}
 use native.Mathlib.Omega.{arith}
 use lib.Dec.{leb}
-use lib.ListN.{length, replicate, length-append, length-replicate}
+use lib.ListN.{length, take, replicate, length-append, length-replicate}
 use borrow.Author.Tests.{leb-true, leb-false, le-leb, lt-leb}
 use Rattle.draft.specs.declared.Refusal.{Refusal}
 use Rattle.draft.specs.declared.Refusal.the-variants.{TooLong, NotWritable, FormTooLong, OutputTooShort, NoLimit}
 use Rattle.draft.specs.Limits.{allowed}
 use Rattle.draft.specs.Writable.{writableTo}
 use Rattle.draft.specs.declared.Row.{Row}
-use Rattle.draft.specs.Refusals.{numberOf}
+use Rattle.draft.specs.Refusals.{numberOf, refusalOf}
+use Rattle.draft.proofs.Naming.{number-some, number-own}
 use Rattle.draft.specs.Codebook.{Book}
 use Rattle.draft.specs.Read.{got}
+use Rattle.draft.specs.Table.{roomOf}
 use Rattle.draft.specs.Strings.{repeated, textsOf}
 use Rattle.draft.specs.Written.{written, rowsOf}
 use Rattle.read_answer.specs.declared.Answer.the-variants.{Accepted}
 use Rattle.read_answer.specs.Answers.{reading, tableOf, Answers}
 use Rattle.text.proofs.Comparing.{clash}
+use Rattle.read_answer.proofs.Limited.{got-within}
+use Rattle.written.specs.Derivable.{DerivesRows}
 use Rattle.demands_reading.specs.Refusing.{oneOf}
-use Rattle.demands_reading.proofs.Settled.{accepted-read}
-use Rattle.demands_writing.proofs.Writing.{Octets, read-writable, read-short}
+use Rattle.demands_reading.proofs.Settled.{accepted-read, accepted-rows-of}
+use Rattle.demands_reading.proofs.Reading.{sound}
+use Rattle.demands_writing.proofs.Writing.{Words, Octets, form-derived, read-writable, read-short}
 use Rattle.write_answer.specs.declared.Answer.{Answer}
 use Rattle.write_answer.specs.declared.Answer.the-variants.{Written, Refused}
-use Rattle.write_answer.specs.Answers.{given, answerTo, formOf, answerOf, Did}
+use Rattle.write_answer.specs.Answers.{given, answerTo, formOf, answerOf, Did, reportOf}
 
 -- an answer behind a test
 given-written : (b : Bool) (m : Refusal) (o : Answer) {n : ℕ} → given b m o ≡ Written n → (b ≡ true) × (o ≡ Written n)
@@ -125,6 +130,62 @@ refused-exactly limit T rows s room {m} = (there, back)
     back (long-form l a b c) = rw (l, le-leb (length s) 65536 a, b, lt-leb size 65536 c)
     back (short-output l a b c d) = rw (l, le-leb (length s) 65536 a, b, le-leb size 65536 c, lt-leb size room d)
 
+-- BY NUMBER: the number that the writer reports, of the call's own answer
+module _ (limit : ℕ) (T : List ℕ) (rows : ℕ) (s out₀ out : List ℕ) {a : Answer} (d : Did limit T rows s out₀ out a) where
+  number-exactly : (m : Refusal) → (reportOf a .number ≡ numberOf m) ↔ RefusedFor limit T rows s (length out₀) m
+  number-exactly m = (there a refl, λ h. ap (λ (x : Answer). reportOf x .number) (d .says ∙ refused-exactly limit T rows s (length out₀) .1 h))
+    where
+      there : (x : Answer) → a ≡ x → reportOf x .number ≡ numberOf m → RefusedFor limit T rows s (length out₀) m
+      there (Written n) e f = absurd (number-some m (sym f))
+      there (Refused m′) e f =
+          let i : m′ ≡ m = sym (number-own m′) ∙ ap refusalOf f ∙ number-own m in
+          rw i at (refused-exactly limit T rows s (length out₀) .0 (sym (d .says) ∙ e))
+
+  pub says-ten : (reportOf a .number ≡ 10) ↔ ((allowed limit ≡ true) × (65536 < length s))
+  says-ten = (λ e. by (number-exactly TooLong .0 e), λ h. number-exactly TooLong .1 (long-text (h .0) (h .1)))
+    where
+      by : RefusedFor limit T rows s (length out₀) TooLong → (allowed limit ≡ true) × (65536 < length s)
+      by (long-text l k) = (l, k)
+
+  pub says-eleven : (reportOf a .number ≡ 11) ↔ ((allowed limit ≡ true) × (length s ≤ 65536) × (writableTo limit T rows s ≡ false))
+  says-eleven = (λ e. by (number-exactly NotWritable .0 e), λ h. number-exactly NotWritable .1 (not-writable (h .0) (h .1) (h .2)))
+    where
+      by : RefusedFor limit T rows s (length out₀) NotWritable → (allowed limit ≡ true) × (length s ≤ 65536) × (writableTo limit T rows s ≡ false)
+      by (not-writable l k b) = (l, k, b)
+
+  pub says-twelve :
+      (reportOf a .number ≡ 12)
+      ↔ ((allowed limit ≡ true) × (length s ≤ 65536) × (writableTo limit T rows s ≡ true) × (65536 < length (written s (rowsOf 4096 T rows))))
+  says-twelve = (λ e. by (number-exactly FormTooLong .0 e), λ h. number-exactly FormTooLong .1 (long-form (h .0) (h .1) (h .2) (h .3)))
+    where
+      by :
+          RefusedFor limit T rows s (length out₀) FormTooLong
+          → (allowed limit ≡ true) × (length s ≤ 65536) × (writableTo limit T rows s ≡ true) × (65536 < length (written s (rowsOf 4096 T rows)))
+      by (long-form l k b c) = (l, k, b, c)
+
+  pub says-thirteen :
+      (reportOf a .number ≡ 13)
+      ↔ ((allowed limit ≡ true) × (length s ≤ 65536) × (writableTo limit T rows s ≡ true) × (length (written s (rowsOf 4096 T rows)) ≤ 65536)
+      × (length out₀ < length (written s (rowsOf 4096 T rows))))
+  says-thirteen = (
+    λ e. by (number-exactly OutputTooShort .0 e),
+    λ h. number-exactly OutputTooShort .1 (short-output (h .0) (h .1) (h .2) (h .3) (h .4)),
+  )
+    where
+      by :
+          RefusedFor limit T rows s (length out₀) OutputTooShort
+          → (allowed limit ≡ true) × (length s ≤ 65536) × (writableTo limit T rows s ≡ true) × (length (written s (rowsOf 4096 T rows)) ≤ 65536)
+          × (length out₀ < length (written s (rowsOf 4096 T rows)))
+      by (short-output l k b c g) = (l, k, b, c, g)
+
+  -- 11 for a table that something keeps from being writable
+  pub eleven : allowed limit ≡ true → length s ≤ 65536 → (writableTo limit T rows s ≡ true → ⊥) → reportOf a .number ≡ 11
+  eleven l h f = says-eleven .1 (l, h, go (writableTo limit T rows s) refl)
+    where
+      go : (b : Bool) → writableTo limit T rows s ≡ b → writableTo limit T rows s ≡ false
+      go false e = e
+      go true e = absurd (f e)
+
 -- SETTLED: two calls with the same material and equally long outputs answer alike and leave the same bytes, whatever lay there before
 pub settled :
     (limit : ℕ) (T : List ℕ) (rows : ℕ) (s out₀ out₁ out out′ : List ℕ) {a a′ : Answer} → length out₀ ≡ length out₁ → Did limit T rows s out₀ out a → Did limit T rows s out₁ out′ a′
@@ -166,6 +227,20 @@ refused-number limit T rows s out₀ out {m} d = go (refused-exactly limit T row
     go (not-writable l a b) = refl
     go (long-form l a b c) = refl
     go (short-output l a b c e) = refl
+
+-- MEANT: the rows of a table that was read, or that was written, mean what the draft derives
+pub read-derives :
+    (limit : ℕ) (s : List ℕ) (words : ℕ) {T : List ℕ} {n used : ℕ} → Answers (reading limit s words) words T (Accepted n used)
+    → DerivesRows limit (take used s) s (rowsOf 4096 T n)
+read-derives limit s words d =
+    let g = accepted-read limit s words d in
+    let h = sound 65536 s (roomOf 4096 words) limit (got-within limit s words (g .is)) in
+    record { cells = h .cells; meaning = rw (accepted-rows-of limit s words d) (h .meaning); derived = h .begins .derived }
+
+pub written-derives :
+    (limit : ℕ) (T : List ℕ) (rows : ℕ) (s out₀ out : List ℕ) {n : ℕ} → Did limit T rows s out₀ out (Written n) → Words T
+    → DerivesRows limit (written s (rowsOf 4096 T rows)) s (rowsOf 4096 T rows)
+written-derives limit T rows s out₀ out {n} d w = form-derived limit T rows s (accepted-exactly limit T rows s (length out₀) n .0 (sym (d .says)) .shape) w
 
 -- a refusal that is not 11, and not 12 either if at most 256 texts of so many rows repeat
 abbrev Spares : List ℕ → List Row → Refusal → Type 0

@@ -83,10 +83,10 @@ formOf (recalled p t) = Recalled
 
 -- a message's bytes, and the rows that there is room for
 module _ (s : List ℕ) (room : ℕ) where
-  present-is : (at : ℕ) (o : Reading) → at < length s → present s room at o ≡ o
+  pub present-is : (at : ℕ) (o : Reading) → at < length s → present s room at o ≡ o
   present-is at o h = simp (lt-ltb _ _ h)
 
-  opened-is : (size at r : ℕ) (o : Reading) → r < room → at + size ≤ length s → opened s room size at r o ≡ o
+  pub opened-is : (size at r : ℕ) (o : Reading) → r < room → at + size ≤ length s → opened s room size at r o ≡ o
   opened-is size at r o h k = simp (lt-ltb _ _ h, le-leb _ _ k)
 
   contents-is :
@@ -179,7 +179,7 @@ module _ (s : List ℕ) (room : ℕ) where
   string-begins (recorded-string x) = (omega arith, refl)
   string-begins recalled-string = (omega arith, refl)
 
-  string-read : {xs t : List ℕ} {f : Sent} → String xs t f → ReadBy s room (read-string s room) xs (content-cell content.Text t ∷ []) (f ∷ [])
+  pub string-read : {xs t : List ℕ} {f : Sent} → String xs t f → ReadBy s room (read-string s room) xs (content-cell content.Text t ∷ []) (f ∷ [])
   unfolding read-string
   string-read {xs} {t} {f} x =
       record {
@@ -189,7 +189,7 @@ module _ (s : List ℕ) (room : ℕ) where
       }
 
   -- what only one byte begins
-  only-read :
+  pub only-read :
       {f : Reader} {xs : List ℕ} {cs : List Cell} {fs : List Sent} (b : ℕ) → 0 < length xs → getD xs 0 0 ≡ b → ReadBy s room f xs cs fs
       → ReadBy s room (only s room b f) xs cs fs
   unfolding only
@@ -370,11 +370,11 @@ module _ (s : List ℕ) (room : ℕ) where
   array-begins : {d : ℕ} {xs : List ℕ} {cs : List Cell} {fs : List Sent} → Array d xs cs fs → (0 < length xs) × (getD xs 0 0 ≡ code "A")
   array-begins (array e vs m) = (omega arith, refl)
 
-  struct-begins : {d : ℕ} {xs : List ℕ} {cs : List Cell} {fs : List Sent} → Struct d xs cs fs → (0 < length xs) × (getD xs 0 0 ≡ code "S")
+  pub struct-begins : {d : ℕ} {xs : List ℕ} {cs : List Cell} {fs : List Sent} → Struct d xs cs fs → (0 < length xs) × (getD xs 0 0 ≡ code "S")
   struct-begins (struct e vs m) = (omega arith, refl)
 
   -- the key of a pair is the text of its first row
-  key-text : (rows : List Row) {d r : ℕ} {t xs : List ℕ} {cs : List Cell} {fs : List Sent} → Pair d t xs cs fs → Realises s r rows cs → firstText s room rows ≡ t
+  pub key-text : (rows : List Row) {d r : ℕ} {t xs : List ℕ} {cs : List Cell} {fs : List Sent} → Pair d t xs cs fs → Realises s r rows cs → firstText s room rows ≡ t
   key-text rows (pair x v e) m = first-text rows content.Text m
 
   mutual
@@ -400,7 +400,7 @@ module _ (s : List ℕ) (room : ℕ) where
     values-read no-values = no-items
     values-read (more-values v vs e f g) = more-items (value-read v) (λ r rows m. refl) (values-read vs) e f g
 
-    struct-read :
+    pub struct-read :
         {d : ℕ} {xs : List ℕ} {cs : List Cell} {fs : List Sent} → Struct d xs cs fs → ReadBy s room (structItem s room (nested s room d)) xs cs fs
     struct-read (struct e ps m) = counted-read 10 refl refl e (pairs-read ps) m
 
@@ -411,7 +411,7 @@ module _ (s : List ℕ) (room : ℕ) where
     pairs-read {seen = seen} (more-pairs p k ps e f g) =
         more-items (member-read p seen k) (λ r rows m. rw (key-text rows p m)) (pairs-read ps) e f g
 
-    member-read :
+    pub member-read :
         {d : ℕ} {t xs : List ℕ} {cs : List Cell} {fs : List Sent} → Pair d t xs cs fs → (seen : Texts) → keyRule seen t ≡ Fine
         → ReadBy s room (member s room (value s room d) seen) xs cs fs
     member-read (pair x v e) seen k = pair-read (key-read seen x k) (value-read v) e
