@@ -1,2 +1,3 @@
 -- What is demanded and proved, a page each: the three demands, and the requests E1 to E14.
 pub mod E2
+pub mod E13
