@@ -9,3 +9,4 @@ pub mod E11
 pub mod E12
 pub mod E1
 pub mod E3
+pub mod E13

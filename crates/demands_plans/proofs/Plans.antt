@@ -1,11 +1,11 @@
--- Document 02's plans (E13): which are taken, what `plan_writer::write` answers and leaves with one, and what `certificate::proves` proves by prices.
+-- Laws of document 02's plans (E13): which are taken, what `plan_writer::write` answers and leaves with one, and what `certificate::proves` proves by prices.
 -- `Did limit T rows s plan out₀ out a` is the promise of `plan_writer::write`, for a limit of nesting, a table T with so many stated rows, text bytes s, a plan, an output that
 -- is out₀ before the call and out after it, and the answer a; `certified T rows s plan prices` is what `certificate::proves` answers. Assumes nothing.
 use mathlib.Core.Path.{_≡_, refl, sym, ap, _∙_}
 use mathlib.Core.Bool.{Bool, true, false, cond}
 use mathlib.Core.Logic.{_↔_}
-use mathlib.Core.List.{List, [], _++_, append-nil}
-use Prim.Native.Nat.{ℕ, _+_, _*_, _-_, _≤_, _<_}
+use mathlib.Core.List.{List, [], _∷_, _++_, append-nil}
+use Prim.Native.Nat.{ℕ, suc, _+_, _*_, _-_, _≤_, _<_}
 use native.Mathlib.Omega.{arith}
 use lib.Dec.{leb, eqb}
 use lib.ListN.{length, take, drop, getD, replicate, take-append-drop}
@@ -15,24 +15,26 @@ use Rattle.text.proofs.Comparing.{both}
 use Rattle.draft.specs.declared.Refusal.{Refusal}
 use Rattle.draft.specs.declared.Refusal.the-variants.{TooLong, NotWritable, FormTooLong, OutputTooShort, NoLimit}
 use Rattle.draft.specs.declared.Row.{Row}
+use Rattle.draft.specs.Bytes.{Below}
 use Rattle.draft.specs.Codebook.{Book}
-use Rattle.draft.specs.Table.{roomOf, place, rowAt}
+use Rattle.draft.specs.Table.{roomOf, place}
 use Rattle.draft.specs.Refusals.{numberOf}
 use Rattle.draft.specs.Read.{got, message}
+use Rattle.draft.specs.Grammar.{Sent, regular, recorded, recalled}
 use Rattle.draft.specs.Meaning.{MeanSame}
 use Rattle.draft.specs.Strings.{Text, repeated, textsOf, costs}
 use Rattle.draft.specs.Limits.{allowed}
 use Rattle.draft.specs.Writable.{writableTo, writable}
-use Rattle.draft.specs.Written.{written, rowsOf}
+use Rattle.draft.specs.Written.{messageOf, written, rowsOf}
 use Rattle.read_answer.specs.declared.Answer.{Answer as ReaderAnswer}
 use Rattle.read_answer.specs.declared.Answer.the-variants.{Accepted}
 use Rattle.read_answer.specs.Answers.{reading, tableOf, Answers}
 use Rattle.read_answer.specs.Answers as reader
 use Rattle.read_answer.proofs.Limited.{reading-within}
-use Rattle.plans.specs.Plans.{formAt, positionAt, sentsFrom, planned, taken}
+use Rattle.plans.specs.Plans.{sentAt, sentsFrom, planned, taken}
 use Rattle.plan_writer.specs.declared.Answer.{Answer}
 use Rattle.plan_writer.specs.declared.Answer.the-variants.{Written, Refused, NotTaken}
-use Rattle.plan_writer.specs.Answers.{given, shorter, chosen, messageFor, answerBy, answerOf, Did}
+use Rattle.plan_writer.specs.Answers.{given, shorter, chosen, messageFor, answerBy, answerOf, Did, reportOf}
 use Rattle.prices.specs.Prices.{total, bound}
 use Rattle.certificate.specs.Certificate.{proving, certifiedTexts, certified}
 use Rattle.exact.proofs.Realising.{counts}
@@ -43,26 +45,48 @@ use Rattle.planning.proofs.Concluding as plan
 use Rattle.demands_reading.proofs.Reading.{complete, mean-same}
 use Rattle.text.proofs.Comparing.{clash}
 use Rattle.written.specs.Derivable.{HoldAlike}
-use Rattle.written.proofs.Tests.{agreeing}
-use Rattle.demands_reading.proofs.Settled.{Read, accepted-read}
-use Rattle.demands_writing.proofs.Writing.{Words, Octets, ReadsBack, form-derived, shortest, one-form, read-rows, read-writable, read-short, writable-derivable}
+use Rattle.demands_reading.proofs.Settled.{accepted-read}
+use Rattle.demands_plans.specs.Plans.{
+  ReadAs,
+  Values,
+  Taken,
+  Chosen,
+  Ready,
+  AcceptedFor,
+  RefusedFor,
+  no-limit,
+  long-text,
+  not-writable,
+  not-taken,
+  long-message,
+  short-output,
+}
+use Rattle.demands_writing.proofs.Rows.{writable-alike, by-words, by-columns}
+use Rattle.demands_writing.proofs.Writing.{ReadsBack, form-derived, shortest, one-form, read-rows, read-writable, read-short}
 
--- the byte string t is read, with refusals 8, 9 and 10 put aside, with the meaning that the rows have with their bytes s
-pub record ReadAs (t s : List ℕ) (rows : List Row) : Type 0 where
-  pub room : ℕ
-  pub deep : ℕ
-  pub others : List Row
-  pub used : ℕ
-  pub book : Book
-  pub is : message t room deep ≡ got others used book
-  pub same : MeanSame s t rows others
+-- SENT: two bytes for each string, in row order, its form and its position.
+pub by-form :
+    (p : List ℕ) (j : ℕ) (t : Text)
+    → (getD p (j * 2) 0 ≡ 0 → sentAt p j t ≡ regular t)
+    × (getD p (j * 2) 0 ≡ 1 → sentAt p j t ≡ recorded (getD p (j * 2 + 1) 0) t)
+    × (getD p (j * 2) 0 ≡ 2 → sentAt p j t ≡ recalled (getD p (j * 2 + 1) 0) t)
+unfolding sentAt
+by-form p j t = (λ e. rw e, λ e. rw e, λ e. rw e)
 
--- 'those values', of n strings
-abbrev pub Values : List ℕ → ℕ → Type 0
-Values p n = (j : ℕ) → j < n → (formAt p j ≤ 2) × (formAt p j ≡ 0 → positionAt p j ≡ 0)
+sent-last : (p : List ℕ) (j : ℕ) (ts : List Text) (t : Text) → sentsFrom p j (ts ++ (t ∷ [])) ≡ sentsFrom p j ts ++ (sentAt p (j + length ts) t ∷ [])
+unfolding sentsFrom
+sent-last p j [] t = let e : j + 0 ≡ j = omega arith in rw e
+sent-last p j (u ∷ ts) t = let e : suc j + length ts ≡ j + suc (length ts) = omega arith in rw e at (ap (λ (fs : List Sent). sentAt p j u ∷ fs) (sent-last p (suc j) ts t))
+
+pub in-row-order : (p : List ℕ) (ts : List Text) (t : Text) → sentsFrom p 0 (ts ++ (t ∷ [])) ≡ sentsFrom p 0 ts ++ (sentAt p (length ts) t ∷ [])
+in-row-order p ts t = let e : 0 + length ts ≡ length ts = omega arith in rw e at (sent-last p 0 ts t)
+
+pub plan-message : (s : List ℕ) (rows : List Row) (p : List ℕ) → planned s rows p ≡ messageOf s rows (sentsFrom p 0 (textsOf s rows))
+unfolding planned
+plan-message s rows p = refl
 
 -- for a table that is writable to a limit, whose words are of 32 bits
-module _ (limit : ℕ) (T : List ℕ) (rows : ℕ) (s : List ℕ) (e : writableTo limit T rows s ≡ true) (w : Words T) where
+module _ (limit : ℕ) (T : List ℕ) (rows : ℕ) (s : List ℕ) (e : writableTo limit T rows s ≡ true) (w : Below 4294967296 T) where
   -- its rows, and the texts that stand as strings in them
   abbrev pub itsRows : List Row
   itsRows = rowsOf 4096 T rows
@@ -83,32 +107,65 @@ module _ (limit : ℕ) (T : List ℕ) (rows : ℕ) (s : List ℕ) (e : writableT
       go true = form-derived limit T rows s e w
       go false = plan-derived p t
 
-  -- TAKEN EXACTLY. 'A plan is taken exactly if it has that length and those values, and its message reads, 8, 9 and 10 put aside, with the table's
-  -- meaning.'
-  pub taken-exactly :
-      (p : List ℕ)
-      → (taken p itsTexts ≡ true) ↔ ((length p ≡ length itsTexts * 2) × Values p (length itsTexts) × ReadAs (planned s itsRows p) s itsRows)
+  -- TAKEN EXACTLY, in document 02's words.
+  pub taken-exactly : (p : List ℕ) → (taken p itsTexts ≡ true) ↔ Taken s itsRows p
   unfolding writableTo planned
   taken-exactly p = (there, back)
     where
-      there : taken p itsTexts ≡ true → (length p ≡ length itsTexts * 2) × Values p (length itsTexts) × ReadAs (planned s itsRows p) s itsRows
+      there : taken p itsTexts ≡ true → Taken s itsRows p
       there t =
           let f = taken-fit p itsTexts t in
           let r = plan.derived-reads (plan-derived p t) [] (length itsRows) limit (omega arith) (omega arith) in
           let q : planned s itsRows p ++ [] ≡ planned s itsRows p = append-nil (planned s itsRows p) in
-          (f .long, f .values, record { room = length itsRows; deep = limit; others = r .0; used = length (planned s itsRows p); book = r .1; is = rw q at (r .2); same = rw q at (r .3) })
+          record {
+            long = f .long;
+            values = f .values;
+            reads = record { room = length itsRows; deep = limit; others = r .0; used = length (planned s itsRows p); book = r .1; is = rw q at (r .2); same = rw q at (r .3) };
+          }
 
-      back : (length p ≡ length itsTexts * 2) × Values p (length itsTexts) × ReadAs (planned s itsRows p) s itsRows → taken p itsTexts ≡ true
+      back : Taken s itsRows p → taken p itsTexts ≡ true
       back h =
           fit-taken p itsTexts
           (record {
-            long = h .0;
-            values = h .1;
-            legal = plan.read-legal 65536 4096 limit T rows s w e (sentsFrom p 0 itsTexts) (sents-texts p 0 itsTexts) (h .2 .room) (h .2 .deep) (h .2 .is) (h .2 .same);
+            long = h .long;
+            values = h .values;
+            legal = plan.read-legal 65536 4096 limit T rows s w e (sentsFrom p 0 itsTexts) (sents-texts p 0 itsTexts) (h .reads .room) (h .reads .deep) (h .reads .is) (h .reads .same);
           })
 
--- ACCEPTANCE IS EXACT.
-pub record AcceptedFor (limit : ℕ) (T : List ℕ) (rows : ℕ) (s p : List ℕ) (room n : ℕ) : Type 0 where
+-- CHOSEN: the definition's message is the one that document 02 says.
+pub chosen-so : (s : List ℕ) (rows : List Row) (p : List ℕ) → Chosen s rows p (chosen s rows p)
+unfolding chosen shorter
+chosen-so s rows p = record {
+  form = λ h. rw (le-leb (length (written s rows)) (length (planned s rows p)) h);
+  plan = λ h. rw (lt-leb (length (written s rows)) (length (planned s rows p)) h);
+}
+
+pub chosen-once : (s : List ℕ) (rows : List Row) (p : List ℕ) {m m′ : List ℕ} → Chosen s rows p m → Chosen s rows p m′ → m ≡ m′
+chosen-once s rows p {m} {m′} c c′ = go (leb (length (written s rows)) (length (planned s rows p))) refl
+  where
+    go : (b : Bool) → leb (length (written s rows)) (length (planned s rows p)) ≡ b → m ≡ m′
+    go true e = let h = leb-true (length (written s rows)) (length (planned s rows p)) e in c .form h ∙ sym (c′ .form h)
+    go false e = let h = leb-false (length (written s rows)) (length (planned s rows p)) e in c .plan h ∙ sym (c′ .plan h)
+
+pub chosen-is : (s : List ℕ) (rows : List Row) (p : List ℕ) {m : List ℕ} → Chosen s rows p m → chosen s rows p ≡ m
+chosen-is s rows p c = chosen-once s rows p (chosen-so s rows p) c
+
+-- it is no longer than either
+chosen-least : (s : List ℕ) (rows : List Row) (p : List ℕ) {m : List ℕ} → Chosen s rows p m → (length m ≤ length (written s rows)) × (length m ≤ length (planned s rows p))
+chosen-least s rows p {m} c = go (leb (length (written s rows)) (length (planned s rows p))) refl
+  where
+    go : (b : Bool) → leb (length (written s rows)) (length (planned s rows p)) ≡ b → (length m ≤ length (written s rows)) × (length m ≤ length (planned s rows p))
+    go true e =
+        let h = leb-true (length (written s rows)) (length (planned s rows p)) e in
+        let i = ap length (c .form h) in
+        (omega (arith, i), omega (arith, i, h))
+    go false e =
+        let h = leb-false (length (written s rows)) (length (planned s rows p)) e in
+        let i = ap length (c .plan h) in
+        (omega (arith, i, h), omega (arith, i))
+
+-- the tests that an accepted call passed
+record Passed (limit : ℕ) (T : List ℕ) (rows : ℕ) (s p : List ℕ) (room n : ℕ) : Type 0 where
   pub stated : allowed limit ≡ true
   pub text : length s ≤ 65536
   pub shape : writableTo limit T rows s ≡ true
@@ -128,101 +185,180 @@ never e = let z : _≡_ {A = ℕ} 0 1 = cc in omega arith
 never-taken : {n : ℕ} → NotTaken ≡ Written n → ⊥
 never-taken e = let z : _≡_ {A = ℕ} 0 1 = cc in omega arith
 
-pub accepted-exactly : (limit : ℕ) (T : List ℕ) (rows : ℕ) (s p : List ℕ) (room n : ℕ) → (answerOf limit T rows s p room ≡ Written n) ↔ AcceptedFor limit T rows s p room n
+passed : (limit : ℕ) (T : List ℕ) (rows : ℕ) (s p : List ℕ) (room n : ℕ) → answerOf limit T rows s p room ≡ Written n → Passed limit T rows s p room n
 unfolding answerOf answerBy messageFor
-accepted-exactly limit T rows s p room n = (there, back)
-  where
-    size : ℕ
-    size = length (chosen s (rowsOf 4096 T rows) p)
+passed limit T rows s p room n e =
+    let size = length (chosen s (rowsOf 4096 T rows) p) in
+    let l = given-written (allowed limit) (Refused NoLimit) _ never e in
+    let a = given-written (leb (length s) 65536) (Refused TooLong) _ never (l .1) in
+    let b = given-written (writableTo limit T rows s) (Refused NotWritable) _ never (a .1) in
+    let t = given-written (taken p (textsOf s (rowsOf 4096 T rows))) NotTaken _ never-taken (b .1) in
+    let c = given-written (leb size 65536) (Refused FormTooLong) _ never (t .1) in
+    let d = given-written (leb size room) (Refused OutputTooShort) _ never (c .1) in
+    let i : n ≡ size = cc in
+    record {
+      stated = l .0;
+      text = leb-true (length s) 65536 (a .0);
+      shape = b .0;
+      takes = t .0;
+      long = i;
+      most = omega (arith, i, leb-true size 65536 (c .0));
+      fits = omega (arith, i, leb-true size room (d .0));
+    }
 
-    there : answerOf limit T rows s p room ≡ Written n → AcceptedFor limit T rows s p room n
-    there e =
-        let l = given-written (allowed limit) (Refused NoLimit) _ never e in
-        let a = given-written (leb (length s) 65536) (Refused TooLong) _ never (l .1) in
-        let b = given-written (writableTo limit T rows s) (Refused NotWritable) _ never (a .1) in
-        let t = given-written (taken p (textsOf s (rowsOf 4096 T rows))) NotTaken _ never-taken (b .1) in
-        let c = given-written (leb size 65536) (Refused FormTooLong) _ never (t .1) in
-        let d = given-written (leb size room) (Refused OutputTooShort) _ never (c .1) in
-        let i : n ≡ size = cc in
-        record {
-          stated = l .0;
-          text = leb-true (length s) 65536 (a .0);
-          shape = b .0;
-          takes = t .0;
-          long = i;
-          most = omega (arith, i, leb-true size 65536 (c .0));
-          fits = omega (arith, i, leb-true size room (d .0));
-        }
+-- ACCEPTANCE AND REFUSALS ARE EXACT, for a table whose words are of 32 bits.
+module _ (limit : ℕ) (T : List ℕ) (rows : ℕ) (s p : List ℕ) (room : ℕ) (w : Below 4294967296 T) where
+  abbrev size : ℕ
+  size = length (chosen s (rowsOf 4096 T rows) p)
 
-    back : AcceptedFor limit T rows s p room n → answerOf limit T rows s p room ≡ Written n
-    back h =
-        let c : size ≤ 65536 = omega (arith, h .long, h .most) in
-        let d : size ≤ room = omega (arith, h .long, h .fits) in
-        rw (h .stated, le-leb (length s) 65536 (h .text), h .shape, h .takes, le-leb size 65536 c, le-leb size room d, h .long)
+  takes-so : Ready limit T rows s → Taken s (rowsOf 4096 T rows) p → taken p (textsOf s (rowsOf 4096 T rows)) ≡ true
+  takes-so r t = taken-exactly limit T rows s (r .2) w p .1 t
 
--- ORDER: 23, 10, 11, 24, 12 and 13, each after the tests before it held.
-pub data RefusedFor (limit : ℕ) (T : List ℕ) (rows : ℕ) (s p : List ℕ) (room : ℕ) : Answer → Type 0 where
-  no-limit : allowed limit ≡ false → RefusedFor limit T rows s p room (Refused NoLimit)
-  long-text : allowed limit ≡ true → 65536 < length s → RefusedFor limit T rows s p room (Refused TooLong)
-  not-writable : allowed limit ≡ true → length s ≤ 65536 → writableTo limit T rows s ≡ false → RefusedFor limit T rows s p room (Refused NotWritable)
-  not-taken :
-      allowed limit ≡ true → length s ≤ 65536 → writableTo limit T rows s ≡ true → taken p (textsOf s (rowsOf 4096 T rows)) ≡ false → RefusedFor limit T rows s p room NotTaken
-  long-message :
-      allowed limit ≡ true → length s ≤ 65536 → writableTo limit T rows s ≡ true → taken p (textsOf s (rowsOf 4096 T rows)) ≡ true → 65536 < length (messageFor T rows s p)
-      → RefusedFor limit T rows s p room (Refused FormTooLong)
-  short-output :
-      allowed limit ≡ true → length s ≤ 65536 → writableTo limit T rows s ≡ true → taken p (textsOf s (rowsOf 4096 T rows)) ≡ true → length (messageFor T rows s p) ≤ 65536
-      → room < length (messageFor T rows s p) → RefusedFor limit T rows s p room (Refused OutputTooShort)
+  long-so : {m : List ℕ} → Chosen s (rowsOf 4096 T rows) p m → size ≡ length m
+  long-so c = ap length (chosen-is s (rowsOf 4096 T rows) p c)
 
-pub refused-so : {limit : ℕ} {T : List ℕ} {rows : ℕ} {s p : List ℕ} {room : ℕ} {a : Answer} → RefusedFor limit T rows s p room a → answerOf limit T rows s p room ≡ a
-unfolding answerOf answerBy messageFor
-refused-so (no-limit l) = rw l
-refused-so {s = s} (long-text l a) = rw (l, lt-leb (length s) 65536 a)
-refused-so {s = s} (not-writable l a b) = rw (l, le-leb (length s) 65536 a, b)
-refused-so {s = s} (not-taken l a b c) = rw (l, le-leb (length s) 65536 a, b, c)
-refused-so {T = T} {rows = rows} {s = s} {p = p} (long-message l a b c d) = rw (l, le-leb (length s) 65536 a, b, c, lt-leb (length (chosen s (rowsOf 4096 T rows) p)) 65536 d)
-refused-so {T = T} {rows = rows} {s = s} {p = p} {room = room} (short-output l a b c d f) =
-    rw (l, le-leb (length s) 65536 a, b, c, le-leb (length (chosen s (rowsOf 4096 T rows) p)) 65536 d, lt-leb (length (chosen s (rowsOf 4096 T rows) p)) room f)
+  accepted-so : {n : ℕ} → AcceptedFor limit T rows s p room n → answerOf limit T rows s p room ≡ Written n
+  unfolding answerOf answerBy
+  accepted-so h =
+      let l = long-so (h .chosen) in
+      let c : size ≤ 65536 = omega (arith, l, h .long, h .most) in
+      let d : size ≤ room = omega (arith, l, h .long, h .fits) in
+      rw (h .ready .0, le-leb (length s) 65536 (h .ready .1), h .ready .2, takes-so (h .ready) (h .takes), le-leb size 65536 c, le-leb size room d, l, h .long)
 
--- and there is no other reason: every call is accepted or refused for one of these
-pub data Outcome (limit : ℕ) (T : List ℕ) (rows : ℕ) (s p : List ℕ) (room : ℕ) : Type 0 where
-  accepted : {n : ℕ} → AcceptedFor limit T rows s p room n → Outcome limit T rows s p room
-  refused : {a : Answer} → RefusedFor limit T rows s p room a → Outcome limit T rows s p room
+  abbrev number : ℕ
+  number = reportOf (answerOf limit T rows s p room) .number
 
-pub outcome : (limit : ℕ) (T : List ℕ) (rows : ℕ) (s p : List ℕ) (room : ℕ) → Outcome limit T rows s p room
-outcome limit T rows s p room =
-    go (allowed limit) refl (leb (length s) 65536) refl (writableTo limit T rows s) refl (taken p (textsOf s (rowsOf 4096 T rows))) refl (leb size 65536) refl (leb size room) refl
-  where
-    size : ℕ
-    size = length (messageFor T rows s p)
+  not-taken-so : Ready limit T rows s → (Taken s (rowsOf 4096 T rows) p → ⊥) → taken p (textsOf s (rowsOf 4096 T rows)) ≡ false
+  not-taken-so r n = go (taken p (textsOf s (rowsOf 4096 T rows))) refl
+    where
+      go : (b : Bool) → taken p (textsOf s (rowsOf 4096 T rows)) ≡ b → b ≡ false
+      go true e = absurd (n (taken-exactly limit T rows s (r .2) w p .0 e))
+      go false e = refl
 
-    go :
-        (x : Bool) → allowed limit ≡ x → (a : Bool) → leb (length s) 65536 ≡ a → (b : Bool) → writableTo limit T rows s ≡ b → (c : Bool) → taken p (textsOf s (rowsOf 4096 T rows)) ≡ c
-        → (d : Bool) → leb size 65536 ≡ d → (f : Bool) → leb size room ≡ f → Outcome limit T rows s p room
-    go false z a i b j c k d l f m = refused (no-limit z)
-    go true z false i b j c k d l f m = refused (long-text z (leb-false (length s) 65536 i))
-    go true z true i false j c k d l f m = refused (not-writable z (leb-true (length s) 65536 i) j)
-    go true z true i true j false k d l f m = refused (not-taken z (leb-true (length s) 65536 i) j k)
-    go true z true i true j true k false l f m = refused (long-message z (leb-true (length s) 65536 i) j k (leb-false size 65536 l))
-    go true z true i true j true k true l false m = refused (short-output z (leb-true (length s) 65536 i) j k (leb-true size 65536 l) (leb-false size room m))
-    go true z true i true j true k true l true m =
-        accepted
-        (record { stated = z; text = leb-true (length s) 65536 i; shape = j; takes = k; long = refl; most = leb-true size 65536 l; fits = leb-true size room m })
+  with-number : (a : Answer) → answerOf limit T rows s p room ≡ a → number ≡ reportOf a .number
+  with-number a e = ap (λ (x : Answer). reportOf x .number) e
+
+  refused-so : {k : ℕ} → RefusedFor limit T rows s p room k → number ≡ k
+  unfolding answerOf answerBy
+  refused-so (no-limit l) = with-number (Refused NoLimit) (rw l)
+  refused-so (long-text l a) = with-number (Refused TooLong) (rw (l, lt-leb (length s) 65536 a))
+  refused-so (not-writable l a b) = with-number (Refused NotWritable) (rw (l, le-leb (length s) 65536 a, b))
+  refused-so (not-taken r n) = with-number NotTaken (rw (r .0, le-leb (length s) 65536 (r .1), r .2, not-taken-so r n))
+  refused-so (long-message r t c l) =
+      let k : 65536 < size = omega (arith, long-so c, l) in
+      with-number (Refused FormTooLong) (rw (r .0, le-leb (length s) 65536 (r .1), r .2, takes-so r t, lt-leb size 65536 k))
+  refused-so (short-output r t c l f) =
+      let k : size ≤ 65536 = omega (arith, long-so c, l) in
+      let j : room < size = omega (arith, long-so c, f) in
+      with-number (Refused OutputTooShort) (rw (r .0, le-leb (length s) 65536 (r .1), r .2, takes-so r t, le-leb size 65536 k, lt-leb size room j))
+
+  positive : {k : ℕ} → RefusedFor limit T rows s p room k → 0 < k
+  positive (no-limit l) = omega arith
+  positive (long-text l a) = omega arith
+  positive (not-writable l a b) = omega arith
+  positive (not-taken r n) = omega arith
+  positive (long-message r t c l) = omega arith
+  positive (short-output r t c l f) = omega arith
+
+  -- what an answer says of the call
+  data Says : Answer → Type 0 where
+    accepts : {n : ℕ} → AcceptedFor limit T rows s p room n → Says (Written n)
+    refuses : {m : Refusal} → RefusedFor limit T rows s p room (numberOf m) → Says (Refused m)
+    takes-not : RefusedFor limit T rows s p room 24 → Says NotTaken
+
+  say : Says (answerOf limit T rows s p room)
+  unfolding answerOf answerBy
+  say = go (allowed limit) refl (leb (length s) 65536) refl (writableTo limit T rows s) refl (taken p (textsOf s (rowsOf 4096 T rows))) refl (leb size 65536) refl (leb size room) refl
+    where
+      the-choice : Chosen s (rowsOf 4096 T rows) p (chosen s (rowsOf 4096 T rows) p)
+      the-choice = chosen-so s (rowsOf 4096 T rows) p
+
+      take-it : writableTo limit T rows s ≡ true → taken p (textsOf s (rowsOf 4096 T rows)) ≡ true → Taken s (rowsOf 4096 T rows) p
+      take-it j t = taken-exactly limit T rows s j w p .0 t
+
+      take-not : writableTo limit T rows s ≡ true → taken p (textsOf s (rowsOf 4096 T rows)) ≡ false → Taken s (rowsOf 4096 T rows) p → ⊥
+      take-not j k t = clash (taken-exactly limit T rows s j w p .1 t) k
+
+      go :
+          (x : Bool) → allowed limit ≡ x → (a : Bool) → leb (length s) 65536 ≡ a → (b : Bool) → writableTo limit T rows s ≡ b
+          → (c : Bool) → taken p (textsOf s (rowsOf 4096 T rows)) ≡ c → (d : Bool) → leb size 65536 ≡ d → (f : Bool) → leb size room ≡ f
+          → Says
+          (given x (Refused NoLimit)
+          (given a (Refused TooLong)
+          (given b (Refused NotWritable) (given c NotTaken (given d (Refused FormTooLong) (given f (Refused OutputTooShort) (Written size)))))))
+      go false z a i b j c k d l f m = refuses (no-limit z)
+      go true z false i b j c k d l f m = refuses (long-text z (leb-false (length s) 65536 i))
+      go true z true i false j c k d l f m = refuses (not-writable z (leb-true (length s) 65536 i) j)
+      go true z true i true j false k d l f m = takes-not (not-taken (z, leb-true (length s) 65536 i, j) (take-not j k))
+      go true z true i true j true k false l f m =
+          refuses (long-message (z, leb-true (length s) 65536 i, j) (take-it j k) the-choice (leb-false size 65536 l))
+      go true z true i true j true k true l false m =
+          refuses (short-output (z, leb-true (length s) 65536 i, j) (take-it j k) the-choice (leb-true size 65536 l) (leb-false size room m))
+      go true z true i true j true k true l true m =
+          accepts
+          (record {
+            ready = (z, leb-true (length s) 65536 i, j);
+            takes = take-it j k;
+            message = chosen s (rowsOf 4096 T rows) p;
+            chosen = the-choice;
+            long = refl;
+            most = leb-true size 65536 l;
+            fits = leb-true size room m;
+          })
+
+-- of the function's own answer
+module _ (limit : ℕ) (T : List ℕ) (rows : ℕ) (s p out₀ out : List ℕ) {a : Answer} (w : Below 4294967296 T) (d : Did limit T rows s p out₀ out a) where
+  pub accepted-exactly : (n : ℕ) → ((reportOf a .number ≡ 0) × (reportOf a .length ≡ n)) ↔ AcceptedFor limit T rows s p (length out₀) n
+  accepted-exactly n = (
+    λ h. there (say limit T rows s p (length out₀) w) (d .says) (h .0) (h .1),
+    λ h. let e : a ≡ Written n = d .says ∙ accepted-so limit T rows s p (length out₀) w h in rw e (refl, refl),
+  )
+    where
+      there : {b : Answer} → Says limit T rows s p (length out₀) w b → a ≡ b → reportOf a .number ≡ 0 → reportOf a .length ≡ n → AcceptedFor limit T rows s p (length out₀) n
+      there (accepts {n = k} h) e z l = let i : k ≡ n = sym (ap (λ (x : Answer). reportOf x .length) e) ∙ l in rw i at h
+      there (refuses {m = m} h) e z l =
+          let i : reportOf a .number ≡ numberOf m = ap (λ (x : Answer). reportOf x .number) e in
+          absurd (omega (arith, i, z, positive limit T rows s p (length out₀) w h))
+      there (takes-not h) e z l = let i : reportOf a .number ≡ 24 = ap (λ (x : Answer). reportOf x .number) e in absurd (omega (arith, i, z))
+
+  pub refused-exactly : (k : ℕ) → ((reportOf a .number ≡ k) × (0 < k)) ↔ RefusedFor limit T rows s p (length out₀) k
+  refused-exactly k = (
+    λ h. there (say limit T rows s p (length out₀) w) (d .says) (h .0) (h .1),
+    λ h. (ap (λ (x : Answer). reportOf x .number) (d .says) ∙ refused-so limit T rows s p (length out₀) w h, positive limit T rows s p (length out₀) w h),
+  )
+    where
+      there : {b : Answer} → Says limit T rows s p (length out₀) w b → a ≡ b → reportOf a .number ≡ k → 0 < k → RefusedFor limit T rows s p (length out₀) k
+      there (accepts h) e z l = let i : reportOf a .number ≡ 0 = ap (λ (x : Answer). reportOf x .number) e in absurd (omega (arith, i, z, l))
+      there (refuses {m = m} h) e z l = let i : numberOf m ≡ k = sym (ap (λ (x : Answer). reportOf x .number) e) ∙ z in rw i at h
+      there (takes-not h) e z l = let i : 24 ≡ k = sym (ap (λ (x : Answer). reportOf x .number) e) ∙ z in rw i at h
+
+  -- 24 EXACTLY: for a plan that isn't taken, with a table that would be written but for it.
+  pub twenty-four : (reportOf a .number ≡ 24) ↔ (Ready limit T rows s × (Taken s (rowsOf 4096 T rows) p → ⊥))
+  twenty-four = (λ e. only (refused-exactly 24 .0 (e, omega arith)) refl, λ h. refused-exactly 24 .1 (not-taken (h .0) (h .1)) .0)
+    where
+      only : {k : ℕ} → RefusedFor limit T rows s p (length out₀) k → k ≡ 24 → Ready limit T rows s × (Taken s (rowsOf 4096 T rows) p → ⊥)
+      only (not-taken r n) e = (r, n)
+      only (no-limit l) e = absurd (omega arith)
+      only (long-text l a) e = absurd (omega arith)
+      only (not-writable l a b) e = absurd (omega arith)
+      only (long-message r t c l) e = absurd (omega arith)
+      only (short-output r t c l f) e = absurd (omega arith)
 
 -- SETTLED: two calls with the same material and equally long outputs answer alike and leave the same bytes, whatever lay there before
 pub settled :
-    (limit : ℕ) (T : List ℕ) (rows : ℕ) (s p out₀ out₁ out out′ : List ℕ) {a a′ : Answer} → length out₀ ≡ length out₁ → Did limit T rows s p out₀ out a
-    → Did limit T rows s p out₁ out′ a′ → (a ≡ a′) × (out ≡ out′)
-settled limit T rows s p out₀ out₁ out out′ {a} {a′} l d d′ =
-    let e : a ≡ a′ = d .says ∙ ap (answerOf limit T rows s p) l ∙ sym (d′ .says) in
-    (e, d .leaves ∙ rw (e, l) (sym (d′ .leaves)))
+    (limit : ℕ) (T T′ : List ℕ) (rows : ℕ) (s p out₀ out₁ out out′ : List ℕ) {a a′ : Answer} → length out₀ ≡ length out₁ → T ≡ T′
+    → Did limit T rows s p out₀ out a → Did limit T′ rows s p out₁ out′ a′ → (a ≡ a′) × (out ≡ out′)
+settled limit T T′ rows s p out₀ out₁ out out′ {a} {a′} l t d d′ =
+    let e : a ≡ a′ = d .says ∙ rw (l, t) (sym (d′ .says)) in
+    (e, d .leaves ∙ rw (e, l, t) (sym (d′ .leaves)))
 
--- REFUSED: all zeros
-pub refused-zeros : (limit : ℕ) (T : List ℕ) (rows : ℕ) (s p out₀ out : List ℕ) {m : Refusal} → Did limit T rows s p out₀ out (Refused m) → out ≡ replicate (length out₀) 0
-refused-zeros limit T rows s p out₀ out d = d .leaves
-
-pub not-taken-zeros : (limit : ℕ) (T : List ℕ) (rows : ℕ) (s p out₀ out : List ℕ) → Did limit T rows s p out₀ out NotTaken → out ≡ replicate (length out₀) 0
-not-taken-zeros limit T rows s p out₀ out d = d .leaves
+-- REFUSED: length and place 0, and all zeros
+pub refused-zeros :
+    (limit : ℕ) (T : List ℕ) (rows : ℕ) (s p out₀ out : List ℕ) (a : Answer) → Did limit T rows s p out₀ out a → (reportOf a .number ≡ 0 → ⊥)
+    → (reportOf a .length ≡ 0) × (reportOf a .place ≡ 0) × (out ≡ replicate (length out₀) 0)
+refused-zeros limit T rows s p out₀ out (Written n) d h = absurd (h refl)
+refused-zeros limit T rows s p out₀ out (Refused m) d h = (refl, refl, d .leaves)
+refused-zeros limit T rows s p out₀ out NotTaken d h = (refl, refl, d .leaves)
 
 -- what is derived with the meaning of so many rows is read back with a limit that is not lower, whatever follows
 derived-back :
@@ -236,33 +372,30 @@ derived-back {zs = zs} g l later f j more words h k =
 
 -- a call that answered `Written n`
 module _ (limit : ℕ) (T : List ℕ) (rows : ℕ) (s p out₀ out : List ℕ) {n : ℕ} (d : Did limit T rows s p out₀ out (Written n)) where
-  was-accepted : AcceptedFor limit T rows s p (length out₀) n
-  was-accepted = accepted-exactly limit T rows s p (length out₀) n .0 (sym (d .says))
+  was-accepted : Passed limit T rows s p (length out₀) n
+  was-accepted = passed limit T rows s p (length out₀) n (sym (d .says))
 
   was-writable : writableTo limit T rows s ≡ true
   was-writable = was-accepted .shape
 
-  -- THE MESSAGE. The first n bytes of the output are the message chosen, and behind them are zeros.
-  pub whole : out ≡ messageFor T rows s p ++ replicate (length out₀ - n) 0
-  whole = d .leaves
+  first-bytes : take n out ≡ messageFor T rows s p
+  first-bytes = ap (take n) (d .leaves) ∙ take-at (messageFor T rows s p) (replicate (length out₀ - n) 0) n (sym (was-accepted .long))
 
-  pub first-bytes : take n out ≡ messageFor T rows s p
-  first-bytes = ap (take n) whole ∙ take-at (messageFor T rows s p) (replicate (length out₀ - n) 0) n (sym (was-accepted .long))
+  bytes-chosen : Chosen s (rowsOf 4096 T rows) p (take n out)
+  unfolding messageFor
+  bytes-chosen = rw first-bytes (chosen-so s (rowsOf 4096 T rows) p)
+
+  -- WHICH. The first n bytes of the output are the message chosen, and behind them are zeros.
+  pub which : {m : List ℕ} → Chosen s (rowsOf 4096 T rows) p m → (n ≡ length m) × (out ≡ m ++ replicate (length out₀ - n) 0)
+  unfolding messageFor
+  which c = let e = chosen-is s (rowsOf 4096 T rows) p c in (was-accepted .long ∙ ap length e, d .leaves ∙ ap (λ (x : List ℕ). x ++ replicate (length out₀ - n) 0) e)
 
   -- NEVER LONGER than either: the plan's message, or document 01's form.
   pub never-longer : (n ≤ length (written s (rowsOf 4096 T rows))) × (n ≤ length (planned s (rowsOf 4096 T rows) p))
-  unfolding messageFor chosen shorter
-  never-longer = go (leb (length form) (length other)) refl (was-accepted .long)
-    where
-      form : List ℕ
-      form = written s (rowsOf 4096 T rows)
-
-      other : List ℕ
-      other = planned s (rowsOf 4096 T rows) p
-
-      go : (b : Bool) → leb (length form) (length other) ≡ b → n ≡ length (cond b form other) → (n ≤ length form) × (n ≤ length other)
-      go true e l = (omega (arith, l), omega (arith, l, leb-true (length form) (length other) e))
-      go false e l = (omega (arith, l, leb-false (length form) (length other) e), omega (arith, l))
+  never-longer =
+      let h = chosen-least s (rowsOf 4096 T rows) p bytes-chosen in
+      let e : n ≡ length (take n out) = was-accepted .long ∙ sym (ap length first-bytes) in
+      (omega (arith, e, h .0), omega (arith, e, h .1))
 
   -- DEMAND 3 STANDS up to 256 texts: a byte string that the draft reads with that table's meaning has n bytes at least.
   pub no-shorter :
@@ -270,41 +403,22 @@ module _ (limit : ℕ) (T : List ℕ) (rows : ℕ) (s p out₀ out : List ℕ) {
       → message t room deep ≡ got others used book → MeanSame s t (rowsOf 4096 T rows) others → (n ≤ used) × (used ≤ length t)
   no-shorter few t room deep e z = let h = shortest limit T rows s was-writable few t room deep e z in (omega (arith, never-longer .0, h .0), h .1)
 
-  -- WHICH. 'The shorter of the plan's message and 01's form is written, 01's if equal.'
-  pub which :
-      (length (written s (rowsOf 4096 T rows)) ≤ length (planned s (rowsOf 4096 T rows) p) → take n out ≡ written s (rowsOf 4096 T rows))
-      × (length (planned s (rowsOf 4096 T rows) p) < length (written s (rowsOf 4096 T rows)) → take n out ≡ planned s (rowsOf 4096 T rows) p)
-  unfolding messageFor chosen shorter
-  which = (
-    λ h. first-bytes ∙ rw (le-leb (length (written s (rowsOf 4096 T rows))) (length (planned s (rowsOf 4096 T rows) p)) h),
-    λ h. first-bytes ∙ rw (lt-leb (length (written s (rowsOf 4096 T rows))) (length (planned s (rowsOf 4096 T rows) p)) h),
-  )
-
   -- THE FORM up to 256 texts: what is written is document 01's form, whatever plan is taken.
-  pub form-written : Words T → length (repeated (textsOf s (rowsOf 4096 T rows))) ≤ 256 → take n out ≡ written s (rowsOf 4096 T rows)
-  unfolding messageFor chosen shorter
-  form-written w few = first-bytes ∙ go (leb (length form) (length other)) refl
-    where
-      form : List ℕ
-      form = written s (rowsOf 4096 T rows)
-
-      other : List ℕ
-      other = planned s (rowsOf 4096 T rows) p
-
-      at-most : length form ≤ length other
-      at-most =
-          let r = plan.derived-reads (plan-derived limit T rows s was-writable w p (was-accepted .takes)) [] (length (rowsOf 4096 T rows)) limit (omega arith) (omega arith) in
-          let q : other ++ [] ≡ other = append-nil other in
-          shortest limit T rows s was-writable few other (length (rowsOf 4096 T rows)) limit (rw q at (r .2)) (rw q at (r .3)) .0
-
-      go : (b : Bool) → leb (length form) (length other) ≡ b → cond b form other ≡ form
-      go true e = refl
-      go false e = absurd (omega (arith, at-most, leb-false (length form) (length other) e))
+  pub form-written :
+      Below 4294967296 T → length (repeated (textsOf s (rowsOf 4096 T rows))) ≤ 256
+      → (take n out ≡ written s (rowsOf 4096 T rows)) × (n ≡ length (written s (rowsOf 4096 T rows)))
+  form-written w few =
+      let other = planned s (rowsOf 4096 T rows) p in
+      let r = plan.derived-reads (plan-derived limit T rows s was-writable w p (was-accepted .takes)) [] (length (rowsOf 4096 T rows)) limit (omega arith) (omega arith) in
+      let q : other ++ [] ≡ other = append-nil other in
+      let e : take n out ≡ written s (rowsOf 4096 T rows) =
+      bytes-chosen .form (shortest limit T rows s was-writable few other (length (rowsOf 4096 T rows)) limit (rw q at (r .2)) (rw q at (r .3)) .0) in
+      (e, was-accepted .long ∙ ap length (sym first-bytes ∙ e))
 
   -- READ BACK. Any message of at most 65,536 bytes that begins with those n bytes, whatever follows, is read by `reader::read` with any limit
   -- that is not lower, up to 32, into any table with room for the rows, with as many rows and n bytes used; and the rows that it leaves mean the same as the table that was written.
   pub read-back :
-      Words T → (later : ℕ) → limit ≤ later → allowed later ≡ true → (t : List ℕ) (words : ℕ) {T′ : List ℕ} {a : ReaderAnswer} → take n t ≡ take n out → length t ≤ 65536 → rows ≤ roomOf 4096 words
+      Below 4294967296 T → (later : ℕ) → limit ≤ later → allowed later ≡ true → (t : List ℕ) (words : ℕ) {T′ : List ℕ} {a : ReaderAnswer} → take n t ≡ take n out → length t ≤ 65536 → rows ≤ roomOf 4096 words
       → Answers (reading later t words) words T′ a
       → (a ≡ Accepted rows n) × MeanSame s t (rowsOf 4096 T rows) (rowsOf 4096 T′ rows)
   read-back w later f i t words {T′} {a} b l k c =
@@ -320,7 +434,7 @@ module _ (limit : ℕ) (T : List ℕ) (rows : ℕ) (s p out₀ out : List ℕ) {
 -- ONE MESSAGE. Meaning and plan settle the bytes, and equal bytes come only from equal meaning: two accepted calls with one plan wrote the same bytes
 -- exactly if the tables, each with its text bytes, mean the same.
 pub same-bytes :
-    (limit limit′ : ℕ) (T T′ : List ℕ) (rows rows′ : ℕ) (s s′ p out₀ out₁ out out′ : List ℕ) {n n′ : ℕ} → Words T → Words T′ → Did limit T rows s p out₀ out (Written n)
+    (limit limit′ : ℕ) (T T′ : List ℕ) (rows rows′ : ℕ) (s s′ p out₀ out₁ out out′ : List ℕ) {n n′ : ℕ} → Below 4294967296 T → Below 4294967296 T′ → Did limit T rows s p out₀ out (Written n)
     → Did limit′ T′ rows′ s′ p out₁ out′ (Written n′) → MeanSame s s′ (rowsOf 4096 T rows) (rowsOf 4096 T′ rows′) ↔ (take n out ≡ take n′ out′)
 unfolding messageFor chosen
 same-bytes limit limit′ T T′ rows rows′ s s′ p out₀ out₁ out out′ w w′ d d′ =
@@ -352,6 +466,11 @@ module _ (T : List ℕ) (rows : ℕ) (s p prices : List ℕ) (yes : certified T 
   unfolding certifiedTexts
   certified-taken = both (taken p (textsOf s (rowsOf 4096 T rows))) _ texts-certified .0
 
+  -- the plan is taken, in document 02's words
+  pub certified-plan : Below 4294967296 T → Taken s (rowsOf 4096 T rows) p
+  unfolding writable writableTo
+  certified-plan w = taken-exactly 32 T rows s certified-writable w p .0 certified-taken
+
   proven : costs (sentsFrom p 0 (textsOf s (rowsOf 4096 T rows))) + 256 * total prices ≤ bound prices (textsOf s (rowsOf 4096 T rows))
   unfolding certifiedTexts proving
   proven =
@@ -362,7 +481,7 @@ module _ (T : List ℕ) (rows : ℕ) (s p prices : List ℕ) (yes : certified T 
       leb-true (costs (sentsFrom p 0 ts) + 256 * total prices) (bound prices ts) (c .1)
 
   pub certified-shortest :
-      (t : List ℕ) → Octets t → (room deep : ℕ) {others : List Row} {used : ℕ} {book : Book} → message t room deep ≡ got others used book
+      (t : List ℕ) → Below 256 t → (room deep : ℕ) {others : List Row} {used : ℕ} {book : Book} → message t room deep ≡ got others used book
       → MeanSame s t (rowsOf 4096 T rows) others → (length (planned s (rowsOf 4096 T rows) p) ≤ used) × (used ≤ length t)
   unfolding writable planned
   certified-shortest t o room deep e z =
@@ -371,82 +490,67 @@ module _ (T : List ℕ) (rows : ℕ) (s p prices : List ℕ) (yes : certified T 
 
   -- and so has what `plan_writer::write` writes with that plan
   pub written-shortest :
-      (limit : ℕ) (out₀ out : List ℕ) {n : ℕ} → Did limit T rows s p out₀ out (Written n) → (t : List ℕ) → Octets t → (room deep : ℕ) {others : List Row} {used : ℕ} {book : Book}
+      (limit : ℕ) (out₀ out : List ℕ) {n : ℕ} → Did limit T rows s p out₀ out (Written n) → (t : List ℕ) → Below 256 t → (room deep : ℕ) {others : List Row} {used : ℕ} {book : Book}
       → message t room deep ≡ got others used book → MeanSame s t (rowsOf 4096 T rows) others → (n ≤ used) × (used ≤ length t)
   written-shortest limit out₀ out d t o room deep e z =
       let h = certified-shortest t o room deep e z in
       (omega (arith, never-longer limit T rows s p out₀ out d .1, h .0), h .1)
 
--- from the reader, with a plan
-still-writable :
-    (limit : ℕ) (s : List ℕ) (words later : ℕ) {T : List ℕ} {n used : ℕ} {xs : List Row} {book : Book} → Octets s → limit ≤ later
-    → (e : reading limit s words ≡ got xs used book) → T ≡ tableOf words (got xs used book) → length xs ≡ n → writableTo later T n s ≡ true
-still-writable limit s words later o h e t l = rw (t, sym l) (read-writable limit s words e o later h)
-
-still-short :
-    (limit : ℕ) (s : List ℕ) (words : ℕ) {T : List ℕ} {n used : ℕ} {xs : List Row} {book : Book}
+-- the table of rows that were read, with as many stated and their message as text bytes
+read-still :
+    (limit : ℕ) (s : List ℕ) (words later : ℕ) {T : List ℕ} {n used : ℕ} {xs : List Row} {book : Book} → Below 256 s → limit ≤ later
     → (e : reading limit s words ≡ got xs used book) → T ≡ tableOf words (got xs used book) → length xs ≡ n
-    → length (repeated (textsOf s (rowsOf 4096 T n))) ≤ 256 → length (written s (rowsOf 4096 T n)) ≤ 65536
-still-short limit s words {T} {n} {used} {xs} {book} e t l few =
-    let k = read-short limit s words e (rw (t, sym l) at few) in
-    let z : length (written s (rowsOf 4096 (tableOf words (got xs used book)) (length xs))) ≤ 65536 = omega (arith, k .0, k .1, k .2) in
-    rw (t, sym l) z
-
-pub plan-from-the-reader :
-    (limit : ℕ) (s : List ℕ) (words later : ℕ) {T : List ℕ} {n used : ℕ} (p out₀ out : List ℕ) {m : Refusal} → Octets s → limit ≤ later
-    → Answers (reading limit s words) words T (Accepted n used) → Did later T n s p out₀ out (Refused m)
-    → (numberOf m ≡ 11 → ⊥) × (length (repeated (textsOf s (rowsOf 4096 T n))) ≤ 256 → numberOf m ≡ 12 → ⊥)
-unfolding messageFor chosen shorter
-plan-from-the-reader limit s words later {T} {n} {used} p out₀ out {m} o h c d = go (outcome later T n s p (length out₀))
+    → (writableTo later T n s ≡ true) × (length (repeated (textsOf s (rowsOf 4096 T n))) ≤ 256 → length (written s (rowsOf 4096 T n)) ≤ 65536)
+read-still limit s words later {T} {n} {used} {xs} {book} o h e t l = rw (t, sym l) (read-writable limit s words e o later h, short)
   where
-    form : List ℕ
-    form = written s (rowsOf 4096 T n)
+    short :
+        length (repeated (textsOf s (rowsOf 4096 (tableOf words (got xs used book)) (length xs)))) ≤ 256
+        → length (written s (rowsOf 4096 (tableOf words (got xs used book)) (length xs))) ≤ 65536
+    short few = let k = read-short limit s words e few in omega (arith, k .0, k .1, k .2)
 
-    other : List ℕ
-    other = planned s (rowsOf 4096 T n) p
+-- FROM THE READER: a table that `reader::read` made, with the rows that it reports and its message as text bytes, is never refused with 11 by a call
+-- whose limit is not lower; and if at most 256 texts repeat, not with 12 either.
+module _
+    (limit : ℕ) (s : List ℕ) (words later : ℕ) {T : List ℕ} {n used : ℕ} (o : Below 256 s) (h : limit ≤ later)
+    (c : Answers (reading limit s words) words T (Accepted n used))
+  where
+    still : (writableTo later T n s ≡ true) × (length (repeated (textsOf s (rowsOf 4096 T n))) ≤ 256 → length (written s (rowsOf 4096 T n)) ≤ 65536)
+    still = let g = accepted-read limit s words c in read-still limit s words later o h (g .is) (c .leaves ∙ ap (tableOf words) (g .is)) (g .count)
 
-    g : Read limit s words n used
-    g = accepted-read limit s words c
+    spared : (p : List ℕ) {room k : ℕ} → RefusedFor later T n s p room k → (k ≡ 11 → ⊥) × (length (repeated (textsOf s (rowsOf 4096 T n))) ≤ 256 → k ≡ 12 → ⊥)
+    spared p (no-limit i) = (λ q. omega arith, λ few q. omega arith)
+    spared p (long-text i b) = (λ q. omega arith, λ few q. omega arith)
+    spared p (not-writable i b f) = absurd (clash (still .0) f)
+    spared p (not-taken r f) = (λ q. omega arith, λ few q. omega arith)
+    spared p (long-message r f m l) = (λ q. omega arith, λ few q. omega (arith, still .1 few, chosen-least s (rowsOf 4096 T n) p m .0, l))
+    spared p (short-output r f m l k) = (λ q. omega arith, λ few q. omega arith)
 
-    t : T ≡ tableOf words (got (g .rows) used (g .book))
-    t = c .leaves ∙ ap (tableOf words) (g .is)
+    pub from-the-reader :
+        (p out₀ out : List ℕ) {a : Answer} → Below 4294967296 T → Did later T n s p out₀ out a
+        → (reportOf a .number ≡ 11 → ⊥) × (length (repeated (textsOf s (rowsOf 4096 T n))) ≤ 256 → reportOf a .number ≡ 12 → ⊥)
+    from-the-reader p out₀ out w d = (
+      λ e. spared p (refused-exactly later T n s p out₀ out w d 11 .0 (e, omega arith)) .0 refl,
+      λ few e. spared p (refused-exactly later T n s p out₀ out w d 12 .0 (e, omega arith)) .1 few refl,
+    )
 
-    short : length (repeated (textsOf s (rowsOf 4096 T n))) ≤ 256 → length (messageFor T n s p) ≤ 65536
-    short few = by (leb (length form) (length other)) refl (still-short limit s words (g .is) t (g .count) few)
-      where
-        by : (b : Bool) → leb (length form) (length other) ≡ b → length form ≤ 65536 → length (cond b form other) ≤ 65536
-        by true e l = l
-        by false e l = omega (arith, l, leb-false (length form) (length other) e)
+-- THE STATED ROWS ALONE, as without a plan (demands_writing's Writer): two calls with tables of whatever lengths that both hold the stated rows, or
+-- neither does, answer alike and leave the same bytes if their stated rows have the same words, at their places or column by column.
+module _
+    (limit : ℕ) (T T′ : List ℕ) (rows : ℕ) (s p out₀ out₁ out out′ : List ℕ) {a a′ : Answer} (w : Below 4294967296 T) (w′ : Below 4294967296 T′) (o : Below 256 s)
+    (hold : HoldAlike rows T T′) (l : length out₀ ≡ length out₁) (d : Did limit T rows s p out₀ out a) (d′ : Did limit T′ rows s p out₁ out′ a′)
+  where
+    pub stated-rows : rowsOf 4096 T rows ≡ rowsOf 4096 T′ rows → (a ≡ a′) × (out ≡ out′)
+    unfolding answerOf messageFor
+    stated-rows same =
+        let e : a ≡ a′ = d .says ∙ rw (l, writable-alike limit T T′ rows s w w′ o hold same, same) (sym (d′ .says)) in
+        (e, d .leaves ∙ rw (e, l, same) (sym (d′ .leaves)))
 
-    by : {a : Answer} → RefusedFor later T n s p (length out₀) a → Refused m ≡ a → (numberOf m ≡ 11 → ⊥) × (length (repeated (textsOf s (rowsOf 4096 T n))) ≤ 256 → numberOf m ≡ 12 → ⊥)
-    by (no-limit i) e = let z : m ≡ NoLimit = cc in rw z (λ q. omega arith, λ few q. omega arith)
-    by (long-text i a) e = let z : m ≡ TooLong = cc in rw z (λ q. omega arith, λ few q. omega arith)
-    by (not-writable i a b) e = absurd (clash (still-writable limit s words later o h (g .is) t (g .count)) b)
-    by (not-taken i a b f) e = let z : _≡_ {A = ℕ} 0 1 = cc in absurd (omega arith)
-    by (long-message i a b f l) e = let z : numberOf m ≡ 12 = cc in (λ q. omega (arith, z), λ few q. omega (arith, short few, l))
-    by (short-output i a b f l r) e = let z : m ≡ OutputTooShort = cc in rw z (λ q. omega arith, λ few q. omega arith)
+    pub stated-words :
+        ((r j : ℕ) → r < rows → j < 4 → getD T (place (roomOf 4096 (length T)) r j) 0 ≡ getD T′ (place (roomOf 4096 (length T′)) r j) 0)
+        → (a ≡ a′) × (out ≡ out′)
+    stated-words h = stated-rows (by-words T T′ rows h)
 
-    go : Outcome later T n s p (length out₀) → (numberOf m ≡ 11 → ⊥) × (length (repeated (textsOf s (rowsOf 4096 T n))) ≤ 256 → numberOf m ≡ 12 → ⊥)
-    go (accepted {n = k} a) = let e : Refused m ≡ Written k = d .says ∙ accepted-exactly later T n s p (length out₀) k .1 a in absurd (never e)
-    go (refused {a = a} r) = by r (d .says ∙ refused-so r)
-
--- no word but those of the stated rows, with a plan
-plan-writable-over :
-    (limit : ℕ) (T T′ : List ℕ) (rows : ℕ) (s : List ℕ) → Words T → Words T′ → Octets s → (rows * 4 ≤ length T → rows * 4 ≤ length T′)
-    → rowsOf 4096 T rows ≡ rowsOf 4096 T′ rows → writableTo limit T rows s ≡ true → writableTo limit T′ rows s ≡ true
-unfolding writableTo
-plan-writable-over limit T T′ rows s w w′ o over same e =
-    let h = writable-derivable 65536 4096 limit rows w o .0 e in
-    writable-derivable 65536 4096 limit rows w′ o .1
-    (record { text = h .0 .text; some-row = h .0 .some-row; few = h .0 .few; there = over (h .0 .there) }, rw same at (h .1))
-
-pub plan-stated-rows :
-    (limit : ℕ) (T T′ : List ℕ) (rows : ℕ) (s p out₀ out₁ out out′ : List ℕ) {a a′ : Answer} → Words T → Words T′ → Octets s
-    → HoldAlike rows T T′ → length out₀ ≡ length out₁ → Did limit T rows s p out₀ out a → Did limit T′ rows s p out₁ out′ a′
-    → rowsOf 4096 T rows ≡ rowsOf 4096 T′ rows → (a ≡ a′) × (out ≡ out′)
-unfolding answerOf messageFor
-plan-stated-rows limit T T′ rows s p out₀ out₁ out out′ {a} {a′} w w′ o hold l d d′ same =
-    let v : writableTo limit T rows s ≡ writableTo limit T′ rows s =
-    agreeing (writableTo limit T rows s) (writableTo limit T′ rows s) (plan-writable-over limit T T′ rows s w w′ o (hold .0) same) (plan-writable-over limit T′ T rows s w′ w o (hold .1) (sym same)) in
-    let e : a ≡ a′ = d .says ∙ rw (l, v, same) (sym (d′ .says)) in
-    (e, d .leaves ∙ rw (e, l, same) (sym (d′ .leaves)))
+    pub stated-columns :
+        ((j : ℕ) → j < 4 → take rows (drop (roomOf 4096 (length T) * j) T) ≡ take rows (drop (roomOf 4096 (length T′) * j) T′))
+        → (a ≡ a′) × (out ≡ out′)
+    stated-columns h = stated-rows (by-columns T T′ rows h)

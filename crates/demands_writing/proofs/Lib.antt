@@ -1,3 +1,4 @@
 pub mod Accepting
 pub mod Writer
 pub mod Writing
+pub mod Rows
