@@ -163,7 +163,8 @@ stored-columns words rows fits =
     }
 
 module _ (e : Edition) (limit : ℕ) (s : List ℕ) (words : ℕ) where
-  fits : length (rowsIn (reading e limit s words)) ≤ roomOf 4096 words
+  -- no more rows are read than there is room for
+  pub fits : length (rowsIn (reading e limit s words)) ≤ roomOf 4096 words
   unfolding reading
   fits = go (reading e limit s words) refl
     where
@@ -171,9 +172,12 @@ module _ (e : Edition) (limit : ℕ) (s : List ℕ) (words : ℕ) where
       go (refused m p) i = omega arith
       go (got rows used) i = sound e limit s (roomOf 4096 words) i .fits
 
+  pub rows-stored : {T : List ℕ} {a : Answer} → Answers (reading e limit s words) words T a → T ≡ putRows (roomOf 4096 words) (replicate words 0) 0 (rowsIn (reading e limit s words))
+  rows-stored d = d .leaves ∙ table-of words (reading e limit s words)
+
   -- COLUMNS (E12). The rows of the reading stand in the table, and every other word is zero.
   pub columns : {T : List ℕ} {a : Answer} → Answers (reading e limit s words) words T a → Columns words T (rowsIn (reading e limit s words))
-  columns d = rw (d .leaves, table-of words (reading e limit s words)) (stored-columns words (rowsIn (reading e limit s words)) fits)
+  columns d = rw (rows-stored d) (stored-columns words (rowsIn (reading e limit s words)) fits)
 
 -- GROWTH (E11), of the function's own answers: an answer other than 8, 9 and 23 stays under a limit that is not lower, up to 32, and in a table that is
 -- not smaller, with its place and rows; the words added are zero.

@@ -70,7 +70,7 @@ module _ (e : Edition) (limit : ℕ) (T : List ℕ) (rows : ℕ) (s out₀ out :
   accepted : AcceptedFor e limit T rows s (length out₀) n
   accepted = accepted-exactly e limit T rows s (length out₀) n .0 (sym (d .says))
 
-  was-writable : writable e limit T rows s ≡ true
+  pub was-writable : writable e limit T rows s ≡ true
   was-writable = accepted .shape
 
   -- THE FORM. The first n bytes of the output are the written form of the tree that the table tells.
