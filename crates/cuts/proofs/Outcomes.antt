@@ -74,9 +74,12 @@ module _ (limit : ℕ) (ok : allowed limit ≡ true) (words : ℕ) where
       never false = refl
 
   module _ (s : List ℕ) where
-    pub outcome-over : {q : ℕ} → 65536 < length s → reading limit (take 65536 s) words ≡ refused Ended q → outcome limit s words ≡ refused TooLong 0
+    pub outcome-ten : refusedWithOne (reading limit (take 65536 s) words) ≡ true → 65536 < length s → outcome limit s words ≡ refused TooLong 0
     unfolding outcome
-    outcome-over h e = rw (e, lt-ltb 65536 (length s) h)
+    outcome-ten e h = rw (e, lt-ltb 65536 (length s) h)
+
+    pub outcome-over : {q : ℕ} → 65536 < length s → reading limit (take 65536 s) words ≡ refused Ended q → outcome limit s words ≡ refused TooLong 0
+    outcome-over h e = outcome-ten (ap refusedWithOne e) h
 
     pub outcome-settled : refusedWithOne (reading limit (take 65536 s) words) ≡ false → outcome limit s words ≡ reading limit (take 65536 s) words
     unfolding outcome

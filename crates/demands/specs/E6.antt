@@ -2,9 +2,9 @@
 -- the exported `binmode_pieces_*` with the six words that the caller keeps. What some bytes come to is `outcome` (pieces/specs/Pieces): the first
 -- 65,536 read as a whole message, or 10; `soFar` tells of it with more wanted for 1. That the fields hold is proofs/E6. Assumes nothing.
 use mathlib.Core.Path.{_≡_}
-use mathlib.Core.Bool.{true}
+use mathlib.Core.Bool.{true, false}
 use mathlib.Core.Logic.{_↔_}
-use mathlib.Core.List.{List, [], _∷_, _++_}
+use mathlib.Core.List.{List, [], _∷_}
 use Prim.Native.Nat.{ℕ, _≤_, _<_}
 use lib.ListN.{length, take, drop, replicate, getD}
 use Rattle.draft.specs.Limits.{allowed}
@@ -21,7 +21,13 @@ use Rattle.piece_reports.specs.Calls.{Calls, EndCall}
 -- An interface: the states S, the one that it starts with, what a state tells; `Runs limit ps s R T s′ R′ T′`, calls over the pieces ps, each with that
 -- limit of nesting, the state as last returned (s at first, s′ at last), and one room and table untouched in between (R and T before, R′ and T′ after
 -- them); `End limit s n T T′ s′`, an end call with a room of n bytes.
-module _ (S : Type 0) (start : S) (tells : S → Told) (Runs : ℕ → List (List ℕ) → S → List ℕ → List ℕ → S → List ℕ → List ℕ → Type 0) (End : ℕ → S → ℕ → List ℕ → List ℕ → S → Type 0) where
+abbrev pub RunsOver : Type 0 → Type 1
+RunsOver S = ℕ → List (List ℕ) → S → List ℕ → List ℕ → S → List ℕ → List ℕ → Type 0
+
+abbrev pub EndOver : Type 0 → Type 1
+EndOver S = ℕ → S → ℕ → List ℕ → List ℕ → S → Type 0
+
+module _ (S : Type 0) (start : S) (tells : S → Told) (Runs : RunsOver S) (End : EndOver S) where
   -- calls over the pieces ps from the start on, with a limit of 1 to 32 and a room of at least 65,536 bytes
   pub record Run (limit : ℕ) (R₀ T₀ : List ℕ) (ps : List (List ℕ)) (s : S) (R T : List ℕ) : Type 0 where
     pub limited : allowed limit ≡ true
@@ -46,24 +52,29 @@ module _ (S : Type 0) (start : S) (tells : S → Told) (Runs : ℕ → List (Lis
         → (tells s ≡ more) ↔ (refusedWithOne (reading limit (joined ps) (length T₀)) ≡ true)
     pub more-zeros :
         {limit : ℕ} {R₀ T₀ R T p : List ℕ} {ps : List (List ℕ)} {s : S} → Run limit R₀ T₀ (p ∷ ps) s R T → tells s ≡ more → T ≡ replicate (length T₀) 0
-    -- 'Any other outcome is given with the piece that brings it.' A piece p more tells what all bytes with it come to, and the table is theirs
+    -- 'Any other outcome is given with the piece that brings it.'
     pub brought :
-        {limit : ℕ} {R₀ T₀ R T p R′ T′ : List ℕ} {ps : List (List ℕ)} {s s′ : S} → Run limit R₀ T₀ ps s R T → Runs limit (p ∷ []) s R T s′ R′ T′
-        → (tells s′ ≡ soFar (outcome limit (joined ps ++ p) (length T₀))) × (T′ ≡ tableOf (length T₀) (outcome limit (joined ps ++ p) (length T₀)))
-    -- 'Once accepted or refused, later pieces change nothing; demand 1 speaks of the calls up to that answer.' Of the table before them these know the length
+        {limit : ℕ} {R₀ T₀ R T p : List ℕ} {ps : List (List ℕ)} {s : S} → Run limit R₀ T₀ (p ∷ ps) s R T
+        → refusedWithOne (reading limit (take 65536 (joined (p ∷ ps))) (length T₀)) ≡ false
+        → (tells s ≡ toldOf (reading limit (take 65536 (joined (p ∷ ps))) (length T₀)))
+        × (T ≡ tableOf (length T₀) (reading limit (take 65536 (joined (p ∷ ps))) (length T₀)))
+    -- 'Once accepted or refused, later pieces change nothing; demand 1 speaks of the calls up to that answer.'
     pub later-pieces :
         {limit : ℕ} {R₀ T₀ R T R′ T′ : List ℕ} {ps qs : List (List ℕ)} {s s′ : S} → Run limit R₀ T₀ ps s R T → (tells s ≡ more → ⊥)
         → Runs limit qs s R T s′ R′ T′ → (s′ ≡ s) × (R′ ≡ R) × (T′ ≡ T)
     pub settled :
-        {limit : ℕ} {R₀ T₀ R T p : List ℕ} {ps : List (List ℕ)} {s : S} → Run limit R₀ T₀ (p ∷ ps) s R T
-        → T ≡ tableOf (length T₀) (outcome limit (joined (p ∷ ps)) (length T₀))
+        {limit : ℕ} {R₀ T₀ R T Q₀ U₀ Q U p : List ℕ} {ps : List (List ℕ)} {s s′ : S} → Run limit R₀ T₀ (p ∷ ps) s R T → Run limit Q₀ U₀ (p ∷ ps) s′ Q U
+        → length T₀ ≡ length U₀ → (tells s ≡ tells s′) × (T ≡ U)
     -- 'The room begins with the pieces' bytes through the deciding piece, cut at 65,536; its rest never changes.'
     pub room-holds :
         {limit : ℕ} {R₀ T₀ R T : List ℕ} {ps : List (List ℕ)} {s : S} → Run limit R₀ T₀ ps s R T → R ≡ roomWith (through limit (length T₀) [] ps) R₀
-    -- 'Refusals: 10 here only if no answer is reached within 65,536 bytes and another byte comes;'
+    -- 'Refusals: 10 here only if no answer is reached within 65,536 bytes and another byte comes;' at place 0, since none is given
     pub ten-only :
         {limit : ℕ} {R₀ T₀ R T : List ℕ} {ps : List (List ℕ)} {s : S} {place : ℕ} → Run limit R₀ T₀ ps s R T → tells s ≡ refusal 10 place
         → (refusedWithOne (reading limit (take 65536 (joined ps)) (length T₀)) ≡ true) × (65536 < length (joined ps))
+    pub ten-given :
+        {limit : ℕ} {R₀ T₀ R T : List ℕ} {ps : List (List ℕ)} {s : S} → Run limit R₀ T₀ ps s R T
+        → refusedWithOne (reading limit (take 65536 (joined ps)) (length T₀)) ≡ true → 65536 < length (joined ps) → tells s ≡ refusal 10 0
     -- '4, unused until now, before all else, at place 0, if the room is shorter than 65,536, the room unchanged.' Whatever the state; but 23 (E11) first
     pub short-room :
         {limit : ℕ} {p R T R′ T′ : List ℕ} {s s′ : S} → allowed limit ≡ true → length R < 65536 → Runs limit (p ∷ []) s R T s′ R′ T′

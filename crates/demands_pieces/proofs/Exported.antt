@@ -104,14 +104,6 @@ module _ (limit : ℕ) (ok : allowed limit ≡ true) (R₀ T₀ : List ℕ) (lon
   pub more-exactly : (toldBy w ≡ more) ↔ (refusedWithOne (reading limit (joined ps) (length T₀)) ≡ true)
   more-exactly = rw tells-last (functions.more-exactly limit ok R₀ T₀ long ps (started .run))
 
-  pub brought :
-      {p w′ R′ T′ : List ℕ} → Calls limit (p ∷ []) w R T w′ R′ T′
-      → (toldBy w′ ≡ soFar (outcome limit (joined ps ++ p) (length T₀))) × (T′ ≡ tableOf (length T₀) (outcome limit (joined ps ++ p) (length T₀)))
-  brought next =
-      let n = as-run (started .last) (started .words) (started .rows) next in
-      let i = functions.brought limit ok R₀ T₀ long ps (started .run) (n .run) in
-      (ap toldBy (n .words) ∙ tells (n .last) ∙ i .0, i .1)
-
   pub later-pieces :
       {qs : List (List ℕ)} {w′ R′ T′ : List ℕ} → (toldBy w ≡ more → ⊥) → Calls limit qs w R T w′ R′ T′ → (w′ ≡ w) × (R′ ≡ R) × (T′ ≡ T)
   later-pieces h next =
@@ -124,6 +116,9 @@ module _ (limit : ℕ) (ok : allowed limit ≡ true) (R₀ T₀ : List ℕ) (lon
 
   pub ten-told : {p : ℕ} → toldBy w ≡ refusal 10 p → (refusedWithOne (reading limit (take 65536 (joined ps)) (length T₀)) ≡ true) × (65536 < length (joined ps))
   ten-told h = functions.ten-told limit ok R₀ T₀ long ps (started .run) (sym tells-last ∙ h)
+
+  pub ten-given : refusedWithOne (reading limit (take 65536 (joined ps)) (length T₀)) ≡ true → 65536 < length (joined ps) → toldBy w ≡ refusal 10 0
+  ten-given h k = tells-last ∙ functions.ten-given limit ok R₀ T₀ long ps (started .run) h k
 
   -- of the bytes wanted, the sixth word
   pub wanted-waits :
@@ -144,12 +139,23 @@ module _ (limit : ℕ) (ok : allowed limit ≡ true) (R₀ T₀ : List ℕ) (lon
       by (Refused m place) e s r f = let z : _≡_ {A = ℕ} 0 1 = cc in absurd (omega arith)
 
 module _ (limit : ℕ) (ok : allowed limit ≡ true) (R₀ T₀ : List ℕ) (long : 65536 ≤ length R₀) (p : List ℕ) (ps : List (List ℕ)) {w R T : List ℕ} (calls : Calls limit (p ∷ ps) (wordsOf begun) R₀ T₀ w R T) where
-  pub table-so-far : T ≡ tableOf (length T₀) (outcome limit (joined (p ∷ ps)) (length T₀))
-  table-so-far = functions.table-so-far limit ok R₀ T₀ long p ps (started limit ok R₀ T₀ long (p ∷ ps) calls .run)
-
   pub more-zeros : toldBy w ≡ more → T ≡ replicate (length T₀) 0
   more-zeros h =
       functions.more-zeros limit ok R₀ T₀ long p ps (started limit ok R₀ T₀ long (p ∷ ps) calls .run) (sym (tells-last limit ok R₀ T₀ long (p ∷ ps) calls) ∙ h)
+
+  pub brought :
+      refusedWithOne (reading limit (take 65536 (joined (p ∷ ps))) (length T₀)) ≡ false
+      → (toldBy w ≡ toldOf (reading limit (take 65536 (joined (p ∷ ps))) (length T₀))) × (T ≡ tableOf (length T₀) (reading limit (take 65536 (joined (p ∷ ps))) (length T₀)))
+  brought h =
+      let i = functions.brought limit ok R₀ T₀ long p ps (started limit ok R₀ T₀ long (p ∷ ps) calls .run) h in
+      (tells-last limit ok R₀ T₀ long (p ∷ ps) calls ∙ i .0, i .1)
+
+pub settled :
+    (limit : ℕ) (ok : allowed limit ≡ true) (R₀ T₀ : List ℕ) → 65536 ≤ length R₀ → (Q₀ U₀ : List ℕ) → 65536 ≤ length Q₀ → length T₀ ≡ length U₀ → (p : List ℕ) (ps : List (List ℕ))
+    {w v R T Q U : List ℕ} → Calls limit (p ∷ ps) (wordsOf begun) R₀ T₀ w R T → Calls limit (p ∷ ps) (wordsOf begun) Q₀ U₀ v Q U → (toldBy w ≡ toldBy v) × (T ≡ U)
+settled limit ok R₀ T₀ long Q₀ U₀ far l p ps x y =
+    let i = functions.settled limit ok R₀ T₀ long Q₀ U₀ far l p ps (started limit ok R₀ T₀ long (p ∷ ps) x .run) (started limit ok Q₀ U₀ far (p ∷ ps) y .run) in
+    (tells-last limit ok R₀ T₀ long (p ∷ ps) x ∙ i .0 ∙ sym (tells-last limit ok Q₀ U₀ far (p ∷ ps) y), i .1)
 
 -- ---- any words, room and table
 pub past-stays : (limit : ℕ) {p w R T w′ R′ T′ : List ℕ} → Calls limit (p ∷ []) w R T w′ R′ T′ → drop 65536 R′ ≡ drop 65536 R

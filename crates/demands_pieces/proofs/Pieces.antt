@@ -5,7 +5,7 @@
 use mathlib.Core.Path.{_≡_, refl, sym, ap, _∙_}
 use mathlib.Core.Bool.{true, false}
 use mathlib.Core.Logic.{_↔_}
-use mathlib.Core.List.{List, [], _∷_, _++_, append-nil}
+use mathlib.Core.List.{List, [], _∷_, _++_}
 use Prim.Native.Nat.{ℕ, _≤_, _<_}
 use native.Mathlib.Omega.{arith}
 use lib.ListN.{length, take, drop, replicate}
@@ -18,10 +18,10 @@ use Rattle.rereading.specs.Rereading.{refusedWithOne}
 use Rattle.pieces.specs.declared.PieceRefusal.the-variants.{Message, ShortRoom}
 use Rattle.pieces.specs.declared.State.{State}
 use Rattle.pieces.specs.declared.State.the-variants.{More, Refused}
-use Rattle.pieces.specs.Pieces.{joined, outcome, through, roomWith, more, refusal, soFar}
+use Rattle.pieces.specs.Pieces.{joined, outcome, through, roomWith, more, refusal, toldOf, soFar}
 use Rattle.pieces.specs.Steps.{told, Went, Closed}
 use Rattle.pieces.specs.Runs.{begun, Runs, none, piece}
-use Rattle.cuts.proofs.Outcomes.{whole, wanting-reads, ten-only, outcome-through, all-joined, joined-append}
+use Rattle.cuts.proofs.Outcomes.{whole, wanting-reads, ten-only, outcome-ten, outcome-settled, outcome-through, all-joined, joined-append}
 use Rattle.cuts.proofs.Holding.{same-room}
 use Rattle.cuts.proofs.Calling.{decidedAs, Is, waiting, done}
 use Rattle.cuts.proofs.Running as run
@@ -55,6 +55,10 @@ module _ (limit : ℕ) (ok : allowed limit ≡ true) (R₀ T₀ : List ℕ) (lon
   pub ten-told : {p : ℕ} → told state ≡ refusal 10 p → (refusedWithOne (reading limit (take 65536 (joined ps)) (length T₀)) ≡ true) × (65536 < length (joined ps))
   ten-told h = ten-only limit ok (length T₀) (joined ps) (run.refusal-told (outcome limit (joined ps) (length T₀)) (sym so-far ∙ h))
 
+  -- and then it is given, at place 0
+  pub ten-given : refusedWithOne (reading limit (take 65536 (joined ps)) (length T₀)) ≡ true → 65536 < length (joined ps) → told state ≡ refusal 10 0
+  ten-given h k = so-far ∙ ap soFar (outcome-ten limit ok (length T₀) (joined ps) h k)
+
   -- WHOLE. Closed by an end call, for any cut of up to 65,536 bytes, what is told and the table are those of the whole message.
   pub as-whole : {T′ : List ℕ} {last : State} → length (joined ps) ≤ 65536 → Closed limit state (length R) T T′ last → Ends (reading limit (joined ps) (length T₀)) (length T₀) last T′
   as-whole {T′} {last} few w =
@@ -69,27 +73,27 @@ module _ (limit : ℕ) (ok : allowed limit ≡ true) (R₀ T₀ : List ℕ) (lon
   pub table-so-far : T ≡ tableOf (length T₀) (outcome limit (joined (p ∷ ps)) (length T₀))
   table-so-far = table-settled ∙ ap (tableOf (length T₀)) (outcome-through limit ok (length T₀) (p ∷ ps))
 
+  -- WITH THE PIECE THAT BRINGS IT. Any answer but 1 that the bytes so far have, cut at 65,536, is told, and the table is its table.
+  pub brought :
+      refusedWithOne (reading limit (take 65536 (joined (p ∷ ps))) (length T₀)) ≡ false
+      → (told state ≡ toldOf (reading limit (take 65536 (joined (p ∷ ps))) (length T₀))) × (T ≡ tableOf (length T₀) (reading limit (take 65536 (joined (p ∷ ps))) (length T₀)))
+  brought h =
+      let e = outcome-settled limit ok (length T₀) (joined (p ∷ ps)) h in
+      (so-far limit ok R₀ T₀ long (p ∷ ps) calls ∙ ap soFar e ∙ rw h, table-so-far ∙ ap (tableOf (length T₀)) e)
+
   pub more-zeros : told state ≡ more → T ≡ replicate (length T₀) 0
   more-zeros h =
       let o = outcome limit (joined (p ∷ ps)) (length T₀) in
       table-so-far ∙ run.refused-table (length T₀) o (run.more-told o (sym (so-far limit ok R₀ T₀ long (p ∷ ps) calls) ∙ h))
 
--- WITH THE PIECE THAT BRINGS IT. A piece p more: what is told, and the table, are those of all bytes with it.
-module _ (limit : ℕ) (ok : allowed limit ≡ true) (R₀ T₀ : List ℕ) (long : 65536 ≤ length R₀) (ps : List (List ℕ)) {state : State} {R T : List ℕ} (calls : Runs limit ps begun R₀ T₀ state R T) where
-  pub brought :
-      {p : List ℕ} {state′ : State} {R′ T′ : List ℕ} → Runs limit (p ∷ []) state R T state′ R′ T′
-      → (told state′ ≡ soFar (outcome limit (joined ps ++ p) (length T₀))) × (T′ ≡ tableOf (length T₀) (outcome limit (joined ps ++ p) (length T₀)))
-  unfolding joined
-  brought {p} {state′} {R′} {T′} next =
-      let e : joined (ps ++ (p ∷ [])) ≡ joined ps ++ p = joined-append ps (p ∷ []) ∙ ap (λ (x : List ℕ). joined ps ++ x) (append-nil p) in
-      let a : told state′ ≡ soFar (outcome limit (joined (ps ++ (p ∷ []))) (length T₀)) = so-far limit ok R₀ T₀ long (ps ++ (p ∷ [])) (run.run-append calls next) in
-      (rw e at a, rw e at (some ps (run.run-append calls next)))
-    where
-      some :
-          (qs : List (List ℕ)) → Runs limit (qs ++ (p ∷ [])) begun R₀ T₀ state′ R′ T′
-          → T′ ≡ tableOf (length T₀) (outcome limit (joined (qs ++ (p ∷ []))) (length T₀))
-      some [] c = table-so-far limit ok R₀ T₀ long p [] c
-      some (q ∷ qs) c = table-so-far limit ok R₀ T₀ long q (qs ++ (p ∷ [])) c
+-- SETTLED by the pieces and the table's length: what lay in room and table before is not told, and is not in the table after.
+pub settled :
+    (limit : ℕ) (ok : allowed limit ≡ true) (R₀ T₀ : List ℕ) → 65536 ≤ length R₀ → (Q₀ U₀ : List ℕ) → 65536 ≤ length Q₀ → length T₀ ≡ length U₀ → (p : List ℕ) (ps : List (List ℕ))
+    {state state′ : State} {R T Q U : List ℕ} → Runs limit (p ∷ ps) begun R₀ T₀ state R T → Runs limit (p ∷ ps) begun Q₀ U₀ state′ Q U → (told state ≡ told state′) × (T ≡ U)
+settled limit ok R₀ T₀ long Q₀ U₀ far l p ps x y = (
+  so-far limit ok R₀ T₀ long (p ∷ ps) x ∙ rw l (sym (so-far limit ok Q₀ U₀ far (p ∷ ps) y)),
+  table-so-far limit ok R₀ T₀ long p ps x ∙ rw l (sym (table-so-far limit ok Q₀ U₀ far p ps y)),
+)
 
 -- BYTES WANTED. Of a state that wants more: at most 65,537; and more is wanted still, whatever pieces come, as long as there are fewer bytes.
 module _ (limit : ℕ) (ok : allowed limit ≡ true) (R₀ T₀ : List ℕ) (long : 65536 ≤ length R₀) (ps : List (List ℕ)) {held wanted place : ℕ} {R T : List ℕ} (calls : Runs limit ps begun R₀ T₀ (More held wanted place) R T) where
@@ -115,14 +119,7 @@ module _ (limit : ℕ) (ok : allowed limit ≡ true) (R₀ T₀ : List ℕ) (lon
       let r : refusedWithOne (reading limit (joined ps ++ joined qs) (length T₀)) ≡ true = (rw t at w) (joined qs) few in
       more-exactly limit ok R₀ T₀ long (ps ++ qs) (run.run-append calls others) .1 (rw (joined-append ps qs) r)
 
--- ANY CUT. Two cuts of one message of up to 65,536 bytes, each in its own room and into equally large tables, are told alike and leave the same words.
-pub any-cut : (limit : ℕ) (ok : allowed limit ≡ true) (R₀ T₀ Q₀ U₀ : List ℕ) → 65536 ≤ length R₀ → 65536 ≤ length Q₀ → length T₀ ≡ length U₀ → (ps qs : List (List ℕ)) → joined ps ≡ joined qs → length (joined ps) ≤ 65536 → {a b a′ b′ : State} {R T T′ Q U U′ : List ℕ} → Runs limit ps begun R₀ T₀ a R T → Closed limit a (length R) T T′ a′ → Runs limit qs begun Q₀ U₀ b Q U → Closed limit b (length Q) U U′ b′ → (told a′ ≡ told b′) × (T′ ≡ U′)
-any-cut limit ok R₀ T₀ Q₀ U₀ h k l ps qs e few {T′ = T′} {U′ = U′} x c y d =
-    let i = as-whole limit ok R₀ T₀ h ps x few c in
-    let j = as-whole limit ok Q₀ U₀ k qs y (rw e at few) d in
-    (i .says ∙ rw (e, l) (sym (j .says)), i .table ∙ rw (e, l) (sym (j .table)))
-
--- and so for any later pieces
+-- LATER PIECES change nothing, once accepted or refused: neither the state, nor the room, nor the table.
 pub later-run :
     (limit : ℕ) → allowed limit ≡ true → {qs : List (List ℕ)} {state state′ : State} {R T R′ T′ : List ℕ} → (told state ≡ more → ⊥) → 65536 ≤ length R
     → Runs limit qs state R T state′ R′ T′ → Same state state′ R R′ T T′
@@ -141,7 +138,7 @@ later-calls limit ok R₀ T₀ long ps {R = R} calls h next =
 
 -- any limit, state, room and table
 module _ (limit : ℕ) (state : State) {p R T R′ T′ : List ℕ} {state′ : State} (w : Went limit state p R T R′ T′ state′) where
-  -- LATER PIECES change nothing: neither the state, once accepted or refused, nor the room, nor the table.
+  -- a later piece changes nothing
   pub later-pieces : allowed limit ≡ true → (told state ≡ more → ⊥) → 65536 ≤ length R → Same state state′ R R′ T T′
   later-pieces ok h long = run.decided-stays limit ok state h long w
 
