@@ -6,7 +6,7 @@ use Rattle.pieces.specs.declared.State.{State}
 use Rattle.pieces.specs.Steps.{Went, Closed}
 use Rattle.pieces.specs.Runs.{begun}
 use Rattle.piece_reports.specs.Words.{wordsOf, stateOf, Kept}
-use Rattle.binmode.specs.InPieces.{PieceReported, EndReported}
+use Rattle.piece_reports.specs.Reported.{PieceReported, EndReported}
 
 pub start-words : {state : State} {w : List ℕ} {n : ℕ} → state ≡ begun → Kept state w n → w ≡ wordsOf begun
 start-words e f = f .words ∙ ap wordsOf e

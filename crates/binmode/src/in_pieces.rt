@@ -4,7 +4,7 @@ ghost use mathlib.Core.Path.{_≡_};
 ghost use lib.ListN.{length};
 ghost use Rattle.pieces.specs.Runs.{begun};
 ghost use Rattle.piece_reports.specs.Words.{wordsOf};
-ghost use Rattle.binmode.specs.InPieces.{PieceReported, EndReported};
+ghost use Rattle.piece_reports.specs.Reported.{PieceReported, EndReported};
 
 // Sets the state for a message of which nothing has come.
 #[no_mangle]

@@ -14,7 +14,7 @@ ghost use Rattle.read_answer.specs.Answers.{reading};
 ghost use Rattle.read_reports.specs.Numbers.{report};
 ghost use Rattle.write_reports.specs.Numbers as writing;
 ghost use Rattle.binmode.specs.Reported.{Reported, WriteReported};
-ghost use Rattle.binmode.specs.InPieces.{PieceReported, EndReported};
+ghost use Rattle.piece_reports.specs.Reported.{PieceReported, EndReported};
 ghost use Rattle.binmode.specs.Planned.{WritePlannedReported};
 ghost use Rattle.binmode.specs.Stations.{StationRead, StationPiece, StationEnd, StationWrote, StationPlanned};
 

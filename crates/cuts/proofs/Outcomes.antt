@@ -2,10 +2,10 @@
 use mathlib.Core.Path.{_≡_, refl, sym, _∙_, ap}
 use mathlib.Core.Bool.{Bool, true, false, _&&_}
 use mathlib.Core.List.{List, [], _∷_, _++_, append-nil, append-assoc}
-use Prim.Native.Nat.{ℕ, _≤_, _<_}
+use Prim.Native.Nat.{ℕ, _+_, _-_, _≤_, _<_}
 use native.Mathlib.Omega.{arith}
 use lib.ListN.{length, take, length-append, length-take}
-use lib.Seq.{take-all}
+use lib.Seq.{take-all, take-append-le, take-append-add}
 use lib.Dec.{leb, ltb, eqb}
 use borrow.Author.Tests.{le-leb, lt-leb, lt-ltb, le-ltb, ltb-true, leb-true, leb-false, eqb-true}
 use Rattle.text.proofs.Comparing.{clash}
@@ -74,9 +74,12 @@ module _ (limit : ℕ) (ok : allowed limit ≡ true) (words : ℕ) where
       never false = refl
 
   module _ (s : List ℕ) where
-    pub outcome-over : {q : ℕ} → 65536 < length s → reading limit (take 65536 s) words ≡ refused Ended q → outcome limit s words ≡ refused TooLong 0
+    pub outcome-ten : refusedWithOne (reading limit (take 65536 s) words) ≡ true → 65536 < length s → outcome limit s words ≡ refused TooLong 0
     unfolding outcome
-    outcome-over h e = rw (e, lt-ltb 65536 (length s) h)
+    outcome-ten e h = rw (e, lt-ltb 65536 (length s) h)
+
+    pub outcome-over : {q : ℕ} → 65536 < length s → reading limit (take 65536 s) words ≡ refused Ended q → outcome limit s words ≡ refused TooLong 0
+    outcome-over h e = outcome-ten (ap refusedWithOne e) h
 
     pub outcome-settled : refusedWithOne (reading limit (take 65536 s) words) ≡ false → outcome limit s words ≡ reading limit (take 65536 s) words
     unfolding outcome
@@ -126,50 +129,57 @@ module _ (limit : ℕ) (ok : allowed limit ≡ true) (words : ℕ) where
   later : (s p : List ℕ) (ps : List (List ℕ)) → (s ++ p) ++ joined ps ≡ s ++ (p ++ joined ps)
   later s p ps = append-assoc s p (joined ps)
 
-  -- of up to 65,536 bytes, the outcome over the pieces is the reading of the whole
-  whole-from :
-      (ps : List (List ℕ)) (s : List ℕ) → length (s ++ joined ps) ≤ 65536 → outcome limit (through limit words s ps) words ≡ reading limit (s ++ joined ps) words
+  -- an outcome other than that more is wanted stays, whatever follows
+  outcome-stays : (s ys : List ℕ) → wanting limit s words ≡ false → outcome limit (s ++ ys) words ≡ outcome limit s words
+  unfolding outcome
+  outcome-stays s ys w = by (leb (length s) 65536) refl
+    where
+      short : length s ≤ 65536 → outcome limit (s ++ ys) words ≡ outcome limit s words
+      short h =
+          let zs : List ℕ = take (65536 - length s) ys in
+          let n : 65536 ≡ length s + (65536 - length s) = omega arith in
+          let c : take 65536 (s ++ ys) ≡ s ++ zs = ap (λ (k : ℕ). take k (s ++ ys)) n ∙ take-append-add s ys (65536 - length s) in
+          let few : length (s ++ zs) ≤ 65536 = omega (arith, length-append s zs, length-take (65536 - length s) ys) in
+          let r : refusedWithOne (reading limit s words) ≡ false = sym (ap refusedWithOne (within s h)) ∙ w in
+          let i : reading limit (take 65536 (s ++ ys)) words ≡ reading limit s words = ap (λ (x : List ℕ). reading limit x words) c ∙ stays s zs few r in
+          outcome-settled (s ++ ys) (ap refusedWithOne i ∙ r) ∙ i ∙ sym (within s h)
+
+      long : 65536 < length s → outcome limit (s ++ ys) words ≡ outcome limit s words
+      long h =
+          let k : 65536 < length (s ++ ys) = omega (arith, length-append s ys) in
+          rw (take-append-le 65536 s ys (omega arith), lt-ltb 65536 (length s) h, lt-ltb 65536 (length (s ++ ys)) k)
+
+      by : (b : Bool) → leb (length s) 65536 ≡ b → outcome limit (s ++ ys) words ≡ outcome limit s words
+      by true e = short (leb-true (length s) 65536 e)
+      by false e = long (leb-false (length s) 65536 e)
+
+  -- so the bytes through the deciding piece come to what all do
+  through-from : (ps : List (List ℕ)) (s : List ℕ) → outcome limit (through limit words s ps) words ≡ outcome limit (s ++ joined ps) words
   unfolding through joined
-  whole-from [] s h = rw (append-nil s) (within s (rw (append-nil s) at h))
-  whole-from (p ∷ ps) s h = by (wanting limit s words) refl (whole-from ps (s ++ p) (rw (later s p ps) h))
+  through-from [] s = rw (append-nil s)
+  through-from (p ∷ ps) s = by (wanting limit s words) refl (through-from ps (s ++ p))
     where
       by :
-          (b : Bool) → wanting limit s words ≡ b → outcome limit (through limit words (s ++ p) ps) words ≡ reading limit ((s ++ p) ++ joined ps) words
-          → outcome limit (pickBytes b (through limit words (s ++ p) ps) s) words ≡ reading limit (s ++ (p ++ joined ps)) words
+          (b : Bool) → wanting limit s words ≡ b → outcome limit (through limit words (s ++ p) ps) words ≡ outcome limit ((s ++ p) ++ joined ps) words
+          → outcome limit (pickBytes b (through limit words (s ++ p) ps) s) words ≡ outcome limit (s ++ (p ++ joined ps)) words
       by true e i = rw (← later s p ps) i
-      by false e i =
-          let j : outcome limit s words ≡ reading limit s words = within s (omega (arith, length-append s (p ++ joined ps))) in
-          j ∙ sym (stays s (p ++ joined ps) h (rw j at e))
+      by false e i = sym (outcome-stays s (p ++ joined ps) e)
 
+  pub outcome-through : (ps : List (List ℕ)) → outcome limit (through limit words [] ps) words ≡ outcome limit (joined ps) words
+  outcome-through ps = through-from ps []
+
+  -- of up to 65,536 bytes, that is the reading of the whole
   pub whole : (ps : List (List ℕ)) → length (joined ps) ≤ 65536 → outcome limit (through limit words [] ps) words ≡ reading limit (joined ps) words
-  whole ps h = whole-from ps [] h
+  whole ps h = outcome-through ps ∙ within (joined ps) h
 
-  -- more is wanted exactly if all bytes so far, read as a whole message, are refused with 1
-  wanting-from : (ps : List (List ℕ)) (s : List ℕ) → wanting limit (through limit words s ps) words ≡ refusedWithOne (reading limit (s ++ joined ps) words)
-  unfolding through joined
-  wanting-from [] s = rw (append-nil s) (by (leb (length s) 65536) refl (wanting limit s words) refl)
+  -- more is wanted exactly if the bytes, read as a whole message, are refused with 1
+  pub wanting-reads : (s : List ℕ) → wanting limit s words ≡ refusedWithOne (reading limit s words)
+  wanting-reads s = by (leb (length s) 65536) refl (wanting limit s words) refl
     where
       by : (b : Bool) → leb (length s) 65536 ≡ b → (c : Bool) → wanting limit s words ≡ c → wanting limit s words ≡ refusedWithOne (reading limit s words)
       by true e c f = ap refusedWithOne (within s (leb-true (length s) 65536 e))
       by false e true f = absurd (omega (arith, leb-false (length s) 65536 e, wanting-within s f))
       by false e false f = f ∙ sym (ap refusedWithOne (reads-over s (leb-false (length s) 65536 e)))
-  wanting-from (p ∷ ps) s = by (wanting limit s words) refl (wanting-from ps (s ++ p))
-    where
-      done : wanting limit s words ≡ false → (b : Bool) → leb (length (s ++ (p ++ joined ps))) 65536 ≡ b → wanting limit s words ≡ refusedWithOne (reading limit (s ++ (p ++ joined ps)) words)
-      done e true f =
-          let h = leb-true (length (s ++ (p ++ joined ps))) 65536 f in
-          let j : outcome limit s words ≡ reading limit s words = within s (omega (arith, length-append s (p ++ joined ps))) in
-          ap refusedWithOne (j ∙ sym (stays s (p ++ joined ps) h (rw j at e)))
-      done e false f = e ∙ sym (ap refusedWithOne (reads-over (s ++ (p ++ joined ps)) (leb-false (length (s ++ (p ++ joined ps))) 65536 f)))
-
-      by :
-          (b : Bool) → wanting limit s words ≡ b → wanting limit (through limit words (s ++ p) ps) words ≡ refusedWithOne (reading limit ((s ++ p) ++ joined ps) words)
-          → wanting limit (pickBytes b (through limit words (s ++ p) ps) s) words ≡ refusedWithOne (reading limit (s ++ (p ++ joined ps)) words)
-      by true e i = rw (← later s p ps) i
-      by false e i = done e (leb (length (s ++ (p ++ joined ps))) 65536) refl
-
-  pub wanting-whole : (ps : List (List ℕ)) → wanting limit (through limit words [] ps) words ≡ refusedWithOne (reading limit (joined ps) words)
-  wanting-whole ps = wanting-from ps []
 
   pub through-more : (s p : List ℕ) → wanting limit s words ≡ true → through limit words s (p ∷ []) ≡ s ++ p
   unfolding through
@@ -187,19 +197,6 @@ module _ (limit : ℕ) (ok : allowed limit ≡ true) (words : ℕ) where
       by : (b : Bool) → wanting limit s words ≡ b → pickBytes b (through limit words (s ++ p) ps) s ≡ through limit words (pickBytes b (s ++ p) s) ps
       by true e = refl
       by false e = sym (through-done s ps e)
-
-  -- the pieces ps, and then qs
-  pub through-append : (ps qs : List (List ℕ)) (s : List ℕ) → through limit words s (ps ++ qs) ≡ through limit words (through limit words s ps) qs
-  unfolding through
-  through-append [] qs s = refl
-  through-append (p ∷ ps) qs s = by (wanting limit s words) refl (through-append ps qs (s ++ p))
-    where
-      by :
-          (b : Bool) → wanting limit s words ≡ b
-          → through limit words (s ++ p) (ps ++ qs) ≡ through limit words (through limit words (s ++ p) ps) qs
-          → pickBytes b (through limit words (s ++ p) (ps ++ qs)) s ≡ through limit words (pickBytes b (through limit words (s ++ p) ps) s) qs
-      by true e i = i
-      by false e i = sym (through-done s qs e)
 
   -- while more is wanted, the bytes through the deciding piece are all
   through-all : (ps : List (List ℕ)) (s : List ℕ) → wanting limit (through limit words s ps) words ≡ true → through limit words s ps ≡ s ++ joined ps

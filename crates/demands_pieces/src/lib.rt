@@ -1,1 +1,1 @@
-// What is demanded of messages in pieces, as statements over the definitions: see specs/.
+// Laws of messages in pieces, by the functions and by the exported calls: see proofs/. No function.

@@ -35,7 +35,8 @@ fn words_of(state: State) -> [u64; 6]
     }
 }
 
-// The state that some numbers are: any answer that is no other's is a refusal's.
+// The state that some numbers are: any answer that is no other's is a refusal's. No message is accepted with 0 rows: that is one that has just
+// begun, so that a state of zeros is, which was never started.
 fn state_for(answer: u64, rows: u64, used: u64, place: u64, held: u64, wanted: u64) -> State
     ensures { λ r. ⌜ r ≡ stateFor answer rows used place held wanted ⌝ }
 {
@@ -47,6 +48,9 @@ fn state_for(answer: u64, rows: u64, used: u64, place: u64, held: u64, wanted: u
         };
     }
     if answer == 0 {
+        if rows == 0 {
+            return pieces::start();
+        }
         return State::Accepted {
             rows: rows as usize,
             used: used as usize,
