@@ -211,7 +211,7 @@ pub fn walk_value(
     notes: &mut [u16],
 ) -> usize
     requires { ⌜ Prepared (now text) room rows (now table) good r (now notes) ⌝ }
-    ensures { λ e. ⌜ extentOf e ≡ value (rowAt room (now (table .entry))) rows (now (text .entry)) deep r ⌝ }
+    ensures { λ e. ⌜ Done (value (rowAt room (now (table .entry))) rows (now (text .entry)) deep r) (named (now (text .entry)) room (now (table .entry))) (now (notes .entry)) (now (notes .exit)) r e ⌝ }
 {
     walk_items(table, room, rows, text, good, deep, 1, false, r, notes)
 }
@@ -228,7 +228,7 @@ pub fn walk_array(
     notes: &mut [u16],
 ) -> usize
     requires { ⌜ Prepared (now text) room rows (now table) good r (now notes) ⌝ }
-    ensures { λ e. ⌜ extentOf e ≡ only (rowAt room (now (table .entry))) rows (now (text .entry)) 9 (arrayItem (nested (rowAt room (now (table .entry))) rows (now (text .entry)) deep)) r ⌝ }
+    ensures { λ e. ⌜ Done (only (rowAt room (now (table .entry))) rows (now (text .entry)) 9 (arrayItem (nested (rowAt room (now (table .entry))) rows (now (text .entry)) deep)) r) (named (now (text .entry)) room (now (table .entry))) (now (notes .entry)) (now (notes .exit)) r e ⌝ }
 {
     if rows <= r {
         return 0;
@@ -253,7 +253,7 @@ pub fn walk_struct(
     notes: &mut [u16],
 ) -> usize
     requires { ⌜ Prepared (now text) room rows (now table) good r (now notes) ⌝ }
-    ensures { λ e. ⌜ extentOf e ≡ only (rowAt room (now (table .entry))) rows (now (text .entry)) 10 (structItem (rowAt room (now (table .entry))) rows (now (text .entry)) (nested (rowAt room (now (table .entry))) rows (now (text .entry)) deep)) r ⌝ }
+    ensures { λ e. ⌜ Done (only (rowAt room (now (table .entry))) rows (now (text .entry)) 10 (structItem (rowAt room (now (table .entry))) rows (now (text .entry)) (nested (rowAt room (now (table .entry))) rows (now (text .entry)) deep)) r) (named (now (text .entry)) room (now (table .entry))) (now (notes .entry)) (now (notes .exit)) r e ⌝ }
 {
     if rows <= r {
         return 0;

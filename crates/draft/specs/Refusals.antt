@@ -1,4 +1,5 @@
--- The refusals and the numbers that documents 01 and 02 give them (4 is not used). Assumes nothing.
+-- The refusals of a message or a table and the numbers that documents 01 and 02 give them; 4, of a room that is too short (E6), is none of
+-- these: crate pieces has it. Assumes nothing.
 use Prim.Native.Nat.{ℕ}
 use mathlib.Core.Bool.{Bool, true, false}
 use lib.Dec.{eqb}

@@ -108,7 +108,8 @@ module _ {row : ℕ → Row} {rows : ℕ} {s : List ℕ} {first most : ℕ} {o :
         bytes = i .done;
         between = i .between;
         further = h;
-        tried = record { long = i .place; front = λ k. i .front };
+        long = i .place;
+        front = λ k. i .front;
         few = omega (arith, i .within);
       }
 
@@ -137,7 +138,8 @@ module _ {row : ℕ → Row} {rows : ℕ} {s : List ℕ} {first most : ℕ} {o :
           bytes = i .done ++ itemBytes s x;
           between = between-on row rows h e s k (i .between);
           further = omega (arith, i .behind);
-          tried = record { long = place-here; front = λ q. absurd (omega (arith, i .within)) };
+          long = place-here;
+          front = λ q. absurd (omega (arith, i .within));
           few = omega (arith, p .long, item-most s x, i .within);
         })
 

@@ -7,7 +7,8 @@ use Rattle.draft.specs.Table.{from}
 use Rattle.draft.specs.Grammar.{Sent}
 use Rattle.draft.specs.Strings.{textsOf}
 use Rattle.draft.specs.Written.{itemsOf}
-use Rattle.output.specs.Contract.{Tried}
+use lib.ListN.{length}
+use Rattle.copying.specs.Contract.{Front}
 use Rattle.encoding.specs.declared.Run.{Run}
 
 -- the items of the rows from `first` up to `end`, none of which is a string, are xs, however strings are sent
@@ -21,5 +22,6 @@ pub record Ran (row : ℕ → Row) (rows : ℕ) (s : List ℕ) (first most : ℕ
   pub bytes : List ℕ
   pub between : Between row rows s first (run .end) bytes
   pub further : first < run .end
-  pub tried : Tried bytes most out out′ (run .bytes)
+  pub long : run .bytes ≡ length bytes
+  pub front : run .bytes ≤ most → Front bytes out out′
   pub few : run .bytes ≤ most + 65541

@@ -183,6 +183,22 @@ module _ (e : Edition) {s : List ℕ} {room rows : ℕ} {T : List ℕ} {keyed : 
         pub leaf-again : (next ≡ 0 → ⊥) → Going s room rows T keyed (object (rowAt room T) rows s e deep Any) n first N₀ (left - 1) next N₁
         leaf-again y = goes-on i h (p .below) k z leaf-there y (leaf-walked s room rows T x at next d (key-noted k z (i .keeps .noted)))
 
+-- any object, with the notes after it
+module _ (e : Edition) (deep : ℕ) (s : List ℕ) (room rows : ℕ) (T : List ℕ) where
+  pub object-missing : {N N′ : List ℕ} (r : ℕ) → rows ≤ r → Done (object (rowAt room T) rows s e deep Any r) (named s room T) N N′ r 0
+  object-missing r h = stopped (object-none e deep s room rows T r h)
+
+  module _ {x : Row} {r : ℕ} (h : Here (rowAt room T) rows x r) {N : List ℕ} where
+    pub object-walked :
+        {N′ : List ℕ} {n : ℕ} → Done (item (rowAt room T) rows s (sortOf e (x .kind)) (nested (rowAt room T) rows s e deep) x r) (named s room T) N N′ r n
+        → Done (object (rowAt room T) rows s e deep Any r) (named s room T) N N′ r n
+    object-walked d = record { says = object-says e deep s room rows T h d; walked = d .walked }
+
+    pub object-leaf :
+        {good : ℕ} (n : ℕ) → Met s room rows T good r N → holds (x .kind) ≡ false → extentOf n ≡ childless (rowAt room T) rows s x r
+        → Done (object (rowAt room T) rows s e deep Any r) (named s room T) N N r n
+    object-leaf n m f l = record { says = leaf-says e deep s room rows T h n f l; walked = leaf-walked s room rows T x r n l (m .noted) }
+
 pub here-is : {row : ℕ → Row} {rows : ℕ} {x : Row} {r : ℕ} → x ≡ row r → r < rows → Here row rows x r
 here-is e h = record { is = e; inside = h }
 
@@ -196,3 +212,5 @@ pub prepared-walkable : {s : List ℕ} {room rows : ℕ} {T : List ℕ} {good r 
 prepared-walkable a = record { ready = a .ready; checked = a .checked }
 
 pub ruleset walks = (object-none, object-says, leaf-says, container-ready, container-floor, container-not, container-done, going-first, going-on, going-ready, going-done, entry-key, entry-past, entry-met, container-stops, container-again, leaf-stops, leaf-again, here-is, held-so, met-walkable, prepared-walkable)
+
+pub ruleset objects = (object-missing, object-walked, object-leaf, here-is, held-so)

@@ -144,7 +144,7 @@ pub fn walk_object(
     notes: &mut [u16],
 ) -> usize
     requires { ⌜ Met (now text) room rows (now table) good r (now notes) ⌝ }
-    ensures { λ e. ⌜ extentOf e ≡ object (rowAt room (now (table .entry))) rows (now (text .entry)) edition deep Want.Any r ⌝ }
+    ensures { λ e. ⌜ Done (object (rowAt room (now (table .entry))) rows (now (text .entry)) edition deep Want.Any r) (named (now (text .entry)) room (now (table .entry))) (now (notes .entry)) (now (notes .exit)) r e ⌝ }
 {
     if rows <= r {
         return 0;

@@ -153,7 +153,7 @@ module _ {t : ℕ → Text} {W : List ℕ} {owner row : ℕ} (a : Noted t W row)
   note-ahead e eu = rw (e, eu) ahead
 
   pub note-again : {b : Bool} {u : Text} → u ≡ t row → b ≡ among (keysOf t W owner row) u → b ≡ true → Noting t W W owner row true
-  note-again eu q e = record { says = sym (rw eu at (sym q ∙ e)); added = λ f. clash refl f }
+  note-again eu q e = record { says = sym (rw eu at (sym q ∙ e)); added = λ f. clash refl f; kept = λ _. refl }
 
   -- a new key, put in front on its bucket's chain
   module _ (new : false ≡ among (keysOf t W owner row) (t row)) where
@@ -251,6 +251,7 @@ module _ {t : ℕ → Text} {W : List ℕ} {owner row : ℕ} (a : Noted t W row)
         record {
           says = new;
           added = λ f. rw (add-one row) (record { noted = rw (add-one row) noted-more; owners = owner-below; mine = rw (add-one row) mine; others = λ o d. rw (add-one row) (others o d) });
+          kept = λ f. clash f refl;
         }
 
     new-noting : {W″ : List ℕ} → W″ ≡ joined W owner row h → Noting t W W″ owner row false

@@ -76,10 +76,11 @@ pub record Added (t : ℕ → Text) (W W′ : List ℕ) (owner row : ℕ) : Type
   pub mine : keysOf t W′ owner (row + 1) ≡ t row ∷ keysOf t W owner row
   pub others : (o : ℕ) → (o ≡ owner → ⊥) → keysOf t W′ o (row + 1) ≡ keysOf t W o row
 
--- the key of a row is looked for among its owner's, and noted if it is new
+-- the key of a row is looked for among its owner's, and noted if it is new; else nothing is changed
 pub record Noting (t : ℕ → Text) (W W′ : List ℕ) (owner row : ℕ) (again : Bool) : Type 0 where
   pub says : again ≡ among (keysOf t W owner row) (t row)
   pub added : again ≡ false → Added t W W′ owner row
+  pub kept : again ≡ true → W′ ≡ W
 
 -- the chain from c on has all the owner's keys below `row` that may be u
 pub record Ahead (t : ℕ → Text) (W : List ℕ) (owner row c : ℕ) (u : Text) : Type 0 where

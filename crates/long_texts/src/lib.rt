@@ -5,8 +5,8 @@ ghost use Prim.Native.Nat.{_+_, _≤_, _<_};
 ghost use lib.ListN.{length};
 ghost use Rattle.draft.specs.Table.{rowAt};
 ghost use Rattle.passages.specs.Notes.{Notes};
-ghost use Rattle.extents.specs.Asked.{Ready, Checked};
-ghost use Rattle.long_texts.specs.Fine.{Found};
+ghost use Rattle.extents.specs.Asked.{Ready};
+ghost use Rattle.long_texts.specs.Fine.{Found, Counted};
 
 // Whether a row is no long String, or a fine one.
 fn is_fine(text: &[u8], row: Row, notes: &mut [u16]) -> bool
@@ -33,7 +33,7 @@ fn is_fine(text: &[u8], row: Row, notes: &mut [u16]) -> bool
 // The number of rows before the first long String that is not fine.
 fn count_good(table: &[u32], room: usize, rows: usize, text: &[u8], notes: &mut [u16]) -> usize
     requires { ⌜ Ready rows room (length (now table)) × Notes (now text) (now notes) ⌝ }
-    ensures { λ good. ⌜ Checked (rowAt room (now (table .entry))) (now (text .entry)) good ⌝ }
+    ensures { λ good. ⌜ Counted (rowAt room (now (table .entry))) rows (now (text .entry)) good ⌝ }
 {
     let mut r = 0;
     while r < rows {
@@ -50,7 +50,7 @@ fn count_good(table: &[u32], room: usize, rows: usize, text: &[u8], notes: &mut 
 // The same, with the notes laid out here.
 pub fn good_rows(table: &[u32], room: usize, rows: usize, text: &[u8]) -> usize
     requires { ⌜ Ready rows room (length (now table)) × (length (now text) ≤ 65536) ⌝ }
-    ensures { λ good. ⌜ Checked (rowAt room (now (table .entry))) (now (text .entry)) good ⌝ }
+    ensures { λ good. ⌜ Counted (rowAt room (now (table .entry))) rows (now (text .entry)) good ⌝ }
 {
     let mut words = [0u16; 256];
     let notes: &mut [u16] = &mut words;

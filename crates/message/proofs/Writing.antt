@@ -285,7 +285,7 @@ module _ {row : ℕ → Row} {rows : ℕ} {s W fs sp : List ℕ} {most : ℕ} {o
   write-few = omega (arith, i .room .few)
 
   -- bytes xs put behind what is there, with `more` to come
-  module _ (xs more : List ℕ) (q : rest row rows s W (i .known .count) r j ≡ xs ++ more) {m : ℕ} {ys : List ℕ} (p : Tried xs (most - at) (take (length out - at) (drop at out)) ys m) where
+  module _ (xs more : List ℕ) (q : rest row rows s W (i .known .count) r j ≡ xs ++ more) {m : ℕ} {ys : List ℕ} (long : m ≡ length xs) (front : m ≤ most - at → Front xs (take (length out - at) (drop at out)) ys) where
     split-here : take 12 o ++ planned s (from row 0 rows) ≡ i .done ++ (xs ++ more)
     split-here = i .split ∙ ap (λ (w : List ℕ). i .done ++ w) q
 
@@ -293,15 +293,15 @@ module _ {row : ℕ → Row} {rows : ℕ} {s W fs sp : List ℕ} {most : ℕ} {o
     over-here l =
         record {
           put = λ k. absurd (omega (arith, i .within));
-          over = λ k. omega (arith, i .within, i .place, p .long, ap length split-here ∙ length-append (i .done) _, length-append xs more);
+          over = λ k. omega (arith, i .within, i .place, long, ap length split-here ∙ length-append (i .done) _, length-append xs more);
         }
 
     module _ (l : m ≤ most - at) where
       front-here : Front (i .done ++ xs) o (take at out ++ (ys ++ drop (length out - at) (drop at out)))
-      front-here = front-on (i .front) at (sym (i .place)) (omega (arith, i .within, i .room .within)) (p .front l)
+      front-here = front-on (i .front) at (sym (i .place)) (omega (arith, i .within, i .room .within)) (front l)
 
       place-here : at + m ≡ length (i .done ++ xs)
-      place-here = sym (length-append (i .done) xs ∙ omega (arith, i .place, p .long))
+      place-here = sym (length-append (i .done) xs ∙ omega (arith, i .place, long))
 
       put-here : {r′ j′ : ℕ} → Stands row rows s W (i .known .count) r′ j′ → more ≡ rest row rows s W (i .known .count) r′ j′ → Writing row rows s W fs sp most o r′ j′ (at + m) (take at out ++ (ys ++ drop (length out - at) (drop at out)))
       put-here g z =
@@ -334,10 +334,10 @@ module _ {row : ℕ → Row} {rows : ℕ} {s W fs sp : List ℕ} {most : ℕ} {o
         write-fits = omega (arith, p .long, string-most row W s fs sp j, i .known .short, i .within, i .room .few)
 
         pub write-over : {out′ : List ℕ} → most - at < m → Fitted (take 12 o ++ planned s (from row 0 rows)) most o out′ (at + m)
-        write-over = over-here _ _ (rest-told (i .known) (i .stands) h e f) p
+        write-over = over-here _ _ (rest-told (i .known) (i .stands) h e f) (p .long) (p .front)
 
         pub write-string : m ≤ most - at → Writing row rows s W fs sp most o (r + 1) (j + 1) (at + m) (take at out ++ (ys ++ drop (length out - at) (drop at out)))
-        write-string l = rw (add-one r, add-one j) (put-here _ _ (rest-told (i .known) (i .stands) h e f) p l (next-string (i .stands) h e f) refl)
+        write-string l = rw (add-one r, add-one j) (put-here _ _ (rest-told (i .known) (i .stands) h e f) (p .long) (p .front) l (next-string (i .stands) h e f) refl)
 
     pub write-other : (x .kind ≡ 11 → ⊥) → row r .kind ≡ 11 → ⊥
     write-other f k = f (rw e k)
@@ -350,10 +350,10 @@ module _ {row : ℕ → Row} {rows : ℕ} {s W fs sp : List ℕ} {most : ℕ} {o
     run-less h = omega (arith, p .further)
 
     pub run-over : {out′ : List ℕ} → most - at < run .bytes → Fitted (take 12 o ++ planned s (from row 0 rows)) most o out′ (at + run .bytes)
-    run-over = over-here _ _ (p .between .items _) (p .tried)
+    run-over = over-here _ _ (p .between .items _) (p .long) (p .front)
 
     pub run-again : run .bytes ≤ most - at → Writing row rows s W fs sp most o (run .end) j (at + run .bytes) (take at out ++ (ys ++ drop (length out - at) (drop at out)))
-    run-again l = put-here _ _ (p .between .items _) (p .tried) l (next-run (i .stands) (p .between)) refl
+    run-again l = put-here _ _ (p .between .items _) (p .long) (p .front) l (next-run (i .stands) (p .between)) refl
 
 pub ruleset writing = (write-first, write-left, write-part, write-room, write-done, write-short, write-few, write-told, write-through, write-count, write-fits, write-over, write-string, write-other, run-fits, run-less, run-over, run-again, row-room)
 

@@ -89,31 +89,50 @@ module _ {o o₁ ys : List ℕ} {k : ℕ} where
 
 pub ruleset putting = (front-four, front-counted, put-one, put-two, put-number, put-long, put-short, put-recorded)
 
--- what was tried
-pub tried-put : {xs o o′ : List ℕ} {most n : ℕ} → Put xs o o′ n → Tried xs most o o′ n
-tried-put p = record { long = p .long; front = λ h. p .front }
+-- what was tried: with room for it, and without
+tried-put : {xs o o′ : List ℕ} {most k n : ℕ} → k ≤ most → k ≡ length xs → Put xs o o′ n → Tried xs most o o′ n
+tried-put h e p = record { long = p .long; front = λ _. p .front; kept = λ l. absurd (omega (arith, p .long)) }
 
-pub tried-over : {xs o : List ℕ} {most n : ℕ} → most < n → n ≡ length xs → Tried xs most o o n
-tried-over h e = record { long = e; front = λ k. absurd (omega arith) }
+tried-over : {xs o : List ℕ} {most n : ℕ} → most < n → n ≡ length xs → Tried xs most o o n
+tried-over h e = record { long = e; front = λ k. absurd (omega arith); kept = λ _. refl }
 
-module _ (b : ℕ) where
-  pub one-over : {o : List ℕ} {most : ℕ} → most < 1 → Tried (b ∷ []) most o o 1
+module _ {o : List ℕ} {most : ℕ} (b : ℕ) where
+  pub one-put : {o′ : List ℕ} {n : ℕ} → 1 ≤ most → Put (b ∷ []) o o′ n → Tried (b ∷ []) most o o′ n
+  one-put h = tried-put h refl
+
+  pub one-over : most < 1 → Tried (b ∷ []) most o o 1
   one-over h = tried-over h refl
 
-  pub number-over : (n : ℕ) {o : List ℕ} {most : ℕ} → most < 5 → Tried (b ∷ lsb n) most o o 5
-  number-over n h = tried-over h (omega (arith, lsb-four n))
+  pub number-put : (x : ℕ) {o′ : List ℕ} {n : ℕ} → 5 ≤ most → Put (b ∷ lsb x) o o′ n → Tried (b ∷ lsb x) most o o′ n
+  number-put x h = tried-put h (omega (arith, lsb-four x))
 
-  pub long-over : (t : List ℕ) {o : List ℕ} {most : ℕ} → most < 5 + length t → Tried (b ∷ counted t) most o o (5 + length t)
+  pub number-over : (x : ℕ) → most < 5 → Tried (b ∷ lsb x) most o o 5
+  number-over x h = tried-over h (omega (arith, lsb-four x))
+
+  pub long-put : (t : List ℕ) {o′ : List ℕ} {n : ℕ} → 5 + length t ≤ most → Put (b ∷ counted t) o o′ n → Tried (b ∷ counted t) most o o′ n
+  long-put t h = tried-put h (omega (arith, counted-length t))
+
+  pub long-over : (t : List ℕ) → most < 5 + length t → Tried (b ∷ counted t) most o o (5 + length t)
   long-over t h = tried-over h (omega (arith, counted-length t))
 
   module _ (c : ℕ) where
-    pub two-over : {o : List ℕ} {most : ℕ} → most < 2 → Tried (b ∷ c ∷ []) most o o 2
+    pub two-put : {o′ : List ℕ} {n : ℕ} → 2 ≤ most → Put (b ∷ c ∷ []) o o′ n → Tried (b ∷ c ∷ []) most o o′ n
+    two-put h = tried-put h refl
+
+    pub two-over : most < 2 → Tried (b ∷ c ∷ []) most o o 2
     two-over h = tried-over h refl
 
-    pub short-over : (t : List ℕ) {o : List ℕ} {most : ℕ} → most < 2 + length t → Tried (b ∷ c ∷ t) most o o (2 + length t)
+    pub short-put : (t : List ℕ) {o′ : List ℕ} {n : ℕ} → 2 + length t ≤ most → Put (b ∷ c ∷ t) o o′ n → Tried (b ∷ c ∷ t) most o o′ n
+    short-put t h = tried-put h (omega arith)
+
+    pub short-over : (t : List ℕ) → most < 2 + length t → Tried (b ∷ c ∷ t) most o o (2 + length t)
     short-over t h = tried-over h (omega arith)
 
-    pub recorded-over : (t : List ℕ) {o : List ℕ} {most : ℕ} → most < 6 + length t → Tried (b ∷ c ∷ counted t) most o o (6 + length t)
+    pub recorded-put : (t : List ℕ) {o′ : List ℕ} {n : ℕ} → 6 + length t ≤ most → Put (b ∷ c ∷ counted t) o o′ n → Tried (b ∷ c ∷ counted t) most o o′ n
+    recorded-put t h = tried-put h (omega (arith, counted-length t))
+
+    pub recorded-over : (t : List ℕ) → most < 6 + length t → Tried (b ∷ c ∷ counted t) most o o (6 + length t)
     recorded-over t h = tried-over h (omega (arith, counted-length t))
 
-pub ruleset trying = (tried-put, one-over, two-over, number-over, short-over, long-over, recorded-over)
+pub ruleset trying =
+    (one-put, one-over, two-put, two-over, number-put, number-over, short-put, short-over, long-put, long-over, recorded-put, recorded-over)

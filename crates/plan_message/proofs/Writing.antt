@@ -241,8 +241,8 @@ module _ {row : ℕ → Row} {rows : ℕ} {s W plan : List ℕ} {most : ℕ} {o 
     run-put : Put (p .bytes) (take (length out - at) (drop at out)) ys (run .bytes)
     run-put =
         record {
-          front = p .tried .front (omega (arith, fits-here (p .bytes) _ (p .between .items _), p .tried .long));
-          long = p .tried .long;
+          front = p .front (omega (arith, fits-here (p .bytes) _ (p .between .items _), p .long));
+          long = p .long;
         }
 
     pub run-fits : Fits w64 (at + run .bytes)

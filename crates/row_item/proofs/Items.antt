@@ -15,7 +15,7 @@ use Rattle.output.specs.Contract.{Tried}
 use Rattle.row_length.proofs.Lengths.{item-is, part-short}
 
 pub tried-none : {o : List ℕ} {m : ℕ} → Tried [] m o o 0
-tried-none = record { long = refl; front = λ h. record { is = refl } }
+tried-none = record { long = refl; front = λ h. record { is = refl }; kept = λ _. refl }
 
 -- by the kind of content
 pub content-tried : (c k : Content) (t : List ℕ) → c ≡ k → {o o′ : List ℕ} {m n : ℕ} → Tried (contentBytes k t) m o o′ n → Tried (contentBytes c t) m o o′ n

@@ -8,4 +8,4 @@ try-one-spec = tie.close (tie.spec
     (λ c. search trying)  -- returns
     (λ c κs. search needs)  -- put-one-requires
     (λ c. search needs)  -- same-length
-    (λ c. search needs))  -- returns-2
+    (λ c. search trying))  -- returns-2

@@ -10,4 +10,4 @@ try-short-spec = tie.close (tie.spec
     (λ c. search trying)  -- returns
     (λ c κs. search needs)  -- put-short-requires
     (λ c. search needs)  -- same-length
-    (λ c. search needs))  -- returns-2
+    (λ c. search trying))  -- returns-2

@@ -4,7 +4,7 @@ use Rattle.shape.proofs.walk_fault_struct.Statement.{statement}
 use Rattle.shape.proofs.walk_fault_struct.Tie as tie
 
 returns-3 : tie.Need-returns-3
-returns-3 c = fault-fine _ _ _ _ _ (c .before .before .before .before .before .before .before .walk-struct .ensures) (c .before .before .before .before .if1 .left) (c .before .before .before .if2 .left) (c .before .before .judge .ensures) (search needs)
+returns-3 c = fault-fine _ _ _ _ _ (c .before .before .before .before .before .before .before .walk-struct .ensures .says) (c .before .before .before .before .if1 .left) (c .before .before .before .if2 .left) (c .before .before .judge .ensures) (search needs)
 
 pub walk-fault-struct-spec : {M : Type 1} → statement M
 walk-fault-struct-spec = tie.close (tie.spec
