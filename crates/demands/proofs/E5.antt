@@ -1,12 +1,9 @@
 -- E5 holds, by the laws of demands_lookups.
 use mathlib.Core.Path.{_≡_, refl}
-use mathlib.Core.List.{List}
-use Prim.Native.Nat.{ℕ}
 use lib.IntN.{pos}
 use Rattle.lookup_answer.specs.declared.Answer.{Answer}
 use Rattle.lookup_answer.specs.declared.Answer.the-variants as answer
 use Rattle.lookup_answer.specs.Reports.{plusZero, reported, reportOf}
-use Rattle.defaults.specs.Defaults.{Source}
 use Rattle.demands_lookups.specs.Asked.{looked, told}
 use Rattle.demands_lookups.proofs.Lookups as lookups
 use Rattle.demands_lookups.proofs.Refusals as refusals

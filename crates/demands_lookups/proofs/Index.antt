@@ -17,16 +17,12 @@ use Rattle.draft.specs.Written.{rowsOf}
 use Rattle.exact.proofs.Realising.{counts}
 use Rattle.written.proofs.Concluding.{rows-length}
 use Rattle.member.specs.declared.Member.{Member}
-use Rattle.member.specs.declared.Found.the-variants.{At}
-use Rattle.member.specs.Members.{isStruct, members, find, isAmong}
+use Rattle.member.specs.Members.{isStruct, members, isAmong}
 use Rattle.member.proofs.Apart.{Apart, apart-half}
 use Rattle.order.specs.ByteOrder.{compared}
 use Rattle.order.specs.declared.Relation.the-variants.{Before}
 use Rattle.order.proofs.Ordering.{compared-self, before-equal}
 use Rattle.lookup_answer.specs.declared.Report.{Report}
-use Rattle.lookup_answer.specs.declared.Refusal.the-variants.{NotWritable, NoMember}
-use Rattle.lookup_answer.specs.declared.Answer.{Answer}
-use Rattle.lookup_answer.specs.declared.Answer.the-variants.{Refused}
 use Rattle.lookup_answer.specs.Answers.{lookup}
 use Rattle.lookup_answer.specs.Reports.{reportOf}
 use Rattle.shape.proofs.Judged.{rows-stated, room-most}

@@ -1,6 +1,6 @@
 -- Document 02's lookups and positions: what `lookup::lookup` and `position::position_of` promise (`Answers.lookup`, `Placing.position`) is what the
 -- message says. What a message says to one who looks a member up is crate meant's Meant; the long argument is there too. Assumes nothing.
-use mathlib.Core.Path.{_≡_, refl, sym, _∙_}
+use mathlib.Core.Path.{_≡_, sym, _∙_}
 use mathlib.Core.Bool.{true, false}
 use mathlib.Core.Logic.{_↔_}
 use mathlib.Core.List.{List, [], _∷_, _++_}
@@ -35,23 +35,21 @@ use Rattle.exact.proofs.Realising.{counts}
 use Rattle.written.specs.Derivable.{DerivesRows}
 use Rattle.written.proofs.Concluding.{rows-length}
 use Rattle.member.specs.declared.Member.{Member}
-use Rattle.member.specs.declared.Found.the-variants.{At, Absent}
-use Rattle.member.specs.Members.{members, keysOf, hasKey, find}
+use Rattle.member.specs.Members.{members, keysOf}
 use Rattle.lookup_answer.specs.declared.Refusal as Why
-use Rattle.lookup_answer.specs.declared.Refusal.the-variants.{NotWritable, NoMember, TooManyDigits}
-use Rattle.lookup_answer.specs.declared.Answer.{Answer}
+use Rattle.lookup_answer.specs.declared.Refusal.the-variants.{NotWritable, TooManyDigits}
 use Rattle.lookup_answer.specs.declared.Answer.the-variants.{Decimal, Refused}
 use Rattle.lookup_answer.specs.Answers.{lookup}
 use Rattle.lookup_answer.specs.Reports.{plusZero}
 use Rattle.placing.specs.declared.Outcome.the-variants as outcome
-use Rattle.placing.specs.Placing.{at, acceptedAt, refusedWith, position, settled, together, isAny, Lengthy, a-decimal, too-long}
+use Rattle.placing.specs.Placing.{at, acceptedAt, refusedWith, position}
 use Rattle.lookup_answer.specs.Answers.{decimalAnswer}
-use Rattle.placing.proofs.Together.{accepted-of, accepted-by, zeros-of, unwritable-of, long-of}
+use Rattle.placing.proofs.Together.{accepted-of, accepted-by, zeros-of, unwritable-of}
 use Rattle.meant.specs.Parts.{values, Parts}
 use Rattle.meant.proofs.Parting.{double-parts}
 use Rattle.meant.specs.Meant.{membersOf, Said, StructAt, Answered}
 use Rattle.meant.proofs.Saying.{standing, struct-said, answered}
-use Rattle.meant.proofs.Only.{members-distinct, found-only}
+use Rattle.meant.proofs.Only.{members-distinct}
 use Rattle.demands_reading.proofs.Reading.{sound, one-meaning}
 use Rattle.demands_reading.specs.Members.{Distinct}
 use Rattle.demands_writing.proofs.Writing.{Words, Octets, form-derived, judged, read-rows, read-writable}

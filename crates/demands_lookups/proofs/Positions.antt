@@ -1,5 +1,5 @@
 -- E5's positions exactly: by the three members x, y and turn, and the kinds of their values. Assumes nothing.
-use mathlib.Core.Path.{_≡_, refl, sym, ap, _∙_}
+use mathlib.Core.Path.{_≡_, refl, ap, _∙_}
 use mathlib.Core.Bool.{Bool, true, false, cond, _||_}
 use mathlib.Core.Logic.{_↔_}
 use mathlib.Core.List.{List}
@@ -7,15 +7,12 @@ use Prim.Native.Nat.{ℕ}
 use native.Mathlib.Omega.{arith}
 use lib.Dec.{eqb}
 use lib.Ieee.{Float}
-use borrow.Author.Tests.{eq-eqb, ne-eqb, eqb-true, eqb-false}
+use borrow.Author.Tests.{eq-eqb, eqb-true}
 use Rattle.text.proofs.Comparing.{clash}
-use Rattle.decimal.specs.Decimal.{held}
 use Rattle.draft.specs.Bytes.{bytes}
 use Rattle.member.specs.declared.Member.{Member}
 use Rattle.lookup_answer.specs.declared.Refusal.the-variants as why
 use Rattle.lookup_answer.specs.declared.Answer.{Answer}
-use Rattle.lookup_answer.specs.declared.Answer.the-variants as answer
-use Rattle.lookup_answer.specs.Answers.{lookup}
 use Rattle.lookup_answer.specs.Reports.{plusZero}
 use Rattle.placing.specs.declared.Outcome.{Outcome}
 use Rattle.placing.specs.declared.Outcome.the-variants as outcome

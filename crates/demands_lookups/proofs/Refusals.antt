@@ -6,7 +6,6 @@ use mathlib.Core.Logic.{_↔_, _⊎_, inl, inr}
 use mathlib.Core.List.{List, [], _∷_}
 use Prim.Native.Nat.{ℕ, _+_}
 use native.Mathlib.Omega.{arith}
-use lib.ListN.{length}
 use lib.Ieee.{Float}
 use borrow.Author.Tests.{eq-eqb}
 use Rattle.text.proofs.Comparing.{clash, same-is}
@@ -22,7 +21,7 @@ use Rattle.written.proofs.Concluding.{rows-length}
 use Rattle.member.specs.declared.Member.{Member}
 use Rattle.member.specs.declared.Found.{Found}
 use Rattle.member.specs.declared.Found.the-variants.{At, Absent}
-use Rattle.member.specs.Members.{isStruct, members, pickFound, hasKey, find, sameMember, isAmong}
+use Rattle.member.specs.Members.{members, pickFound, hasKey, find, sameMember, isAmong}
 use Rattle.member.proofs.Apart.{Apart}
 use Rattle.lookup_answer.specs.declared.Refusal.the-variants as why
 use Rattle.lookup_answer.specs.declared.Answer.{Answer}
@@ -32,9 +31,8 @@ use Rattle.index_search.proofs.Members.{of-key-row, found-at}
 use Rattle.defaults.specs.Defaults.{Source, rowIn, isWritable}
 use Rattle.meant.proofs.Saying.{standing}
 use Rattle.meant.proofs.Only.{ValueKind, integer-kind, boolean-kind, double-kind, datetime-kind, binary-kind, array-kind, struct-kind, string-kind, other-kind, members-stand, members-valued}
-use Rattle.demands_reading.proofs.Reading.{Distinct}
 use Rattle.demands_writing.proofs.Writing.{Words, form-derived, judged}
-use Rattle.demands_lookups.specs.Asked.{looked, told, itsMembers, NoStruct, Has, Without, kindIn, valueText, Yields, integer, boolean, double, long-double, string, datetime, binary, array, struct, other, Missing, no-struct, absent, LongDouble, DoubleOf}
+use Rattle.demands_lookups.specs.Asked.{looked, told, itsMembers, Has, Without, kindIn, valueText, Yields, integer, boolean, double, long-double, string, datetime, binary, array, struct, other, Missing, no-struct, absent, LongDouble, DoubleOf}
 use Rattle.demands_lookups.proofs.Lookups.{unwritable-first, distinct-members, long-nineteen}
 
 -- ---- what is found from the front is a member with the key

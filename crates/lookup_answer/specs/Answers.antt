@@ -71,7 +71,7 @@ module _ (row : ℕ → R.Row) where
   foundAnswer s (At m) = answerAt s (m .value)
   foundAnswer s Absent = Refused why.NoMember
 
-  -- what the first member with a key answers in the Struct of row r, among so many rows
+  -- what the member with a key answers in the Struct of row r, among so many rows
   unfoldable pub look : ℕ → List ℕ → ℕ → List ℕ → Answer
   look rows s r key = foundAnswer s (find row s key (members row rows r))
 

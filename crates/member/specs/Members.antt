@@ -1,4 +1,4 @@
--- The members of a Struct, by rows, and the first that has a key. Defined for any rows: a row past the stated ones ends the members, and a row
+-- The members of a Struct, by rows, and the one that has a key. Defined for any rows: a row past the stated ones ends the members, and a row
 -- that is no Struct has none. Assumes nothing.
 use mathlib.Core.Bool.{Bool, true, false, cond, _&&_, _||_}
 use mathlib.Core.List.{List, [], _∷_}

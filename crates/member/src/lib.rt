@@ -1,5 +1,6 @@
-// The members of a Struct in a lent table: how many, whether two rows are one's, and the first that has a key. A member is a key's row and, behind it, its value's row; the value's
-// `end` leads to the next key. Rows are looked at by their numbers and need not be those of a writable table.
+// The members of a Struct in a lent table: how many, whether two rows are one's, and the one that has a key. A member is a key's row and, behind it,
+// its value's row; the value's `end` leads to the next key. Rows are looked at by their numbers and need not be those of a writable table, in
+// which keys are distinct: where several members have the key, the first is found.
 ghost use mathlib.Core.Path.{_≡_};
 ghost use Prim.Native.Nat.{_+_, _*_, _≤_, _<_};
 ghost use lib.ListN.{length};
@@ -13,7 +14,7 @@ pub struct Member {
     pub value: u32,
 }
 
-// The first member with a key, or that there is none.
+// The member with a key, or that there is none.
 pub enum Found {
     At(Member),
     Absent,
@@ -63,7 +64,7 @@ fn member_at(r: usize) -> Member
     }
 }
 
-// The first with a key among n members, whose first key is row `first`.
+// The one with a key among n members, whose first key is row `first`.
 fn find_from(
     table: &[u32],
     room: usize,
@@ -95,7 +96,7 @@ fn find_from(
     Found::Absent
 }
 
-// The first member with a key in the Struct of row r; a row that is no Struct has no members.
+// The member with a key in the Struct of row r; a row that is no Struct has no members.
 pub fn find(table: &[u32], room: usize, rows: usize, text: &[u8], r: usize, key: &[u8]) -> Found
     requires { ⌜ (rows ≤ room) × (room ≤ 4096) × (room * 4 ≤ length (now table)) ⌝ }
     ensures { λ f. ⌜ f ≡ findIn (rowAt room (now (table .entry))) (now (text .entry)) (now (key .entry)) (members (rowAt room (now (table .entry))) rows r) ⌝ }

@@ -15,7 +15,7 @@ use Rattle.lookup_answer.specs.Reports.{plusZero}
 use Rattle.placing.specs.declared.Outcome.the-variants as outcome
 use Rattle.placing.specs.declared.Position.{Position}
 use Rattle.placing.specs.declared.Placed.{Placed}
-use Rattle.placing.specs.Placing.{coordinateNumber, coordinateValue, at, acceptedAt, refusedWith, pick, isAny, together, settled, Lengthy, a-decimal, too-long}
+use Rattle.placing.specs.Placing.{coordinateNumber, coordinateValue, at, acceptedAt, refusedWith, pick, isAny, together, settled}
 
 -- ---- three tests
 
@@ -36,11 +36,6 @@ picked-zeros true j k p e = refl
 picked-zeros false true k p e = refl
 picked-zeros false false true p e = refl
 picked-zeros false false false p e = let z : _≡_ {A = ℕ} 0 1 = cc in absurd (omega arith)
-
-picked-long : (i j k : Bool) (p : Position) → picked i j k p .outcome ≡ outcome.Refused TooManyDigits → (i ≡ false) × (j ≡ false)
-picked-long true j k p e = let z : _≡_ {A = ℕ} 0 1 = cc in absurd (omega arith)
-picked-long false true k p e = let z : _≡_ {A = ℕ} 0 1 = cc in absurd (omega arith)
-picked-long false false k p e = (refl, refl)
 
 either : (a b : Bool) → (a || b) ≡ false → (a ≡ false) × (b ≡ false)
 either true b e = clash refl e
@@ -64,16 +59,6 @@ decimal-by (Row r) e f g = absurd (f refl)
 decimal-by (Refused NotWritable) e f g = absurd (e refl)
 decimal-by (Refused NoMember) e f g = absurd (f refl)
 decimal-by (Refused TooManyDigits) e f g = absurd (g refl)
-
-lengthy-by : (a : Answer) → (coordinateNumber a ≡ 11 → ⊥) → (coordinateNumber a ≡ 18 → ⊥) → Lengthy a
-lengthy-by (Decimal x) e f = a-decimal
-lengthy-by (Whole n) e f = absurd (f refl)
-lengthy-by (Truth b) e f = absurd (f refl)
-lengthy-by (Text o n) e f = absurd (f refl)
-lengthy-by (Row r) e f = absurd (f refl)
-lengthy-by (Refused NotWritable) e f = absurd (e refl)
-lengthy-by (Refused NoMember) e f = absurd (f refl)
-lengthy-by (Refused TooManyDigits) e f = too-long
 
 -- ---- together
 
@@ -111,11 +96,3 @@ module _ (a b c : Answer) where
   pub zeros-of : {why : Why.Refusal} → settled a b c .outcome ≡ outcome.Refused why → settled a b c .position ≡ at plusZero plusZero plusZero
   unfolding settled together
   zeros-of e = picked-zeros (any 11) (any 18) (any 19) values e
-
-  pub long-of : settled a b c .outcome ≡ outcome.Refused TooManyDigits → Lengthy a × Lengthy b × Lengthy c
-  unfolding settled together
-  long-of e =
-      let h = picked-long (any 11) (any 18) (any 19) values e in
-      let u = none 11 (h .0) in
-      let v = none 18 (h .1) in
-      (lengthy-by a (u .0) (v .0), lengthy-by b (u .1) (v .1), lengthy-by c (u .2) (v .2))

@@ -70,8 +70,3 @@ settled x y turn =
 -- the position in the Struct of row r: three lookups
 unfoldable pub position : List ℕ → ℕ → List ℕ → ℕ → Placed
 position T rows s r = settled (lookup T rows s r (bytes "x")) (lookup T rows s r (bytes "y")) (lookup T rows s r (bytes "turn"))
-
--- an answer that does not stand in the way of 19: a decimal, or one with too many digits
-pub data Lengthy : Answer → Type 0 where
-  a-decimal : {x : Float} → Lengthy (Decimal x)
-  too-long : Lengthy (Refused TooManyDigits)
