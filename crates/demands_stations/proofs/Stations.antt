@@ -1,8 +1,7 @@
 -- Stations four and five on one table (request E10). `ReadFor limit s station split T T′ a` is the promise of `station_reading::read`, for a limit of
--- nesting, a message s, a table T that is split at a row and is T′ after the call, and the answer a; `CardFor` that of `read_card`; `NextFor` and `EndFor` those of
--- `station_pieces::next` and `end`; `WroteFor` that of `station_tables::write`,
--- and `planned.WroteFor` that of `station_plans::write`. `Called station split T T′ q a` is any of the first four, asked q and
--- told a. `shareOf station split T` are the share's words. Assumes nothing.
+-- nesting, a message s, a table T that is split at a row and is T′ after the call, and the answer a; `CardFor` that of `read_card`; `NextFor` and `EndFor`
+-- those of `station_pieces::next` and `end`; `WroteFor` that of `station_tables::write`, and `planned.WroteFor` that of `station_plans::write`. `Called
+-- station split T T′ q a` is any of the first four, asked q and told a. `shareOf station split T` are the share's words. Assumes nothing.
 use mathlib.Core.Path.{_≡_, refl, sym, ap, _∙_}
 use mathlib.Core.Bool.{true, false}
 use mathlib.Core.Logic.{_↔_}
@@ -194,8 +193,8 @@ module _ (station : Station) (split : ℕ) (T : List ℕ) (ok : splits split (le
   unfolding positionAnswer
   own-position rows s r = sharing.given-there station split T ok (positionAnswer rows s r) place.NotSplit
 
--- ALIKE. Answer and share's words depend on the message and the limit, or the job file and the card's number, and on the share's size: for any two tables, rows and
--- stations.
+-- ALIKE. Answer and share's words depend on the message and the limit, or the job file and the card's number, and on the share's size: for any two tables,
+-- rows and stations.
 module _
     (station other-station : Station) (split other-split : ℕ) (T U : List ℕ) (ok : splits split (length T) ≡ true)
     (ok′ : splits other-split (length U) ≡ true)
@@ -300,8 +299,8 @@ pub pieces-whole :
     → Ends (reading limit (joined ps) (length W₀)) (length W₀) last (shareOf station split T′)
 pieces-whole limit fine station split T R₀ W₀ long ps ts few d = pieces.as-whole limit fine R₀ W₀ long ps (owning.turns-run ts) few (its-end station split T d)
 
--- ALIKE. Two stations' messages in pieces, with one message however it is cut, one limit and shares of one size before the first piece: the same is told, and the
--- shares' words are the same, whatever the rooms, the tables, the rows and the other station's calls in between.
+-- ALIKE. Two stations' messages in pieces, with one message however it is cut, one limit and shares of one size before the first piece: the same is told, and
+-- the shares' words are the same, whatever the rooms, the tables, the rows and the other station's calls in between.
 pub pieces-alike :
     (limit : ℕ) (fine : allowed limit ≡ true) (station other-station : Station) (split other-split : ℕ) (T U R₀ Q₀ W₀ X₀ : List ℕ) → 65536 ≤ length R₀
     → 65536 ≤ length Q₀ → length W₀ ≡ length X₀ → (ps qs : List (List ℕ)) → joined ps ≡ joined qs → length (joined ps) ≤ 65536 → {a b a′ b′ : State} {R Q T′ U′ : List ℕ}
