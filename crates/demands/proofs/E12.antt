@@ -1,5 +1,4 @@
 -- Request E12 holds.
-use mathlib.Core.Path.{_≡_}
 use mathlib.Core.List.{List}
 use Prim.Native.Nat.{ℕ}
 use Rattle.draft.specs.Bytes.{Below}

@@ -5,7 +5,7 @@
 use mathlib.Core.Path.{_≡_}
 use mathlib.Core.Bool.{true}
 use mathlib.Core.List.{List, _∷_}
-use Prim.Native.Nat.{ℕ, _+_, _*_, _/_, _≤_, _<_}
+use Prim.Native.Nat.{ℕ, _+_, _*_, _≤_, _<_}
 use lib.ListN.{length, getD, take, drop}
 use Rattle.draft.specs.Bytes.{Below}
 use Rattle.draft.specs.Limits.{allowed}
@@ -40,7 +40,7 @@ use Rattle.placing.specs.Placing.{position}
 use Rattle.member.specs.declared.Member.{Member}
 use Rattle.index.specs.Filling.{entries, Filled}
 use Rattle.index_search.specs.Through.{through, keyAt, reportsOf}
-use Rattle.defaults.specs.Defaults.{Source, source, chosen}
+use Rattle.defaults.specs.Defaults.{source, chosen}
 use Rattle.written.specs.Derivable.{HoldAlike}
 use Rattle.layouts.specs.Layouts.{byRows, SameRows, turned}
 use Rattle.layouts.specs.Asking.{writableBy, writeBy, writtenBy, planBy, plannedBy, certifiedBy, lookupBy, positionBy, refusalBy, orderBy, throughBy, chosenBy}
