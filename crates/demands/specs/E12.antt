@@ -47,7 +47,7 @@ use Rattle.layouts.specs.Asking.{writableBy, writeBy, writtenBy, planBy, planne
 use Rattle.demands_calls.specs.Columns.{rowsIn, decided, cardRows, Kept}
 
 -- the table after each call that reads has the rows of its reading as columns; the share's words do, after each such call for a station
-pub record Tables : Type 0 where
+pub record AfterReading : Type 0 where
   pub read :
       (limit : ℕ) (s : List ℕ) (words : ℕ) {T : List ℕ} {a : Read} → Answers (reading limit s words) words T a
       → Kept words (rowsIn (reading limit s words)) T
@@ -100,7 +100,7 @@ pub record E12 : Type 0 where
   -- 'With room for c rows, the table becomes c kinds, then c a's, then c b's, then c ends; spare words stay zero.' and 'word j of row r stands at c times j
   -- plus r.'
   pub word-stands : (c r j : ℕ) → place c r j ≡ c * j + r
-  pub tables : Tables
+  pub after-reading : AfterReading
   -- 'Show that every answer is as before': an answer to a call that reads has no layout in it, and the table's rows are `Kept.as-before`; of calls that are
   -- lent a table, for any two tables with the same rows, and there is one for each
   pub turned-to-columns : (T₀ : List ℕ) → SameRows byRows place T₀ (turned byRows place T₀)
