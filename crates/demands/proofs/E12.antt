@@ -1,5 +1,4 @@
 -- Request E12 holds.
-use mathlib.Core.Path.{_≡_}
 use mathlib.Core.List.{List}
 use Prim.Native.Nat.{ℕ}
 use Rattle.draft.specs.Bytes.{Below}
@@ -9,10 +8,10 @@ use Rattle.defaults.specs.Defaults.{source}
 use Rattle.demands_writing.proofs.Writer as writer
 use Rattle.demands_stations.proofs.Stations as stations
 use Rattle.demands_calls.proofs.Columns as columns
-use Rattle.demands.specs.E12.{Tables, AsBefore, E12}
+use Rattle.demands.specs.E12.{AfterReading, AsBefore, E12}
 
-tables : Tables
-tables = record {
+after-reading : AfterReading
+after-reading = record {
   read = columns.read-kept;
   card = columns.card-kept;
   piece = columns.piece-kept;
@@ -39,7 +38,7 @@ as-before tie w₀ w rows s o = record {
 pub holds : E12
 holds = record {
   word-stands = columns.word-stands;
-  tables = tables;
+  after-reading = after-reading;
   turned-to-columns = columns.turned-columns;
   turned-to-rows = columns.turned-rows;
   as-before = as-before;

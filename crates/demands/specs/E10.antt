@@ -1,7 +1,8 @@
--- Request E10, stations four and five on one table: each sentence a field, over the promises of the calls for a station. `ReadFor limit s station split T T′ a` is that
--- of `station_reading::read`, of a message s into a table T that is split at a row and is T′ after the call; `CardFor` that of `read_card`; `NextFor` and `EndFor` those of
--- `station_pieces::next` and `end`, with a room R that is R′; `WroteFor` that of `station_tables::write`, `planned.WroteFor` that of `station_plans::write`; `lookup` and
--- `position_of` equate their answer with `onShare`. `Called station split T T′ q a` is any of the first four, asked q and told a. None has a `requires`. Assumes nothing.
+-- Request E10, stations four and five on one table: each sentence a field, over the promises of the calls for a station. `ReadFor limit s station split T T′
+-- a` is that of `station_reading::read`, of a message s into a table T that is split at a row and is T′ after the call; `CardFor` that of `read_card`;
+-- `NextFor` and `EndFor` those of `station_pieces::next` and `end`, with a room R that is R′; `WroteFor` that of `station_tables::write`, `planned.WroteFor`
+-- that of `station_plans::write`; `lookup` and `position_of` equate their answer with `onShare`. `Called station split T T′ q a` is any of the first four,
+-- asked q and told a. None has a `requires`. Assumes nothing.
 use mathlib.Core.Path.{_≡_}
 use mathlib.Core.Bool.{true, false}
 use mathlib.Core.Logic.{_↔_}
@@ -97,8 +98,8 @@ pub record E10 : Type 0 where
   pub others-stay :
       {station : Station} {split : ℕ} {T T′ : List ℕ} {q : Asked} {a : Told} → Called station split T T′ q a → splits split (length T) ≡ true
       → shareOf (other station) split T′ ≡ shareOf (other station) split T
-  -- 'and, 22 and E6's free results apart, its answers and its share's words depend only on its own material and the share's size.' In pieces that is after each piece
-  -- and after the end call, with any calls of the other station in between; so that calls of the two can be made in either order.
+  -- 'and, 22 and E6's free results apart, its answers and its share's words depend only on its own material and the share's size.' In pieces that is after
+  -- each piece and after the end call, with any calls of the other station in between; so that calls of the two can be made in either order.
   pub size-settles :
       (here there : Station) (split split′ : ℕ) (T U : List ℕ) → splits split (length T) ≡ true → splits split′ (length U) ≡ true
       → sizeOf here split (length T) ≡ sizeOf there split′ (length U) → OfOneSize here there split split′ T U
@@ -120,8 +121,8 @@ pub record E10 : Type 0 where
   -- 'Demand 1, E6's table and 01's zeroing, room and 4,096 rows here speak of the share;'
   pub as-alone : (station : Station) (split : ℕ) (T : List ℕ) → splits split (length T) ≡ true → AsAlone station split T
   pub after-each-piece :
-      (limit : ℕ) → allowed limit ≡ true → (station : Station) (R₀ W₀ : List ℕ) → 65536 ≤ length R₀ → (p : List ℕ) (ps : List (List ℕ)) {state : State} {R W : List ℕ}
-      → Turns limit station (p ∷ ps) begun R₀ W₀ state R W
+      (limit : ℕ) → allowed limit ≡ true → (station : Station) (R₀ W₀ : List ℕ) → 65536 ≤ length R₀ → (p : List ℕ) (ps : List (List ℕ)) {state : State}
+      → {R W : List ℕ} → Turns limit station (p ∷ ps) begun R₀ W₀ state R W
       → (told state ≡ soFar (outcome limit (through limit (length W₀) [] (p ∷ ps)) (length W₀))) × (R ≡ roomWith (through limit (length W₀) [] (p ∷ ps)) R₀)
       × (W ≡ tableOf (length W₀) (outcome limit (through limit (length W₀) [] (p ∷ ps)) (length W₀)))
   pub at-the-end :

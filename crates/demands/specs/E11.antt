@@ -1,7 +1,7 @@
--- Request E11, a limit of nesting by choice: each sentence a field, over the promises of the calls that take a limit, and of those that judge a table. `Answers`, `Did`,
--- `planner.Did`, `Reads`, `Went`, `Closed` are those of `reader::read`, `writer::write`, `plan_writer::write`, `job::read_card`, `pieces::next` and `end`; `ReadFor` and the
--- other names that end so are those of the same calls for a station. `Runs` and `Turns` are calls over pieces from the first on, without stations and for one. A call's number
--- is its refusal's, 0 if there is none. Assumes nothing.
+-- Request E11, a limit of nesting by choice: each sentence a field, over the promises of the calls that take a limit, and of those that judge a table.
+-- `Answers`, `Did`, `planner.Did`, `Reads`, `Went`, `Closed` are those of `reader::read`, `writer::write`, `plan_writer::write`, `job::read_card`,
+-- `pieces::next` and `end`; `ReadFor` and the other names that end so are those of the same calls for a station. `Runs` and `Turns` are calls over pieces
+-- from the first on, without stations and for one. A call's number is its refusal's, 0 if there is none. Assumes nothing.
 use mathlib.Core.Path.{_≡_}
 use mathlib.Core.Bool.{true, false, cond}
 use mathlib.Core.Logic.{_↔_}
@@ -81,8 +81,8 @@ pub record Judged : Type 0 where
       (unless (writableTo 32 (defaults .table) (defaults .rows) (defaults .text)) unfit.NotWritable
       (structsThen (rowIn card) (card .rows) (card .text) (card .row) (rowIn defaults) (defaults .rows) (defaults .text) (defaults .row) key))
 
--- 'What 01 says of tables made by the reader, and reading back, hold where the later call's limit is not lower': never 11, nor 12 if at most 256 texts repeat; and the
--- same meaning, whatever follows the message
+-- 'What 01 says of tables made by the reader, and reading back, hold where the later call's limit is not lower': never 11, nor 12 if at most 256 texts
+-- repeat; and the same meaning, whatever follows the message
 pub record NotLower : Type 0 where
   pub from-the-reader :
       (limit : ℕ) (s : List ℕ) (words later : ℕ) {T : List ℕ} {n used : ℕ} (out₀ out : List ℕ) {m : Refusal} → Below 256 s → limit ≤ later
@@ -103,8 +103,8 @@ pub record NotLower : Type 0 where
       → rows ≤ roomOf 4096 words → Answers (reading later t words) words T′ a
       → (a ≡ read.Accepted rows n) × MeanSame s t (rowsOf 4096 T rows) (rowsOf 4096 T′ rows)
 
--- 'for one message, an answer other than 8, 9, 22 or 23 stays, with its place and rows, under a higher limit up to 32, a larger table (under E10, share) or both, the added
--- words being zero.' Cards are read at 32, so that for them it is a larger table alone.
+-- 'for one message, an answer other than 8, 9, 22 or 23 stays, with its place and rows, under a higher limit up to 32, a larger table (under E10, share) or
+-- both, the added words being zero.' Cards are read at 32, so that for them it is a larger table alone.
 pub record Growth : Type 0 where
   pub read-grows :
       (s : List ℕ) {limit later words words′ : ℕ} → limit ≤ later → allowed later ≡ true → words ≤ words′ → {T T′ : List ℕ} {a b : Read}
@@ -145,8 +145,8 @@ pub record Growth : Type 0 where
       → EndFor later b (length Q) there split′ U U′ (Stands b′) → Lasts (numberTold (told a′))
       → Stays (told a′) (told b′) (rowsTold (told a′)) (shareOf here split T′) (shareOf there split′ U′)
 
--- 'Refusals: 23 for a limit outside 1 to 32, before all but 22, with table or output zeroed and E6's room unchanged.' So exactly then, whatever else is asked; in pieces from
--- the first call on, since a state that the caller hands in may be one that was refused with 23.
+-- 'Refusals: 23 for a limit outside 1 to 32, before all but 22, with table or output zeroed and E6's room unchanged.' So exactly then, whatever else is
+-- asked; in pieces from the first call on, since a state that the caller hands in may be one that was refused with 23.
 pub record Outside : Type 0 where
   pub read :
       (limit : ℕ) (s : List ℕ) (words : ℕ) {T : List ℕ} {a : Read} → Answers (reading limit s words) words T a

@@ -1,11 +1,11 @@
--- Request E12, rows kept as columns: each sentence a field, over the promises of the calls that leave a table and the definitions that those which are lent one are equated
--- with. `Kept words rows T` is a table of so many words that has these rows as columns, zeros in all other words, and the rows of the table before the request.
--- `SameRows byRows place T₀ T` ties a table T₀ of the layout before to a table T of columns: as long, with the same rows as far as there is room, and with the same words
--- behind them; `writeBy`, `lookupBy` .. are the definitions by any layout, of crate layouts. Assumes nothing.
+-- Request E12, rows kept as columns: each sentence a field, over the promises of the calls that leave a table and the definitions that those which are lent
+-- one are equated with. `Kept words rows T` is a table of so many words that has these rows as columns, zeros in all other words, and the rows of the table
+-- before the request. `SameRows byRows place T₀ T` ties a table T₀ of the layout before to a table T of columns: as long, with the same rows as far as there
+-- is room, and with the same words behind them; `writeBy`, `lookupBy` .. are the definitions by any layout, of crate layouts. Assumes nothing.
 use mathlib.Core.Path.{_≡_}
 use mathlib.Core.Bool.{true}
 use mathlib.Core.List.{List, _∷_}
-use Prim.Native.Nat.{ℕ, _+_, _*_, _/_, _≤_, _<_}
+use Prim.Native.Nat.{ℕ, _+_, _*_, _≤_, _<_}
 use lib.ListN.{length, getD, take, drop}
 use Rattle.draft.specs.Bytes.{Below}
 use Rattle.draft.specs.Limits.{allowed}
@@ -40,14 +40,14 @@ use Rattle.placing.specs.Placing.{position}
 use Rattle.member.specs.declared.Member.{Member}
 use Rattle.index.specs.Filling.{entries, Filled}
 use Rattle.index_search.specs.Through.{through, keyAt, reportsOf}
-use Rattle.defaults.specs.Defaults.{Source, source, chosen}
+use Rattle.defaults.specs.Defaults.{source, chosen}
 use Rattle.written.specs.Derivable.{HoldAlike}
 use Rattle.layouts.specs.Layouts.{byRows, SameRows, turned}
 use Rattle.layouts.specs.Asking.{writableBy, writeBy, writtenBy, planBy, plannedBy, certifiedBy, lookupBy, positionBy, refusalBy, orderBy, throughBy, chosenBy}
 use Rattle.demands_calls.specs.Columns.{rowsIn, decided, cardRows, Kept}
 
 -- the table after each call that reads has the rows of its reading as columns; the share's words do, after each such call for a station
-pub record Tables : Type 0 where
+pub record AfterReading : Type 0 where
   pub read :
       (limit : ℕ) (s : List ℕ) (words : ℕ) {T : List ℕ} {a : Read} → Answers (reading limit s words) words T a
       → Kept words (rowsIn (reading limit s words)) T
@@ -74,7 +74,8 @@ pub record Tables : Type 0 where
       → {state last : State} {R T′ : List ℕ} → Turns limit station ps begun R₀ W₀ state R (shareOf station split T)
       → EndFor limit state (length R) station split T T′ (Stands last) → Kept (length W₀) (rowsIn (decided limit (length W₀) ps)) (shareOf station split T′)
 
--- each call that is lent a table T of columns answers what it answered for the table T₀ with the same rows, the same stated number of them and the same text bytes
+-- each call that is lent a table T of columns answers what it answered for the table T₀ with the same rows, the same stated number of them and the same text
+-- bytes
 pub record AsBefore (T₀ T : List ℕ) (rows : ℕ) (s : List ℕ) : Type 0 where
   pub judged : (limit : ℕ) → writableTo limit T rows s ≡ writableBy byRows limit T₀ rows s
   pub write :
@@ -96,15 +97,17 @@ pub record AsBefore (T₀ T : List ℕ) (rows : ℕ) (s : List ℕ) : Type 0 whe
 
 pub record E12 : Type 0 where
   -- 'The new heads fetch all kinds in one sweep.' Nothing is said of answers.
-  -- 'With room for c rows, the table becomes c kinds, then c a's, then c b's, then c ends; spare words stay zero.' and 'word j of row r stands at c times j plus r.'
+  -- 'With room for c rows, the table becomes c kinds, then c a's, then c b's, then c ends; spare words stay zero.' and 'word j of row r stands at c times j
+  -- plus r.'
   pub word-stands : (c r j : ℕ) → place c r j ≡ c * j + r
-  pub tables : Tables
-  -- 'Show that every answer is as before': an answer to a call that reads has no layout in it, and the table's rows are `Kept.as-before`; of calls that are lent a table, for
-  -- any two tables with the same rows, and there is one for each
+  pub after-reading : AfterReading
+  -- 'Show that every answer is as before': an answer to a call that reads has no layout in it, and the table's rows are `Kept.as-before`; of calls that are
+  -- lent a table, for any two tables with the same rows, and there is one for each
   pub turned-to-columns : (T₀ : List ℕ) → SameRows byRows place T₀ (turned byRows place T₀)
   pub turned-to-rows : (T : List ℕ) → SameRows place byRows T (turned place byRows T)
   pub as-before :
-      {T₀ T : List ℕ} → SameRows byRows place T₀ T → Below 4294967296 T₀ → Below 4294967296 T → (rows : ℕ) (s : List ℕ) → Below 256 s → AsBefore T₀ T rows s
+      {T₀ T : List ℕ} → SameRows byRows place T₀ T → Below 4294967296 T₀ → Below 4294967296 T → (rows : ℕ) (s : List ℕ) → Below 256 s
+      → AsBefore T₀ T rows s
   pub defaults-as-before :
       (T₀ U₀ T U : List ℕ) (rows rows′ : ℕ) (s s′ : List ℕ) (r r′ : ℕ) → SameRows byRows place T₀ T → SameRows byRows place U₀ U → Below 4294967296 T₀
       → Below 4294967296 T → Below 4294967296 U₀ → Below 4294967296 U → Below 256 s → Below 256 s′ → (key : List ℕ)
@@ -116,7 +119,9 @@ pub record E12 : Type 0 where
       → (roomOf 4096 (sizeOf station split (length T)) * j + r < sizeOf station split (length T))
       × (getD (shareOf station split T) (roomOf 4096 (sizeOf station split (length T)) * j + r) 0
       ≡ getD T (firstWord station split + (roomOf 4096 (sizeOf station split (length T)) * j + r)) 0)
-  pub four-first : (split words : ℕ) → splits split words ≡ true → (firstWord Four split ≡ 0) × (firstWord Four split + sizeOf Four split words ≡ firstWord Five split)
+  pub four-first :
+      (split words : ℕ) → splits split words ≡ true
+      → (firstWord Four split ≡ 0) × (firstWord Four split + sizeOf Four split words ≡ firstWord Five split)
   -- 'Writer, lookup, index and defaults go over, the writer not looking past the stated rows in any column;' they are in `as-before`
   pub stated-columns :
       (limit : ℕ) (T T′ : List ℕ) (rows : ℕ) (s out₀ out₁ out out′ : List ℕ) {a a′ : Write} → Below 4294967296 T → Below 4294967296 T′ → Below 256 s

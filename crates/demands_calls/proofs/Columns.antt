@@ -49,7 +49,6 @@ use Rattle.placing.specs.Placing.{position}
 use Rattle.member.specs.declared.Member.{Member}
 use Rattle.index.specs.Filling.{refusalOf, orderOf, entries, Filled}
 use Rattle.index_search.specs.Through.{foundRow, rowAnswer, throughIf, through, keyAt, reportsOf}
-use Rattle.index_search.proofs.Theorems.{getD-from}
 use Rattle.defaults.specs.Defaults.{Source, chosen}
 use Rattle.layouts.specs.Layouts.{byRows, Lays, rowBy, SameRows, turned}
 use Rattle.layouts.specs.Asking.{rowsBy, writableBy, writeBy, writtenBy, planBy, plannedBy, certifiedBy, lookupBy, positionBy, refusalBy, orderBy, foundRowBy, rowAnswerBy, throughBy, chosenBy}

@@ -1,28 +1,25 @@
 -- Request E11's law of growth, for each call that reads, of its own answers: one that is none of 8, 9, 22 and 23 stays. Assumes nothing.
 use mathlib.Core.Path.{_≡_, refl, sym, ap, _∙_}
 use mathlib.Core.Bool.{Bool, true, false, _&&_}
-use mathlib.Core.Logic.{_↔_, _≢_}
+use mathlib.Core.Logic.{_≢_}
 use mathlib.Core.List.{List, [], _∷_, _++_}
-use Prim.Native.Nat.{ℕ, _≤_, _<_}
+use Prim.Native.Nat.{ℕ, _≤_}
 use native.Mathlib.Omega.{arith}
 use lib.Dec.{leb, ltb}
-use lib.ListN.{length, take, replicate}
-use borrow.Author.Tests.{le-leb, leb-true}
+use lib.ListN.{length, take}
+use borrow.Author.Tests.{leb-true}
 use Rattle.text.proofs.Comparing.{clash}
-use Rattle.draft.specs.declared.Refusal.{Refusal}
 use Rattle.draft.specs.declared.Refusal.the-variants.{TooDeep, NoRow, TooLong, NoLimit}
-use Rattle.draft.specs.Refusals.{numberOf, refusalOf}
+use Rattle.draft.specs.Refusals.{numberOf}
 use Rattle.draft.specs.Bytes.{part}
 use Rattle.draft.specs.Limits.{allowed}
 use Rattle.draft.specs.Table.{roomOf}
 use Rattle.draft.specs.Read.{Reading, got, refused, pick, message, messageWithin}
-use Rattle.draft.proofs.Limiting.{limit-least, limit-most}
-use Rattle.draft.proofs.Naming.{number-own}
-use Rattle.exact.proofs.Concluding.{of-reading, within-is, WithinRefused, of-bytes, of-message, within-refused}
+use Rattle.exact.proofs.Concluding.{within-is}
 use Rattle.read_answer.specs.declared.Answer.{Answer}
 use Rattle.read_answer.specs.declared.Answer.the-variants.{Accepted, Refused}
 use Rattle.read_answer.specs.Answers.{reading, answerOf, tableOf, Answers, reportOf}
-use Rattle.read_answer.proofs.Limited.{reading-within, reading-unlimited, reading-not}
+use Rattle.read_answer.proofs.Limited.{reading-within, reading-not}
 use Rattle.rereading.specs.Rereading.{refusedWithOne}
 use Rattle.records.specs.declared.Found.{Found}
 use Rattle.records.specs.declared.Found.the-variants as found
@@ -31,9 +28,9 @@ use Rattle.job.specs.declared.Answer.{Answer as JobAnswer}
 use Rattle.job.specs.Cards as job
 use Rattle.job.specs.Cards.{located, Reads}
 use Rattle.pieces.specs.declared.State.{State}
-use Rattle.pieces.specs.Pieces.{Told, joined, toldOf, soFar, pickTold, more, refusal, outcome, wanting, through, pickBytes}
-use Rattle.pieces.specs.Steps.{told, Went, Closed}
-use Rattle.pieces.specs.Runs.{begun, Runs, none, piece}
+use Rattle.pieces.specs.Pieces.{joined, toldOf, soFar, pickTold, more, refusal, outcome, wanting, through, pickBytes}
+use Rattle.pieces.specs.Steps.{told, Closed}
+use Rattle.pieces.specs.Runs.{begun, Runs}
 use Rattle.shares.specs.declared.Station.{Station}
 use Rattle.shares.specs.Share.{splits, sizeOf, shareOf}
 use Rattle.station_reading.specs.declared.Answer.{Answer as StationAnswer}
@@ -48,7 +45,7 @@ use Rattle.stations.specs.Calls as call
 use Rattle.stations.specs.Turns.{Turns}
 use Rattle.stations.proofs.Owning.{turns-run}
 use Rattle.demands_reading.proofs.Reading.{growth-of-limits}
-use Rattle.demands_pieces.proofs.Pieces.{as-whole, after-each, table-settled, no-limit, no-limit-end}
+use Rattle.demands_pieces.proofs.Pieces.{as-whole, after-each, table-settled, no-limit-end}
 use Rattle.demands_stations.specs.Numbers.{numberTold, rowsTold}
 use Rattle.demands_stations.proofs.Numbers.{has-share}
 use Rattle.demands_stations.proofs.Stations.{own-read, own-card, its-end}

@@ -214,8 +214,7 @@ module _ (at : Station) (split : ℕ) (T : List ℕ) (ok : splits split (length 
   station-read-unlimited s d =
       let x = own-read at split T ok limit s d in
       let z = read-unlimited limit s (sizeOf at split (length T)) (x .did) in
-      let i = ap (λ (y : StationAnswer). at-station.reportOf y .number) (x .is) in
-      (
+      let i = ap (λ (y : StationAnswer). at-station.reportOf y .number) (x .is) in (
         (λ e. z .0 .0 (sym i ∙ e), λ h. i ∙ z .0 .1 h),
         λ h. (x .is ∙ ap station.Answered (z .1 h .0), z .1 h .1),
       )

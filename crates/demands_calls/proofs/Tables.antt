@@ -19,7 +19,7 @@ use Rattle.read_answer.proofs.Limited.{got-within}
 use Rattle.rereading.specs.Rereading.{refusedWithOne}
 use Rattle.pieces.specs.Pieces.{outcome}
 use Rattle.index_search.proofs.Theorems.{getD-from}
-use Rattle.layouts.specs.Layouts.{byRows, setRowBy, putRowsBy, tableBy, FitsIn, SameRows}
+use Rattle.layouts.specs.Layouts.{byRows, setRowBy, putRowsBy, tableBy, FitsIn}
 use Rattle.layouts.proofs.Storing.{rows-lay, columns-lay, read-same}
 use Rattle.demands_reading.proofs.Reading.{sound}
 use Rattle.demands_calls.specs.Growth.{Stays}
@@ -75,7 +75,9 @@ stays {words = words} {words′ = words′} larger o h {T} {T′} d e {a} {b} {n
     record {
       answer = i;
       rows = rw (d, e, k) (table-rows words′ o (fits-larger larger o h) ∙ sym (table-rows words o h));
-      added = λ x f. ap (λ (l : List ℕ). getD l x 0) e ∙ table-spare words′ o x (λ r j p q z. f r j (omega arith) q (z ∙ ap (λ (w : ℕ). place (roomOf 4096 w) r j) (sym (ap length e ∙ table-length words′ o))));
+      added = λ x f.
+          let l : words′ ≡ length T′ = sym (ap length e ∙ table-length words′ o) in
+          ap (λ (U : List ℕ). getD U x 0) e ∙ table-spare words′ o x (λ r j p q z. f r j (omega arith) q (z ∙ ap (λ (w : ℕ). place (roomOf 4096 w) r j) l));
     }
 
 -- the draft's table is that by columns

@@ -38,8 +38,9 @@ abbrev pub cardRows : List ℕ → ℕ → Found → List Row
 cardRows s words (found.Body start size) = rowsIn (reading 32 (part s start size) words)
 cardRows s words (found.Missing refusal place) = []
 
--- a table of so many words, with room for c rows, that keeps these rows as columns: word j of row r stands at c times j plus r, each column is zeros behind the rows, and so
--- are all words behind the columns; and it has the rows of the table that it was before the request, when they were stored one after the other
+-- a table of so many words, with room for c rows, that keeps these rows as columns: word j of row r stands at c times j plus r, each column is zeros behind
+-- the rows, and so are all words behind the columns; and `as-before` ties it to the table of zeros in which the same rows were stored before the request, one
+-- after the other
 pub record Kept (words : ℕ) (rows : List Row) (T : List ℕ) : Type 0 where
   pub long : length T ≡ words
   pub stands : (r j : ℕ) → r < length rows → j < 4 → getD T (roomOf 4096 words * j + r) 0 ≡ wordOf j (getD rows r noRow)

@@ -14,8 +14,8 @@ pub record Lasts (number : ℕ) : Type 0 where
   pub not-split : number ≢ 22
   pub not-limit : number ≢ 23
 
--- 'stays, with its place and rows, .. the added words being zero': the answer a is b too, the n rows of the table T are those of T′, row by row, and a word of T′ that
--- is none of theirs is 0. A refusal has no rows, so that all words of T′ are
+-- 'stays, with its place and rows, .. the added words being zero': the answer a is b too, the n rows of the table T are those of T′, row by row, and a word
+-- of T′ that is none of theirs is 0. A refusal has no rows, so that every word of T′ is
 pub record Stays {A : Type 0} (a b : A) (n : ℕ) (T T′ : List ℕ) : Type 0 where
   pub answer : b ≡ a
   pub rows : rowsOf 4096 T′ n ≡ rowsOf 4096 T n

@@ -1,8 +1,8 @@
 -- Calls over the same pieces, with one limit and one room: after each, state, room and table are the same, whatever lay in the tables before, which are equally
 -- large. Nothing of this depends on E6's law. Assumes nothing.
-use mathlib.Core.Path.{_≡_, refl, sym, ap, _∙_}
+use mathlib.Core.Path.{_≡_, sym, _∙_}
 use mathlib.Core.Bool.{false}
-use mathlib.Core.List.{List, [], _∷_}
+use mathlib.Core.List.{List, _∷_}
 use Prim.Native.Nat.{ℕ, _+_}
 use native.Mathlib.Omega.{arith}
 use lib.Dec.{ltb}

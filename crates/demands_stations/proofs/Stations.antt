@@ -1,25 +1,19 @@
 -- Stations four and five on one table (request E10). `ReadFor limit s station split T T′ a` is the promise of `station_reading::read`, for a limit of
--- nesting, a message s, a table T that is split at a row and is T′ after the call, and the answer a; `CardFor` that of `read_card`; `NextFor` and `EndFor` those of
--- `station_pieces::next` and `end`; `WroteFor` that of `station_tables::write`,
--- and `planned.WroteFor` that of `station_plans::write`. `Called station split T T′ q a` is any of the first four, asked q and
--- told a. `shareOf station split T` are the share's words. Assumes nothing.
+-- nesting, a message s, a table T that is split at a row and is T′ after the call, and the answer a; `CardFor` that of `read_card`; `NextFor` and `EndFor`
+-- those of `station_pieces::next` and `end`; `WroteFor` that of `station_tables::write`, and `planned.WroteFor` that of `station_plans::write`. `Called
+-- station split T T′ q a` is any of the first four, asked q and told a. `shareOf station split T` are the share's words. Assumes nothing.
 use mathlib.Core.Path.{_≡_, refl, sym, ap, _∙_}
 use mathlib.Core.Bool.{true, false}
 use mathlib.Core.Logic.{_↔_}
 use mathlib.Core.List.{List, [], _∷_}
 use Prim.Native.Nat.{ℕ, _+_, _*_, _/_, _≤_, _<_}
 use native.Mathlib.Omega.{arith}
-use lib.ListN.{length, drop, replicate}
-use Rattle.draft.specs.declared.Refusal.{Refusal}
+use lib.ListN.{length, drop}
 use Rattle.draft.specs.Limits.{allowed}
 use Rattle.shares.specs.declared.Station.{Station}
 use Rattle.shares.specs.declared.Station.the-variants.{Four, Five}
 use Rattle.shares.specs.Share.{other, splits, firstWord, sizeOf, shareOf, onShare}
 use Rattle.shares.proofs.Sharing as sharing
-use Rattle.read_answer.specs.declared.Answer.the-variants as reader
-use Rattle.records.specs.declared.JobRefusal.{JobRefusal}
-use Rattle.records.specs.Job.{bodyOf}
-use Rattle.job.specs.declared.Answer.the-variants as job
 use Rattle.read_answer.specs.Answers.{reading, tableOf}
 use Rattle.lookup_answer.specs.Answers as lookups
 use Rattle.placing.specs.Placing.{position}
@@ -31,7 +25,6 @@ use Rattle.cuts.proofs.Running.{Ends}
 use Rattle.station_reading.specs.declared.Answer.{Answer}
 use Rattle.station_reading.specs.declared.Answer.the-variants as answer
 use Rattle.station_reading.specs.declared.CardAnswer.{CardAnswer}
-use Rattle.station_reading.specs.declared.CardAnswer.the-variants as card
 use Rattle.station_reading.specs.Answers.{ReadFor, CardFor}
 use Rattle.station_pieces.specs.declared.Answer.{Answer as PieceAnswer}
 use Rattle.station_pieces.specs.declared.Answer.the-variants.{Stands}
@@ -52,7 +45,6 @@ use Rattle.stations.specs.Turns.{Turns}
 use Rattle.stations.proofs.Calling as calls
 use Rattle.stations.proofs.Calling.{Same}
 use Rattle.stations.proofs.Owning as owning
-use Rattle.demands_jobs.proofs.Jobs as jobs
 use Rattle.demands_reading.proofs.Settled as whole-table
 use Rattle.demands_pieces.proofs.Pieces as pieces
 use Rattle.demands_stations.specs.Numbers.{callNumber}
@@ -146,31 +138,6 @@ module _ (station : Station) (split : ℕ) (T : List ℕ) (ok : splits split (le
         → OwnEnd limit state bytes (shareOf station split T) (shareOf station split T′) a
     own-end = owning.own-end station split T ok
 
-    -- ZEROS. On a refusal of the message, of the card or of the job the whole share is zeros.
-    pub refused-zeros :
-        (limit : ℕ) (s : List ℕ) {m : Refusal} {p : ℕ} → ReadFor limit s station split T T′ (answer.Answered (reader.Refused m p))
-        → shareOf station split T′ ≡ replicate (sizeOf station split (length T)) 0
-    refused-zeros limit s {m} {p} d =
-        let o = own-read limit s d in
-        let e : o .own ≡ reader.Refused m p = sym (cc) in
-        whole-table.refused-zeros limit s (sizeOf station split (length T)) (rw e at (o .did))
-
-    pub card-refused-zeros :
-        (s : List ℕ) (number : ℕ) {m : Refusal} {p : ℕ} → CardFor s number station split T T′ (card.Answered (job.Refused m p))
-        → shareOf station split T′ ≡ replicate (sizeOf station split (length T)) 0
-    card-refused-zeros s number {m} {p} d =
-        let o = own-card s number d in
-        let e : o .own ≡ job.Refused m p = sym (cc) in
-        jobs.card-refused-zeros s (sizeOf station split (length T)) (bodyOf s number) (rw e at (o .did))
-
-    pub no-card-zeros :
-        (s : List ℕ) (number : ℕ) {m : JobRefusal} {p : ℕ} → CardFor s number station split T T′ (card.Answered (job.Missing m p))
-        → shareOf station split T′ ≡ replicate (sizeOf station split (length T)) 0
-    no-card-zeros s number {m} {p} d =
-        let o = own-card s number d in
-        let e : o .own ≡ job.Missing m p = sym (cc) in
-        jobs.job-refused-zeros s (sizeOf station split (length T)) (bodyOf s number) (rw e at (o .did))
-
   pub own-write :
       (limit rows : ℕ) (s out : List ℕ) {out′ : List ℕ} {a : WriteAnswer} → WroteFor limit T station split rows s out out′ a
       → OwnWrite limit (shareOf station split T) rows s out out′ a
@@ -194,8 +161,8 @@ module _ (station : Station) (split : ℕ) (T : List ℕ) (ok : splits split (le
   unfolding positionAnswer
   own-position rows s r = sharing.given-there station split T ok (positionAnswer rows s r) place.NotSplit
 
--- ALIKE. Answer and share's words depend on the message and the limit, or the job file and the card's number, and on the share's size: for any two tables, rows and
--- stations.
+-- ALIKE. Answer and share's words depend on the message and the limit, or the job file and the card's number, and on the share's size: for any two tables,
+-- rows and stations.
 module _
     (station other-station : Station) (split other-split : ℕ) (T U : List ℕ) (ok : splits split (length T) ≡ true)
     (ok′ : splits other-split (length U) ≡ true)
@@ -299,20 +266,6 @@ pub pieces-whole :
     → length (joined ps) ≤ 65536 → EndFor limit state (length R) station split T T′ (Stands last)
     → Ends (reading limit (joined ps) (length W₀)) (length W₀) last (shareOf station split T′)
 pieces-whole limit fine station split T R₀ W₀ long ps ts few d = pieces.as-whole limit fine R₀ W₀ long ps (owning.turns-run ts) few (its-end station split T d)
-
--- ALIKE. Two stations' messages in pieces, with one message however it is cut, one limit and shares of one size before the first piece: the same is told, and the
--- shares' words are the same, whatever the rooms, the tables, the rows and the other station's calls in between.
-pub pieces-alike :
-    (limit : ℕ) (fine : allowed limit ≡ true) (station other-station : Station) (split other-split : ℕ) (T U R₀ Q₀ W₀ X₀ : List ℕ) → 65536 ≤ length R₀
-    → 65536 ≤ length Q₀ → length W₀ ≡ length X₀ → (ps qs : List (List ℕ)) → joined ps ≡ joined qs → length (joined ps) ≤ 65536 → {a b a′ b′ : State} {R Q T′ U′ : List ℕ}
-    → Turns limit station ps begun R₀ W₀ a R (shareOf station split T) → EndFor limit a (length R) station split T T′ (Stands a′)
-    → Turns limit other-station qs begun Q₀ X₀ b Q (shareOf other-station other-split U)
-    → EndFor limit b (length Q) other-station other-split U U′ (Stands b′)
-    → (told a′ ≡ told b′) × (shareOf station split T′ ≡ shareOf other-station other-split U′)
-pieces-alike limit fine station other-station split other-split T U R₀ Q₀ W₀ X₀ h k l ps qs e few x c y d =
-    let i = pieces-whole limit fine station split T R₀ W₀ h ps x few c in
-    let j = pieces-whole limit fine other-station other-split U Q₀ X₀ k qs y (rw e at few) d in
-    (i .says ∙ rw (e, l) (sym (j .says)), i .table ∙ rw (e, l) (sym (j .table)))
 
 -- AFTER EACH PIECE: what is told, the room, and the share's words are those of the bytes through the deciding piece.
 pub share-after-each :

@@ -1,1 +1,1 @@
-// What is demanded of calls for a station, as statements over the definitions: see specs/.
+// What is demanded of calls for a station, as laws over the definitions: see proofs/. What is told in numbers, which the pages cite: see specs/.
