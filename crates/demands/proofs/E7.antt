@@ -1,7 +1,7 @@
 -- E7 holds, by the laws of a Struct's keys in what is derived, in rows and in reading. Assumes nothing.
-use mathlib.Core.Path.{_≡_, refl, sym, _∙_}
+use mathlib.Core.Path.{_≡_, sym, ap, _∙_}
 use mathlib.Core.List.{List}
-use Prim.Native.Nat.{ℕ}
+use Prim.Native.Nat.{ℕ, suc}
 use Prim.Native.Char.{code}
 use lib.ListN.{length}
 use Rattle.draft.specs.declared.Refusal.{Refusal}
@@ -9,16 +9,19 @@ use Rattle.draft.specs.Codebook.{Book}
 use Rattle.draft.specs.Table.{roomOf, rowAt}
 use Rattle.draft.specs.Read.{refused, only, structItem, nested, faultStruct}
 use Rattle.draft.specs.Written.{rowsOf}
+use Rattle.read_answer.specs.Answers.{reportOf, answerOf}
 use Rattle.exact.proofs.Realising.{counts}
 use Rattle.written.specs.Derivable.{DerivesRows}
 use Rattle.written.proofs.Concluding.{rows-length}
 use Rattle.meant.proofs.Saying.{standing}
 use Rattle.meant.proofs.Only.{members-distinct}
 use Rattle.demands_reading.proofs.Reading as reading-laws
+use Rattle.demands_reading.proofs.Answering.{answered}
+use Rattle.demands_reading.proofs.Keys.{key-said}
 use Rattle.demands_writing.proofs.Writing.{form-derived}
 use Rattle.demands_writing.proofs.Accepting.{read-derives, eleven}
 use Rattle.demands_lookups.proofs.Lookups as lookups
-use Rattle.demands.specs.E7.{E7, KeysDistinct}
+use Rattle.demands.specs.E7.{E7, KeysDistinct, structSent}
 use Rattle.demands.proofs.Demands.{third}
 
 -- rows that mean what is derived
@@ -42,7 +45,8 @@ holds = record {
   writable-distinct = λ T rows s w e r. lookups.distinct-members T rows s e w r;
   only-one = λ T rows s w e r key ms m ns i h. lookups.only-one T rows s e w r key ms m ns i h;
   demand-three = third;
-  twenty = refl;
+  twenty = λ d i j k l {n} {keys} {xs} {ys} more words v h r e p u x m o q z.
+      ap reportOf (answered (suc d) (structSent i j k l xs ys more) words v h z ∙ ap answerOf (key-said d (roomOf 4096 words) i j k l more e p u x m o q r));
   key-repeated = λ s room value seen at r book e h. reading-laws.key-repeated s room value seen at r book e h;
   key-new = λ s room value seen at r book e h. reading-laws.key-new s room value seen at r book e h;
   key-refused = λ s room value seen at r book e. reading-laws.key-refused s room value seen at r book e;

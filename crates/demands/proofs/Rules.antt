@@ -26,6 +26,7 @@ of-reading = record {
   unused-zero = settled.unused-zero;
   stated-rows = λ limit T T′ rows s out₀ out₁ out out′ w w′ o hold l d d′ h.
       output.stated-words limit T T′ rows s out₀ out₁ out out′ w w′ o hold l d d′ h;
+  nesting-most = reading-laws.nesting-bound;
 }
 
 of-refusals : Refusals

@@ -67,6 +67,9 @@ pub record Reading : Type 0 where
       → HoldAlike rows T T′ → length out₀ ≡ length out₁ → Did limit T rows s out₀ out a → Did limit T′ rows s out₁ out′ a′
       → ((r j : ℕ) → r < rows → j < 4 → getD T (place (roomOf 4096 (length T)) r j) 0 ≡ getD T′ (place (roomOf 4096 (length T′)) r j) 0)
       → (a ≡ a′) × (out ≡ out′)
+  -- 'Nesting: an Array or Struct stands in at most 32 Arrays and Structs, itself counted.' (02: in at most the limit): `Begins s used d cells` says that it is
+  -- at most d, so it says so of any greater number
+  pub nesting-most : {s : List ℕ} {used d e : ℕ} {cells : List Cell} → Begins s used d cells → d ≤ e → Begins s used e cells
 
 -- 'Refusal numbers'
 pub record Refusals : Type 0 where
