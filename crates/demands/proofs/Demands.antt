@@ -57,10 +57,10 @@ second = record {
       let h = writer.accepted-exactly limit T rows s (length out₀) n in (
         λ e.
             let g = h .0 (sym (d .says) ∙ e) in
-            record { stated = g .stated; bytes = g .text; table = g .shape; long = g .long; most = g .most; room = g .fits },
+            record { stated = g .stated; text = g .text; table = g .shape; long = g .long; most = g .most; room = g .fits },
         λ g.
             d .says
-            ∙ h .1 (record { stated = g .stated; text = g .bytes; shape = g .table; long = g .long; most = g .most; fits = g .room }),
+            ∙ h .1 (record { stated = g .stated; text = g .text; shape = g .table; long = g .long; most = g .most; fits = g .room }),
       );
   read-back = λ limit T rows s out₀ out d w later f i words k c. output.read-back-alone limit T rows s out₀ out d w later f i words k c;
 }

@@ -76,7 +76,7 @@ pub record Derived (limit : ℕ) (s : List ℕ) (words n used : ℕ) : Type 0 wh
 -- a table is one that document 01 calls writable, and its message, of n bytes, fits
 pub record Fits (limit : ℕ) (T : List ℕ) (rows : ℕ) (s out₀ : List ℕ) (n : ℕ) : Type 0 where
   pub stated : allowed limit ≡ true
-  pub bytes : length s ≤ 65536
+  pub text : length s ≤ 65536
   pub table : writableTo limit T rows s ≡ true
   pub long : n ≡ length (written s (rowsOf 4096 T rows))
   pub most : n ≤ 65536
@@ -113,15 +113,14 @@ pub record Demand3 : Type 0 where
   -- bytes than that' (01: 'with refusals 8, 9 and 10 put aside', so for any room and nesting)
   pub no-shorter :
       (limit : ℕ) (T : List ℕ) (rows : ℕ) (s out₀ out : List ℕ) {n : ℕ} → Did limit T rows s out₀ out (write.Written n)
-      → length (repeated (textsOf s (rowsOf 4096 T rows))) ≤ 256
-      → (t : List ℕ) (room deep : ℕ) {others : List Row} {used : ℕ} {book : Book} → message t room deep ≡ got others used book
-      → MeanSame s t (rowsOf 4096 T rows) others → n ≤ length t
+      → length (repeated (textsOf s (rowsOf 4096 T rows))) ≤ 256 → (t : List ℕ) (room deep : ℕ) {others : List Row} {used : ℕ} {book : Book}
+      → message t room deep ≡ got others used book → MeanSame s t (rowsOf 4096 T rows) others → n ≤ length t
   -- 'This holds whatever forms and positions its sender chose for its strings, and whatever bytes follow its end': a beginning of t that the draft's rules
   -- derive, with any Strings, has n bytes at least
   pub no-shorter-sent :
       (limit : ℕ) (T : List ℕ) (rows : ℕ) (s out₀ out : List ℕ) {n : ℕ} → Did limit T rows s out₀ out (write.Written n)
-      → length (repeated (textsOf s (rowsOf 4096 T rows))) ≤ 256
-      → (t : List ℕ) {used nesting : ℕ} {cells : List Cell} → Begins t used nesting cells → Realises s 0 (rowsOf 4096 T rows) cells → n ≤ used
+      → length (repeated (textsOf s (rowsOf 4096 T rows))) ≤ 256 → (t : List ℕ) {used nesting : ℕ} {cells : List Cell}
+      → Begins t used nesting cells → Realises s 0 (rowsOf 4096 T rows) cells → n ≤ used
 
 pub record Demands : Type 0 where
   pub first : Demand1

@@ -12,3 +12,6 @@ pub mod E3
 pub mod E13
 pub mod E14
 pub mod E6
+pub mod E4
+pub mod E7
+pub mod Rules

@@ -3,3 +3,4 @@ pub mod Reading
 pub mod Settled
 pub mod Answering
 pub mod Values
+pub mod Keys

@@ -104,17 +104,6 @@ one-meaning {s} b c = begins-once s b c
 
 -- PUT ASIDE. With 8, 9 and 10 put aside, that is for some rows and nesting and with no test of the number of bytes, reading accepts exactly the
 -- messages of which a beginning is derived; and with exactly the meaning and the bytes used that are derived.
-pub put-aside :
-    (s : List ℕ) (used : ℕ)
-    → ((room : ℕ) × (deep : ℕ) × (rows : List Row) × (book : Book) × (message s room deep ≡ got rows used book))
-    ↔ ((nesting : ℕ) × (cells : List Cell) × Begins s used nesting cells)
-put-aside s used = (
-  λ h. let g = derived-from s (h .0) (h .1) (h .4) in (h .1, g .cells, begins s (h .0) (h .1) g),
-  λ h.
-      let g = reads s (length (h .1)) (h .0) (h .2) (omega arith) (omega arith) in
-      (length (h .1), h .0, g .rows, g .book, g .is),
-)
-
 pub put-aside-meaning :
     (s : List ℕ) (used : ℕ) (cells : List Cell)
     → ((room : ℕ) × (deep : ℕ) × Accepts (message s room deep) s used cells) ↔ ((nesting : ℕ) × Begins s used nesting cells)

@@ -51,6 +51,13 @@ writable-derivable bytes most deep {T} {s} rows w o = (
   λ h. conclude.derived-writable bytes most deep T rows s (h .0) (h .1 .2) (h .1 .1),
 )
 
+-- the same with document 01's numbers
+pub writable-to :
+    (limit : ℕ) {T s : List ℕ} (rows : ℕ) → Words T → Octets s
+    → (writableTo limit T rows s ≡ true) ↔ (Within 65536 4096 T rows s × ((xs : List ℕ) × Octets xs × DerivesRows limit xs s (rowsOf 4096 T rows)))
+unfolding writableTo
+writable-to limit rows w o = writable-derivable 65536 4096 limit rows w o
+
 -- an answer accepts the bytes t with so many bytes used and so many rows, which mean the same as those of s
 pub record ReadsBack (answer : Reading) (t : List ℕ) (used rows : ℕ) (s : List ℕ) (others : List Row) : Type 0 where
   pub back : List Row

@@ -1,1 +1,1 @@
-// The demands on the writer and the written form, as statements over the definitions: see specs/.
+// Laws of the writer and the written form, for the pages of crate demands: see proofs/.
