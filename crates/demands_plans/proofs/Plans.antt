@@ -344,6 +344,14 @@ module _ (limit : ℕ) (T : List ℕ) (rows : ℕ) (s p out₀ out : List ℕ) {
       only (long-message r t c l) e = absurd (omega arith)
       only (short-output r t c l f) e = absurd (omega arith)
 
+  -- TAKEN EXACTLY, of the answer: with a table that would be written but for the plan, the answer is not 24 exactly if the plan is taken.
+  pub taken-unless : Ready limit T rows s → (reportOf a .number ≡ 24 → ⊥) ↔ Taken s (rowsOf 4096 T rows) p
+  taken-unless r = (λ n. go n (taken p (textsOf s (rowsOf 4096 T rows))) refl, λ t e. twenty-four .0 e .1 t)
+    where
+      go : (reportOf a .number ≡ 24 → ⊥) → (b : Bool) → taken p (textsOf s (rowsOf 4096 T rows)) ≡ b → Taken s (rowsOf 4096 T rows) p
+      go n true e = taken-exactly limit T rows s (r .2) w p .0 e
+      go n false e = absurd (n (twenty-four .1 (r, λ t. clash (taken-exactly limit T rows s (r .2) w p .1 t) e)))
+
 -- SETTLED: two calls with the same material and equally long outputs answer alike and leave the same bytes, whatever lay there before
 pub settled :
     (limit : ℕ) (T T′ : List ℕ) (rows : ℕ) (s p out₀ out₁ out out′ : List ℕ) {a a′ : Answer} → length out₀ ≡ length out₁ → T ≡ T′
