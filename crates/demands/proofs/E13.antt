@@ -1,15 +1,12 @@
 -- E13 holds.
-use mathlib.Core.Path.{_≡_, ap, _∙_}
-use mathlib.Core.List.{List}
-use Prim.Native.Nat.{ℕ}
 use native.Mathlib.Omega.{arith}
 use Rattle.demands_plans.proofs.Plans as plans
-use Rattle.plan_writer.specs.Answers.{Did}
 use Rattle.demands.specs.E13.{E13}
 
 pub holds : E13
 holds = record {
   sending = record { by-form = plans.by-form; in-row-order = plans.in-row-order; plan-message = plans.plan-message };
+  taken = λ limit T rows s p out₀ out w d r. plans.taken-unless limit T rows s p out₀ out w d r;
   writes = λ limit T rows s p out₀ out w d. record {
     which = plans.which limit T rows s p out₀ out d;
     the-form = plans.form-written limit T rows s p out₀ out d w;
@@ -17,7 +14,8 @@ holds = record {
     never-longer = plans.never-longer limit T rows s p out₀ out d;
     read-back = plans.read-back limit T rows s p out₀ out d w;
   };
-  same-bytes = plans.same-bytes;
+  same-bytes = λ limit limit′ T T′ rows rows′ s s′ p out₀ out₁ out out′ w w′ d d′.
+      plans.same-bytes limit limit′ T T′ rows rows′ s s′ p out₀ out₁ out out′ w w′ d d′;
   answered = λ limit T rows s p out₀ out {a} w d. record {
     twenty-four = plans.twenty-four limit T rows s p out₀ out w d;
     accepted = plans.accepted-exactly limit T rows s p out₀ out w d;

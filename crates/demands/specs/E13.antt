@@ -56,7 +56,7 @@ pub record Writes (limit : ℕ) (T : List ℕ) (rows : ℕ) (s p out₀ out : Li
 -- of any call
 pub record Answered (limit : ℕ) (T : List ℕ) (rows : ℕ) (s p out₀ out : List ℕ) (a : Answer) : Type 0 where
   -- 'Refusals: 24 for a plan that isn't taken (with a plan, demand 2's acceptance asks that too), after 11 and before 12 and 13, which speak of the message
-  -- written.' 'A plan is taken exactly if it has that length and those values, and its message reads, 8, 9 and 10 put aside, with the table's meaning': `Taken`.
+  -- written.' `RefusedFor` has the reasons in their order, `Ready` that none before 24 holds.
   pub twenty-four : (reportOf a .number ≡ 24) ↔ (Ready limit T rows s × (Taken s (rowsOf 4096 T rows) p → ⊥))
   pub accepted : (n : ℕ) → ((reportOf a .number ≡ 0) × (reportOf a .length ≡ n)) ↔ AcceptedFor limit T rows s p (length out₀) n
   pub refused : (k : ℕ) → ((reportOf a .number ≡ k) × (0 < k)) ↔ RefusedFor limit T rows s p (length out₀) k
@@ -77,6 +77,10 @@ pub record Alike (T T′ : List ℕ) (rows : ℕ) (a a′ : Answer) (out out′ 
 
 pub record E13 : Type 0 where
   pub sending : Sending
+  -- 'A plan is taken exactly if it has that length and those values, and its message reads, 8, 9 and 10 put aside, with the table's meaning.' (`Taken`)
+  pub taken :
+      (limit : ℕ) (T : List ℕ) (rows : ℕ) (s p out₀ out : List ℕ) {a : Answer} → Below 4294967296 T → Did limit T rows s p out₀ out a
+      → Ready limit T rows s → (reportOf a .number ≡ 24 → ⊥) ↔ Taken s (rowsOf 4096 T rows) p
   pub writes :
       (limit : ℕ) (T : List ℕ) (rows : ℕ) (s p out₀ out : List ℕ) {n : ℕ} → Below 4294967296 T → Did limit T rows s p out₀ out (Written n)
       → Writes limit T rows s p out₀ out n (rowsOf 4096 T rows)

@@ -85,6 +85,46 @@ pub plan-message : (s : List ℕ) (rows : List Row) (p : List ℕ) → planned s
 unfolding planned
 plan-message s rows p = refl
 
+-- CHOSEN: the definition's message is the one that document 02 says.
+pub chosen-so : (s : List ℕ) (rows : List Row) (p : List ℕ) → Chosen s rows p (chosen s rows p)
+unfolding chosen shorter
+chosen-so s rows p = record {
+  form = λ h. rw (le-leb (length (written s rows)) (length (planned s rows p)) h);
+  plan = λ h. rw (lt-leb (length (written s rows)) (length (planned s rows p)) h);
+}
+
+pub chosen-once : (s : List ℕ) (rows : List Row) (p : List ℕ) {m m′ : List ℕ} → Chosen s rows p m → Chosen s rows p m′ → m ≡ m′
+chosen-once s rows p {m} {m′} c c′ = go (leb (length (written s rows)) (length (planned s rows p))) refl
+  where
+    go : (b : Bool) → leb (length (written s rows)) (length (planned s rows p)) ≡ b → m ≡ m′
+    go true e = let h = leb-true (length (written s rows)) (length (planned s rows p)) e in c .form h ∙ sym (c′ .form h)
+    go false e = let h = leb-false (length (written s rows)) (length (planned s rows p)) e in c .plan h ∙ sym (c′ .plan h)
+
+pub chosen-is : (s : List ℕ) (rows : List Row) (p : List ℕ) {m : List ℕ} → Chosen s rows p m → chosen s rows p ≡ m
+chosen-is s rows p c = chosen-once s rows p (chosen-so s rows p) c
+
+-- it is one of the two
+chosen-one : (s : List ℕ) (rows : List Row) (p : List ℕ) (P : List ℕ → Type 0) → P (written s rows) → P (planned s rows p) → P (chosen s rows p)
+chosen-one s rows p P f g = go (leb (length (written s rows)) (length (planned s rows p))) refl
+  where
+    go : (b : Bool) → leb (length (written s rows)) (length (planned s rows p)) ≡ b → P (chosen s rows p)
+    go true e = rw (chosen-so s rows p .form (leb-true (length (written s rows)) (length (planned s rows p)) e)) f
+    go false e = rw (chosen-so s rows p .plan (leb-false (length (written s rows)) (length (planned s rows p)) e)) g
+
+-- it is no longer than either
+chosen-least : (s : List ℕ) (rows : List Row) (p : List ℕ) {m : List ℕ} → Chosen s rows p m → (length m ≤ length (written s rows)) × (length m ≤ length (planned s rows p))
+chosen-least s rows p {m} c = go (leb (length (written s rows)) (length (planned s rows p))) refl
+  where
+    go : (b : Bool) → leb (length (written s rows)) (length (planned s rows p)) ≡ b → (length m ≤ length (written s rows)) × (length m ≤ length (planned s rows p))
+    go true e =
+        let h = leb-true (length (written s rows)) (length (planned s rows p)) e in
+        let i = ap length (c .form h) in
+        (omega (arith, i), omega (arith, i, h))
+    go false e =
+        let h = leb-false (length (written s rows)) (length (planned s rows p)) e in
+        let i = ap length (c .plan h) in
+        (omega (arith, i, h), omega (arith, i))
+
 -- for a table that is writable to a limit, whose words are of 32 bits
 module _ (limit : ℕ) (T : List ℕ) (rows : ℕ) (s : List ℕ) (e : writableTo limit T rows s ≡ true) (w : Below 4294967296 T) where
   -- its rows, and the texts that stand as strings in them
@@ -100,12 +140,8 @@ module _ (limit : ℕ) (T : List ℕ) (rows : ℕ) (s : List ℕ) (e : writableT
   plan-derived p t = plan.sent-derived 65536 4096 limit T rows s w e (sentsFrom p 0 itsTexts) (sents-texts p 0 itsTexts) (taken-fit p itsTexts t .legal)
 
   pub message-derived : (p : List ℕ) → taken p itsTexts ≡ true → DerivesRows limit (messageFor T rows s p) s itsRows
-  unfolding messageFor chosen shorter
-  message-derived p t = go (leb (length (written s itsRows)) (length (planned s itsRows p)))
-    where
-      go : (b : Bool) → DerivesRows limit (cond b (written s itsRows) (planned s itsRows p)) s itsRows
-      go true = form-derived limit T rows s e w
-      go false = plan-derived p t
+  unfolding messageFor
+  message-derived p t = chosen-one s itsRows p (λ (m : List ℕ). DerivesRows limit m s itsRows) (form-derived limit T rows s e w) (plan-derived p t)
 
   -- TAKEN EXACTLY, in document 02's words.
   pub taken-exactly : (p : List ℕ) → (taken p itsTexts ≡ true) ↔ Taken s itsRows p
@@ -131,38 +167,6 @@ module _ (limit : ℕ) (T : List ℕ) (rows : ℕ) (s : List ℕ) (e : writableT
             values = h .values;
             legal = plan.read-legal 65536 4096 limit T rows s w e (sentsFrom p 0 itsTexts) (sents-texts p 0 itsTexts) (h .reads .room) (h .reads .deep) (h .reads .is) (h .reads .same);
           })
-
--- CHOSEN: the definition's message is the one that document 02 says.
-pub chosen-so : (s : List ℕ) (rows : List Row) (p : List ℕ) → Chosen s rows p (chosen s rows p)
-unfolding chosen shorter
-chosen-so s rows p = record {
-  form = λ h. rw (le-leb (length (written s rows)) (length (planned s rows p)) h);
-  plan = λ h. rw (lt-leb (length (written s rows)) (length (planned s rows p)) h);
-}
-
-pub chosen-once : (s : List ℕ) (rows : List Row) (p : List ℕ) {m m′ : List ℕ} → Chosen s rows p m → Chosen s rows p m′ → m ≡ m′
-chosen-once s rows p {m} {m′} c c′ = go (leb (length (written s rows)) (length (planned s rows p))) refl
-  where
-    go : (b : Bool) → leb (length (written s rows)) (length (planned s rows p)) ≡ b → m ≡ m′
-    go true e = let h = leb-true (length (written s rows)) (length (planned s rows p)) e in c .form h ∙ sym (c′ .form h)
-    go false e = let h = leb-false (length (written s rows)) (length (planned s rows p)) e in c .plan h ∙ sym (c′ .plan h)
-
-pub chosen-is : (s : List ℕ) (rows : List Row) (p : List ℕ) {m : List ℕ} → Chosen s rows p m → chosen s rows p ≡ m
-chosen-is s rows p c = chosen-once s rows p (chosen-so s rows p) c
-
--- it is no longer than either
-chosen-least : (s : List ℕ) (rows : List Row) (p : List ℕ) {m : List ℕ} → Chosen s rows p m → (length m ≤ length (written s rows)) × (length m ≤ length (planned s rows p))
-chosen-least s rows p {m} c = go (leb (length (written s rows)) (length (planned s rows p))) refl
-  where
-    go : (b : Bool) → leb (length (written s rows)) (length (planned s rows p)) ≡ b → (length m ≤ length (written s rows)) × (length m ≤ length (planned s rows p))
-    go true e =
-        let h = leb-true (length (written s rows)) (length (planned s rows p)) e in
-        let i = ap length (c .form h) in
-        (omega (arith, i), omega (arith, i, h))
-    go false e =
-        let h = leb-false (length (written s rows)) (length (planned s rows p)) e in
-        let i = ap length (c .plan h) in
-        (omega (arith, i, h), omega (arith, i))
 
 -- the tests that an accepted call passed
 record Passed (limit : ℕ) (T : List ℕ) (rows : ℕ) (s p : List ℕ) (room n : ℕ) : Type 0 where
@@ -343,6 +347,14 @@ module _ (limit : ℕ) (T : List ℕ) (rows : ℕ) (s p out₀ out : List ℕ) {
       only (not-writable l a b) e = absurd (omega arith)
       only (long-message r t c l) e = absurd (omega arith)
       only (short-output r t c l f) e = absurd (omega arith)
+
+  -- TAKEN EXACTLY, of the answer: with a table that would be written but for the plan, the answer is not 24 exactly if the plan is taken.
+  pub taken-unless : Ready limit T rows s → (reportOf a .number ≡ 24 → ⊥) ↔ Taken s (rowsOf 4096 T rows) p
+  taken-unless r = (λ n. go n (taken p (textsOf s (rowsOf 4096 T rows))) refl, λ t e. twenty-four .0 e .1 t)
+    where
+      go : (reportOf a .number ≡ 24 → ⊥) → (b : Bool) → taken p (textsOf s (rowsOf 4096 T rows)) ≡ b → Taken s (rowsOf 4096 T rows) p
+      go n true e = taken-exactly limit T rows s (r .2) w p .0 e
+      go n false e = absurd (n (twenty-four .1 (r, λ t. clash (taken-exactly limit T rows s (r .2) w p .1 t) e)))
 
 -- SETTLED: two calls with the same material and equally long outputs answer alike and leave the same bytes, whatever lay there before
 pub settled :

@@ -1,1 +1,1 @@
-// What is demanded of writing with a plan, as statements over the definitions: see specs/.
+// What is demanded of writing with a plan: document 02's words for the page of E13, and laws. No function.

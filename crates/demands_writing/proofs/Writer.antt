@@ -8,10 +8,10 @@ use mathlib.Core.List.{List, _++_}
 use Prim.Native.Nat.{ℕ, _+_, _*_, _-_, _≤_, _<_}
 use native.Mathlib.Omega.{arith}
 use lib.ListN.{length, take, drop, getD, replicate, take-append-drop}
-use lib.Seq.{take-at, take-take, getD-take, getD-drop}
+use lib.Seq.{take-at, take-take}
 use Rattle.draft.specs.declared.Row.{Row}
 use Rattle.draft.specs.Codebook.{Book}
-use Rattle.draft.specs.Table.{roomOf, place, rowAt}
+use Rattle.draft.specs.Table.{roomOf, place}
 use Rattle.draft.specs.Read.{got, message}
 use Rattle.draft.specs.Grammar.{Cell, Begins}
 use Rattle.draft.specs.Meaning.{MeanSame, Realises}
@@ -29,10 +29,9 @@ use Rattle.write_answer.specs.Answers.{formOf, answerOf, Did}
 use Rattle.exact.proofs.Realising.{same-meaning}
 use Rattle.exact.proofs.Concluding.{reads}
 use Rattle.written.specs.Derivable.{HoldAlike}
-use Rattle.written.proofs.Standing.{from-same}
-use Rattle.written.proofs.Tests.{agreeing}
-use Rattle.demands_writing.proofs.Writing.{Words, Octets, ReadsBack, writable-derivable, reading-back, shortest, one-form, read-rows}
+use Rattle.demands_writing.proofs.Writing.{Words, Octets, ReadsBack, reading-back, shortest, one-form, read-rows}
 use Rattle.demands_writing.proofs.Accepting.{AcceptedFor, accepted-exactly, written-whole}
+use Rattle.demands_writing.proofs.Rows.{writable-alike, by-words, by-columns}
 
 -- a call that answered `Written n`
 module _ (limit : ℕ) (T : List ℕ) (rows : ℕ) (s out₀ out : List ℕ) {n : ℕ} (d : Did limit T rows s out₀ out (Written n)) where
@@ -96,16 +95,6 @@ same-bytes limit limit′ T T′ rows rows′ s s′ out₀ out₁ out out′ w 
     rw (first-bytes limit T rows s out₀ out d, first-bytes limit′ T′ rows′ s′ out₁ out′ d′)
     (one-form limit limit′ T rows s T′ rows′ s′ w w′ (was-writable limit T rows s out₀ out d) (was-writable limit′ T′ rows′ s′ out₁ out′ d′))
 
--- a table with the rows of a writable one is writable
-writable-over :
-    (limit : ℕ) (T T′ : List ℕ) (rows : ℕ) (s : List ℕ) → Words T → Words T′ → Octets s → (rows * 4 ≤ length T → rows * 4 ≤ length T′)
-    → rowsOf 4096 T rows ≡ rowsOf 4096 T′ rows → writableTo limit T rows s ≡ true → writableTo limit T′ rows s ≡ true
-unfolding writableTo
-writable-over limit T T′ rows s w w′ o over same e =
-    let h = writable-derivable 65536 4096 limit rows w o .0 e in
-    writable-derivable 65536 4096 limit rows w′ o .1
-    (record { text = h .0 .text; some-row = h .0 .some-row; few = h .0 .few; there = over (h .0 .there) }, rw same at (h .1))
-
 -- Two calls, with tables of whatever lengths that both hold the stated rows, or neither does; with one limit, one stated number of rows, the same
 -- text bytes and equally long outputs.
 module _
@@ -116,9 +105,7 @@ module _
     pub stated-rows : rowsOf 4096 T rows ≡ rowsOf 4096 T′ rows → (a ≡ a′) × (out ≡ out′)
     unfolding answerOf formOf
     stated-rows same =
-        let v : writableTo limit T rows s ≡ writableTo limit T′ rows s =
-        agreeing (writableTo limit T rows s) (writableTo limit T′ rows s) (writable-over limit T T′ rows s w w′ o (hold .0) same) (writable-over limit T′ T rows s w′ w o (hold .1) (sym same)) in
-        let e : a ≡ a′ = d .says ∙ rw (l, v, same) (sym (d′ .says)) in
+        let e : a ≡ a′ = d .says ∙ rw (l, writable-alike limit T T′ rows s w w′ o hold same, same) (sym (d′ .says)) in
         (e, d .leaves ∙ rw (e, l, same) (sym (d′ .leaves)))
 
     -- NO OTHER WORD. So they do if each word of each stated row, at its place by its own table's room, is the same in both, whatever the other words
@@ -126,22 +113,11 @@ module _
     pub stated-words :
         ((r j : ℕ) → r < rows → j < 4 → getD T (place (roomOf 4096 (length T)) r j) 0 ≡ getD T′ (place (roomOf 4096 (length T′)) r j) 0)
         → (a ≡ a′) × (out ≡ out′)
-    unfolding rowsOf rowAt
-    stated-words h =
-        stated-rows
-        (from-same (rowAt (roomOf 4096 (length T)) T) (rowAt (roomOf 4096 (length T′)) T′) 0 rows
-        (λ r k. rw (h r 0 (omega arith) (omega arith), h r 1 (omega arith) (omega arith), h r 2 (omega arith) (omega arith), h r 3 (omega arith) (omega arith))))
+    stated-words h = stated-rows (by-words T T′ rows h)
 
     -- PAST THE STATED ROWS IN NO COLUMN. So they do if each column, c words from c * j on in a table with room for c rows, begins with the same words for
     -- the stated rows: neither what follows them in a column, nor how long the columns are, nor what follows the columns is looked at.
     pub stated-columns :
         ((j : ℕ) → j < 4 → take rows (drop (roomOf 4096 (length T) * j) T) ≡ take rows (drop (roomOf 4096 (length T′) * j) T′))
         → (a ≡ a′) × (out ≡ out′)
-    unfolding place
-    stated-columns h =
-        stated-words
-        (λ r j k i. column-word T (roomOf 4096 (length T) * j) r k ∙ ap (λ (x : List ℕ). getD x r 0) (h j i) ∙ sym (column-word T′ (roomOf 4096 (length T′) * j) r k))
-      where
-        -- word r of the column from word f on, of the first `rows`
-        column-word : (U : List ℕ) (f r : ℕ) → r < rows → getD U (f + r) 0 ≡ getD (take rows (drop f U)) r 0
-        column-word U f r k = sym (getD-drop f U r 0) ∙ sym (getD-take rows (drop f U) r 0 k)
+    stated-columns h = stated-rows (by-columns T T′ rows h)

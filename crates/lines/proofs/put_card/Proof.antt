@@ -1,4 +1,4 @@
-use Rattle.spelling.proofs.Putting.{joining}
+use Rattle.spelling.proofs.Putting.{puts-four}
 use borrow.Author.Needs.{needs}
 use Rattle.lines.proofs.put_card.Statement.{statement}
 use Rattle.lines.proofs.put_card.Tie as tie
@@ -13,4 +13,4 @@ put-card-spec = tie.close (tie.spec
     (λ c κs. search needs)  -- put-card-answer-requires
     (λ c κs. search needs)  -- put-byte-requires
     (λ c. search needs)  -- same-length
-    (λ c. search joining))  -- returns
+    (λ c. search puts-four))  -- returns

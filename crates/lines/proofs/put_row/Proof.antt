@@ -1,4 +1,4 @@
-use Rattle.spelling.proofs.Putting.{joining}
+use Rattle.spelling.proofs.Putting.{puts-four}
 use borrow.Author.Needs.{needs}
 use Rattle.lines.proofs.put_row.Statement.{statement}
 use Rattle.lines.proofs.put_row.Tie as tie
@@ -10,4 +10,4 @@ put-row-spec = tie.close (tie.spec
     (λ c κs. search needs)  -- put-words-requires-2
     (λ c κs. search needs)  -- put-byte-requires
     (λ c. search needs)  -- same-length
-    (λ c. search joining))  -- returns
+    (λ c. search puts-four))  -- returns
