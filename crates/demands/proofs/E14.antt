@@ -134,12 +134,15 @@ holds =
             own = λ ok. stations.own-read station split T ok e limit s d;
             others-stay = stations.others-stay d;
             beyond-stays = stations.beyond-stays d;
+            columns = λ ok. stations.share-columns station split T ok e limit s d;
+            unlimited = λ ok h. stations.read-unlimited station split T ok e h s d;
           };
       shared-write = λ {e} {limit} {T} {station} {split} {rows} {s} {out} d.
           record {
             not-split = stations.write-told-exactly d;
             nothing-changed = stations.no-byte-changed d;
             own = λ ok. stations.own-write station split T ok e limit rows s out d;
+            unlimited = λ ok h. stations.write-unlimited station split T ok e h rows s out d;
           };
       read-alike = stations.read-alike;
       write-alike = stations.write-alike;
@@ -147,11 +150,12 @@ holds =
       share-stays = stations.share-stays;
       from-the-reader = λ e limit s words d later h. writer.from-the-reader e limit s words d later h;
       columns = λ e limit s words d. (reader.columns e limit s words d, as-before e limit s words d);
-      share-columns = stations.share-columns;
       stated-columns = λ e limit T T′ rows s out₀ out₁ out out′ w w′ hold l d d′. output.stated-columns e limit T T′ rows s out₀ out₁ out out′ w w′ hold l d d′;
       refused-true = λ e limit s words d. (reader.refused-true e limit s words d, reader.refused-zeros e limit s words d);
       write-refused = write-refused;
       unlimited = λ e limit s words d.
           ((λ i. reader.unlimited-only e limit s words (rw i at d), λ h. reader.unlimited e limit s words h d .0), λ h. reader.unlimited e limit s words h d .1);
-      share-unlimited = λ station split T ok e h s d. stations.read-unlimited station split T ok e h s d;
+      write-unlimited = λ e limit T rows s out₀ out d h. writer.unlimited e limit T rows s out₀ out h d;
+      settled = reader.settled;
+      output-settled = λ e limit T rows s out₀ out₁ out out′ l d d′. writer.settled e limit T rows s out₀ out out₁ out′ l d d′;
     }
