@@ -2,9 +2,8 @@
 use mathlib.Core.Path.{_≡_, refl, sym, ap, _∙_}
 use mathlib.Core.Bool.{Bool, true, false}
 use mathlib.Core.Logic.{_↔_}
-use mathlib.Core.List.{List, _∷_}
+use mathlib.Core.List.{List}
 use Prim.Native.Nat.{ℕ, _≤_, _<_}
-use lib.Dec.{leb}
 use lib.ListN.{length, replicate}
 use borrow.Author.Tests.{le-leb}
 use Rattle.text.proofs.Comparing.{clash}
@@ -23,14 +22,13 @@ use Rattle.layouts.proofs.Storing.{rows-lay, columns-lay, read-same}
 use Rattle.demands_calls.proofs.Columns.{table-is}
 use Rattle.glyph.specs.declared.Edition.{Edition}
 use Rattle.glyph.specs.declared.Answer.{Answer}
-use Rattle.glyph.specs.declared.Answer.the-variants.{Accepted, Refused}
 use Rattle.glyph.specs.Answers.{reading, Answers}
 use Rattle.glyph_form.specs.declared.Answer.{Answer as WriterAnswer}
 use Rattle.glyph_form.specs.Writable.{writable}
 use Rattle.glyph_form.specs.Answers.{Did}
 use Rattle.glyph_form.proofs.Cases as writing
 use Rattle.glyph_told.specs.Tables.{Words}
-use Rattle.glyph_demands.specs.Answered.{has, Allowed, rowsIn}
+use Rattle.glyph_demands.specs.Answered.{has, rowsIn}
 use Rattle.glyph_demands.proofs.Cases as cases
 use Rattle.glyph_demands.proofs.Letters as letters
 use Rattle.glyph_demands.proofs.Reading as reading-laws
@@ -43,7 +41,7 @@ use Rattle.glyph_writing_demands.proofs.Tables as tables
 use Rattle.glyph_writing_demands.proofs.Writer as writer
 use Rattle.glyph_writing_demands.proofs.Output as output
 use Rattle.glyph_shares.proofs.Stations as stations
-use Rattle.demands.specs.E14.{kindAt, Reads, Writes, Means, Shared, SharedWrite, E14}
+use Rattle.demands.specs.E14.{kindAt, Reads, Writes, E14}
 
 reads : (e : Edition) (limit : ℕ) (s : List ℕ) (words : ℕ) {T : List ℕ} {a : Answer} → Answers (reading e limit s words) words T a → Reads e limit s words T a
 reads e limit s words {T} {a} d =
