@@ -8,6 +8,7 @@ use lib.ListN.{length, replicate}
 use borrow.Author.Tests.{le-leb}
 use Rattle.text.proofs.Comparing.{clash}
 use Rattle.draft.specs.declared.Row.{Row}
+use Rattle.draft.specs.declared.Refusal.the-variants.{NoLimit}
 use Rattle.draft.specs.Limits.{allowed}
 use Rattle.draft.specs.Table.{roomOf, place, putRows}
 use Rattle.draft.specs.Codebook.{clear}
@@ -24,6 +25,7 @@ use Rattle.glyph.specs.declared.Edition.{Edition}
 use Rattle.glyph.specs.declared.Answer.{Answer}
 use Rattle.glyph.specs.Answers.{reading, Answers}
 use Rattle.glyph_form.specs.declared.Answer.{Answer as WriterAnswer}
+use Rattle.glyph_form.specs.declared.Answer.the-variants as W
 use Rattle.glyph_form.specs.Writable.{writable}
 use Rattle.glyph_form.specs.Answers.{Did}
 use Rattle.glyph_form.proofs.Cases as writing
@@ -140,7 +142,9 @@ holds =
             not-split = stations.write-told-exactly d;
             nothing-changed = stations.no-byte-changed d;
             own = λ ok. stations.own-write station split T ok e limit rows s out d;
-            unlimited = λ ok h. stations.write-unlimited station split T ok e h rows s out d;
+            unlimited = λ ok h.
+                let z = stations.write-unlimited station split T ok e h rows s out d in
+                (W.Refused NoLimit, z .0, record { refusal = NoLimit; is = refl; number-is = refl }, z .1);
           };
       read-alike = stations.read-alike;
       write-alike = stations.write-alike;

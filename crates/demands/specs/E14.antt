@@ -9,7 +9,6 @@ use mathlib.Core.Logic.{_↔_}
 use mathlib.Core.List.{List, _∷_}
 use Prim.Native.Nat.{ℕ, _*_, _/_, _≤_, _<_}
 use lib.ListN.{length, take, drop, replicate}
-use Rattle.draft.specs.declared.Refusal.the-variants.{NoLimit}
 use Rattle.draft.specs.Limits.{allowed}
 use Rattle.draft.specs.Meaning.{MeanSame}
 use Rattle.draft.specs.Table.{roomOf, place, rowAt, rowsAt}
@@ -31,7 +30,6 @@ use Rattle.glyph.specs.Tree.{Tree, cells}
 use Rattle.glyph.specs.Grammar.{Blanks, Root}
 use Rattle.glyph.specs.Answers.{reading, Answers}
 use Rattle.glyph_form.specs.declared.Answer.{Answer as WriterAnswer}
-use Rattle.glyph_form.specs.declared.Answer.the-variants as W
 use Rattle.glyph_form.specs.declared.Answer.the-variants.{Written}
 use Rattle.glyph_form.specs.Writable.{writable}
 use Rattle.glyph_form.specs.Form.{written}
@@ -108,7 +106,8 @@ pub record SharedWrite (e : Edition) (limit : ℕ) (T : List ℕ) (station : Sta
   pub not-split : (a ≡ write.NotSplit) ↔ (splits split (length T) ≡ false)
   pub nothing-changed : a ≡ write.NotSplit → out′ ≡ out
   pub own : splits split (length T) ≡ true → OwnWrite e limit (shareOf station split T) rows s out out′ a
-  pub unlimited : splits split (length T) ≡ true → allowed limit ≡ false → (a ≡ write.Answered (W.Refused NoLimit)) × (out′ ≡ replicate (length out) 0)
+  pub unlimited :
+      splits split (length T) ≡ true → allowed limit ≡ false → (b : WriterAnswer) × (a ≡ write.Answered b) × Says 23 b × (out′ ≡ replicate (length out) 0)
 
 pub record E14 : Type 0 where
   pub reads : (e : Edition) (limit : ℕ) (s : List ℕ) (words : ℕ) {T : List ℕ} {a : Answer} → Answers (reading e limit s words) words T a → Reads e limit s words T a
