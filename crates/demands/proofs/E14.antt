@@ -2,13 +2,13 @@
 use mathlib.Core.Path.{_≡_, refl, sym, ap, _∙_}
 use mathlib.Core.Bool.{Bool, true, false}
 use mathlib.Core.Logic.{_↔_}
-use mathlib.Core.List.{List, _∷_}
+use mathlib.Core.List.{List}
 use Prim.Native.Nat.{ℕ, _≤_, _<_}
-use lib.Dec.{leb}
 use lib.ListN.{length, replicate}
 use borrow.Author.Tests.{le-leb}
 use Rattle.text.proofs.Comparing.{clash}
 use Rattle.draft.specs.declared.Row.{Row}
+use Rattle.draft.specs.declared.Refusal.the-variants.{NoLimit}
 use Rattle.draft.specs.Limits.{allowed}
 use Rattle.draft.specs.Table.{roomOf, place, putRows}
 use Rattle.draft.specs.Codebook.{clear}
@@ -23,14 +23,14 @@ use Rattle.layouts.proofs.Storing.{rows-lay, columns-lay, read-same}
 use Rattle.demands_calls.proofs.Columns.{table-is}
 use Rattle.glyph.specs.declared.Edition.{Edition}
 use Rattle.glyph.specs.declared.Answer.{Answer}
-use Rattle.glyph.specs.declared.Answer.the-variants.{Accepted, Refused}
 use Rattle.glyph.specs.Answers.{reading, Answers}
 use Rattle.glyph_form.specs.declared.Answer.{Answer as WriterAnswer}
+use Rattle.glyph_form.specs.declared.Answer.the-variants as W
 use Rattle.glyph_form.specs.Writable.{writable}
 use Rattle.glyph_form.specs.Answers.{Did}
 use Rattle.glyph_form.proofs.Cases as writing
 use Rattle.glyph_told.specs.Tables.{Words}
-use Rattle.glyph_demands.specs.Answered.{has, Allowed, rowsIn}
+use Rattle.glyph_demands.specs.Answered.{has, rowsIn}
 use Rattle.glyph_demands.proofs.Cases as cases
 use Rattle.glyph_demands.proofs.Letters as letters
 use Rattle.glyph_demands.proofs.Reading as reading-laws
@@ -43,7 +43,7 @@ use Rattle.glyph_writing_demands.proofs.Tables as tables
 use Rattle.glyph_writing_demands.proofs.Writer as writer
 use Rattle.glyph_writing_demands.proofs.Output as output
 use Rattle.glyph_shares.proofs.Stations as stations
-use Rattle.demands.specs.E14.{kindAt, Reads, Writes, Means, Shared, SharedWrite, E14}
+use Rattle.demands.specs.E14.{kindAt, Reads, Writes, E14}
 
 reads : (e : Edition) (limit : ℕ) (s : List ℕ) (words : ℕ) {T : List ℕ} {a : Answer} → Answers (reading e limit s words) words T a → Reads e limit s words T a
 reads e limit s words {T} {a} d =
@@ -134,12 +134,17 @@ holds =
             own = λ ok. stations.own-read station split T ok e limit s d;
             others-stay = stations.others-stay d;
             beyond-stays = stations.beyond-stays d;
+            columns = λ ok. stations.share-columns station split T ok e limit s d;
+            unlimited = λ ok h. stations.read-unlimited station split T ok e h s d;
           };
       shared-write = λ {e} {limit} {T} {station} {split} {rows} {s} {out} d.
           record {
             not-split = stations.write-told-exactly d;
             nothing-changed = stations.no-byte-changed d;
             own = λ ok. stations.own-write station split T ok e limit rows s out d;
+            unlimited = λ ok h.
+                let z = stations.write-unlimited station split T ok e h rows s out d in
+                (W.Refused NoLimit, z .0, record { refusal = NoLimit; is = refl; number-is = refl }, z .1);
           };
       read-alike = stations.read-alike;
       write-alike = stations.write-alike;
@@ -147,11 +152,12 @@ holds =
       share-stays = stations.share-stays;
       from-the-reader = λ e limit s words d later h. writer.from-the-reader e limit s words d later h;
       columns = λ e limit s words d. (reader.columns e limit s words d, as-before e limit s words d);
-      share-columns = stations.share-columns;
       stated-columns = λ e limit T T′ rows s out₀ out₁ out out′ w w′ hold l d d′. output.stated-columns e limit T T′ rows s out₀ out₁ out out′ w w′ hold l d d′;
       refused-true = λ e limit s words d. (reader.refused-true e limit s words d, reader.refused-zeros e limit s words d);
       write-refused = write-refused;
       unlimited = λ e limit s words d.
           ((λ i. reader.unlimited-only e limit s words (rw i at d), λ h. reader.unlimited e limit s words h d .0), λ h. reader.unlimited e limit s words h d .1);
-      share-unlimited = λ station split T ok e h s d. stations.read-unlimited station split T ok e h s d;
+      write-unlimited = λ e limit T rows s out₀ out d h. writer.unlimited e limit T rows s out₀ out h d;
+      settled = reader.settled;
+      output-settled = λ e limit T rows s out₀ out₁ out out′ l d d′. writer.settled e limit T rows s out₀ out out₁ out′ l d d′;
     }

@@ -86,7 +86,7 @@ pub record Means (e : Edition) (limit limit′ : ℕ) (T T′ : List ℕ) (rows 
   pub as-in-01 : MeanSame s s′ (rowsOf 4096 T rows) (rowsOf 4096 T′ rows′) ↔ (treeOf e limit T s ≡ treeOf e limit′ T′ s′)
   pub one-form : Same (treeOf e limit T s) (treeOf e limit′ T′ s′) ↔ (take n out ≡ take n′ out′)
 
--- E10, of a station's calls. 22 is told exactly if the row splits no table, and then nothing lent is changed; otherwise a call does on its share what
+-- E10 TO E12, of a station's calls. 22 is told exactly if the row splits no table, and then nothing lent is changed; otherwise a call does on its share what
 -- the call without stations does on a table of the share's size, and changes no word of the other's share nor one beyond the last whole row.
 pub record Shared (e : Edition) (limit : ℕ) (s : List ℕ) (station : Station) (split : ℕ) (T T′ : List ℕ) (a : StationAnswer) : Type 0 where
   pub not-split : (a ≡ NotSplit) ↔ (splits split (length T) ≡ false)
@@ -94,11 +94,20 @@ pub record Shared (e : Edition) (limit : ℕ) (s : List ℕ) (station : Station)
   pub own : splits split (length T) ≡ true → OwnRead e limit s (sizeOf station split (length T)) (shareOf station split T′) a
   pub others-stay : splits split (length T) ≡ true → shareOf (other station) split T′ ≡ shareOf (other station) split T
   pub beyond-stays : drop (length T / 4 * 4) T′ ≡ drop (length T / 4 * 4) T
+  -- E12: the share has its columns inside its own words, as a table of its size; E11: 23 at place 0, with the share zeroed
+  pub columns :
+      splits split (length T) ≡ true
+      → Columns (sizeOf station split (length T)) (shareOf station split T′) (rowsIn (reading e limit s (sizeOf station split (length T))))
+  pub unlimited :
+      splits split (length T) ≡ true → allowed limit ≡ false
+      → (a ≡ Answered (Refused 23 0)) × (shareOf station split T′ ≡ replicate (sizeOf station split (length T)) 0)
 
 pub record SharedWrite (e : Edition) (limit : ℕ) (T : List ℕ) (station : Station) (split rows : ℕ) (s out out′ : List ℕ) (a : WriteAnswer) : Type 0 where
   pub not-split : (a ≡ write.NotSplit) ↔ (splits split (length T) ≡ false)
   pub nothing-changed : a ≡ write.NotSplit → out′ ≡ out
   pub own : splits split (length T) ≡ true → OwnWrite e limit (shareOf station split T) rows s out out′ a
+  pub unlimited :
+      splits split (length T) ≡ true → allowed limit ≡ false → (b : WriterAnswer) × (a ≡ write.Answered b) × Says 23 b × (out′ ≡ replicate (length out) 0)
 
 pub record E14 : Type 0 where
   pub reads : (e : Edition) (limit : ℕ) (s : List ℕ) (words : ℕ) {T : List ℕ} {a : Answer} → Answers (reading e limit s words) words T a → Reads e limit s words T a
@@ -126,7 +135,7 @@ pub record E14 : Type 0 where
   -- 'demand 3 speaks of Binmode tables alone.' 'Numbers need a digit; lengths may have leading zeros. The grammars decide over the examples. Nesting counts
   -- containers, extensions and nodes.' These are `Number` and the depth of `Object`; what is derived has one meaning.
   pub one-meaning : {e : Edition} {d d′ : ℕ} {s : List ℕ} {used used′ : ℕ} {t t′ : Tree} → Root e d s used t → Root e d′ s used′ t′ → (used ≡ used′) × (t ≡ t′)
-  -- 'E10 to E12 hold too.' E10: as above, and answers, share and output depend on a station's own material and its share's size.
+  -- 'E10 to E12 hold too.' E10: as above; and answers, share and output depend on a station's own material and its share's size.
   pub shared :
       {e : Edition} {limit : ℕ} {s : List ℕ} {station : Station} {split : ℕ} {T T′ : List ℕ} {a : StationAnswer} → ReadFor e limit s station split T T′ a
       → Shared e limit s station split T T′ a
@@ -161,10 +170,6 @@ pub record E14 : Type 0 where
       (e : Edition) (limit : ℕ) (s : List ℕ) (words : ℕ) {T : List ℕ} {a : Answer} → Answers (reading e limit s words) words T a
       → Columns words T (rowsIn (reading e limit s words))
       × SameRows byRows place (putRowsBy byRows (roomOf 4096 words) (replicate words 0) 0 (rowsIn (reading e limit s words))) T
-  pub share-columns :
-      (station : Station) (split : ℕ) (T : List ℕ) → splits split (length T) ≡ true → (e : Edition) (limit : ℕ) (s : List ℕ) {T′ : List ℕ} {a : StationAnswer}
-      → ReadFor e limit s station split T T′ a
-      → Columns (sizeOf station split (length T)) (shareOf station split T′) (rowsIn (reading e limit s (sizeOf station split (length T))))
   -- and the writer looks past the stated rows in no column.
   pub stated-columns :
       (e : Edition) (limit : ℕ) (T T′ : List ℕ) (rows : ℕ) (s out₀ out₁ out out′ : List ℕ) {a a′ : WriterAnswer} → Words T → Words T′ → HoldAlike rows T T′
@@ -182,11 +187,17 @@ pub record E14 : Type 0 where
   pub write-refused :
       (e : Edition) (limit : ℕ) (T : List ℕ) (rows : ℕ) (s out₀ out : List ℕ) {a : WriterAnswer} → Did e limit T rows s out₀ out a → (n : ℕ)
       → (Says n a ↔ writer.RefusedFor e limit T rows s (length out₀) n) × (Says n a → out ≡ replicate (length out₀) 0)
-  -- 23 at place 0, with the table, the share or the output zeroed (E11).
+  -- 23 at place 0, with the table or the output zeroed (E11).
   pub unlimited :
       (e : Edition) (limit : ℕ) (s : List ℕ) (words : ℕ) {T : List ℕ} {a : Answer} → Answers (reading e limit s words) words T a
       → ((a ≡ Refused 23 0) ↔ (allowed limit ≡ false)) × (allowed limit ≡ false → T ≡ replicate words 0)
-  pub share-unlimited :
-      (station : Station) (split : ℕ) (T : List ℕ) → splits split (length T) ≡ true → (e : Edition) {limit : ℕ} → allowed limit ≡ false → (s : List ℕ) {T′ : List ℕ}
-      {a : StationAnswer} → ReadFor e limit s station split T T′ a
-      → (a ≡ Answered (Refused 23 0)) × (shareOf station split T′ ≡ replicate (sizeOf station split (length T)) 0)
+  pub write-unlimited :
+      (e : Edition) (limit : ℕ) (T : List ℕ) (rows : ℕ) (s out₀ out : List ℕ) {a : WriterAnswer} → Did e limit T rows s out₀ out a → allowed limit ≡ false
+      → Says 23 a × (out ≡ replicate (length out₀) 0)
+  -- And demand 1: 'After every call the whole lent table or output is settled by that call's material and the buffer's length'.
+  pub settled :
+      (e : Edition) (limit : ℕ) (s : List ℕ) (words : ℕ) {T T′ : List ℕ} {a a′ : Answer}
+      → Answers (reading e limit s words) words T a → Answers (reading e limit s words) words T′ a′ → (a ≡ a′) × (T ≡ T′)
+  pub output-settled :
+      (e : Edition) (limit : ℕ) (T : List ℕ) (rows : ℕ) (s out₀ out₁ out out′ : List ℕ) {a a′ : WriterAnswer} → length out₀ ≡ length out₁
+      → Did e limit T rows s out₀ out a → Did e limit T rows s out₁ out′ a′ → (a ≡ a′) × (out ≡ out′)

@@ -20,7 +20,7 @@ use Rattle.glyph.specs.declared.Want.{Want}
 use Rattle.glyph.specs.declared.Want.the-variants.{Any, Text}
 use Rattle.glyph.specs.Letters.{letterOf, wanted, nameWant, attributesWant, threeKind, manyKind, keyedBy}
 use Rattle.glyph.specs.Numbers.{past}
-use Rattle.glyph.specs.Read.{Reading, got, refused, pick, then, behind, Reader, Texts, Nest, floor, under, opened, next, run, distinct, entry, kept, closing, many, three, item, object, root}
+use Rattle.glyph.specs.Read.{Reading, got, refused, pick, then, behind, Reader, Texts, floor, under, opened, next, run, distinct, entry, kept, closing, many, three, item, object, root}
 
 -- the same; or 8, if D, or 9, if R
 pub data Grows (D R : Type 0) : Reading → Reading → Type 0 where

@@ -108,15 +108,6 @@ module _ (station : Station) (split : ℕ) (T : List ℕ) (ok : splits split (le
             };
       }
 
-  -- ZEROS. On a refusal of the message the whole share is zeros.
-  pub refused-zeros :
-      (s : List ℕ) {T′ : List ℕ} {n p : ℕ} → ReadFor e limit s station split T T′ (Answered (answer.Refused n p))
-      → shareOf station split T′ ≡ replicate (sizeOf station split (length T)) 0
-  refused-zeros s {n = n} {p} d =
-      let o = own-read s d in
-      let i : o .own ≡ answer.Refused n p = sym (cc) in
-      whole-table.refused-zeros e limit s (sizeOf station split (length T)) (rw i at (o .did))
-
   pub own-write :
       (rows : ℕ) (s out : List ℕ) {out′ : List ℕ} {a : WriteAnswer} → WroteFor e limit T station split rows s out out′ a
       → OwnWrite e limit (shareOf station split T) rows s out out′ a

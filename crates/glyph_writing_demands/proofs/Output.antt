@@ -8,7 +8,7 @@ use Prim.Native.Nat.{ℕ, _+_, _*_, _-_, _≤_, _<_}
 use native.Mathlib.Omega.{arith}
 use lib.Dec.{leb}
 use lib.ListN.{length, take, drop, getD, replicate, take-append-drop}
-use lib.Seq.{take-at, take-take, drop-length, getD-take, getD-drop}
+use lib.Seq.{take-at, getD-take, getD-drop}
 use Rattle.draft.specs.declared.Refusal.{Refusal}
 use Rattle.draft.specs.declared.Refusal.the-variants.{TooLong, NotWritable, NoLimit}
 use Rattle.draft.specs.Limits.{allowed}
@@ -40,7 +40,7 @@ use Rattle.glyph_told.proofs.Deeper.{deeper}
 use Rattle.glyph_told.specs.Tables.{Words, treeOf, Derivable}
 use Rattle.glyph_written.proofs.Back.{Means, read-back-same}
 use Rattle.glyph_writing_demands.specs.Accepting.{AcceptedFor}
-use Rattle.glyph_writing_demands.proofs.Tables.{writable-exactly, told, writable-means, writable-rows, writable-higher, form-told, one-form, read-told}
+use Rattle.glyph_writing_demands.proofs.Tables.{writable-exactly, told, writable-means, writable-rows, form-told, one-form, read-told}
 use Rattle.glyph_writing_demands.proofs.Writer.{accepted-exactly, written-whole}
 
 -- what a table tells that was made of a message with this meaning
@@ -94,29 +94,6 @@ module _ (e : Edition) (limit : ℕ) (T : List ℕ) (rows : ℕ) (s out₀ out :
       let q : t ≡ written e (treeOf e limit T s) ++ drop n t = sym (take-append-drop n t) ∙ ap (λ (x : List ℕ). x ++ drop n t) (f ∙ first-bytes) in
       let g = form-read m (drop n t) b t q l later h i words (writable-rows e limit T rows s w was-writable) k c in
       (g .0 ∙ ap (Accepted rows) (sym form-long), g .1)
-
-  -- READ BACK, the n bytes by themselves.
-  pub read-back-alone :
-      Words T → (later : ℕ) → limit ≤ later → allowed later ≡ true → (words : ℕ) {T′ : List ℕ} {a : ReaderAnswer} → rows ≤ roomOf 4096 words
-      → Answers (reading e later (take n out) words) words T′ a
-      → (a ≡ Accepted rows n) × Same (treeOf e limit T s) (treeOf e later T′ (take n out))
-  read-back-alone w later h i words k c =
-      let l : length (take n out) ≡ n = ap length first-bytes ∙ sym form-long in
-      let b : drop n (take n out) ≡ [] = ap (λ (x : ℕ). drop x (take n out)) (sym l) ∙ drop-length (take n out) in
-      read-back w later h i (take n out) words (take-take n n out (omega arith)) (rw b no-blanks) (omega (arith, l, accepted .most)) k c
-
--- HIGHER LIMITS. A call that answered `Written n` does the same with a limit that is not lower, up to 32, and an output of the same length.
-pub written-higher :
-    (e : Edition) (limit later : ℕ) (T : List ℕ) (rows : ℕ) (s out₀ out₁ out out′ : List ℕ) {n : ℕ} {a : Answer} → Words T → limit ≤ later → allowed later ≡ true
-    → length out₀ ≡ length out₁ → Did e limit T rows s out₀ out (Written n) → Did e later T rows s out₁ out′ a → (a ≡ Written n) × (out′ ≡ out)
-written-higher e limit later T rows s out₀ out₁ out out′ {n} {a} w h i l d d′ =
-    let g = accepted e limit T rows s out₀ out d in
-    let k = writable-higher e limit T rows s w later h (g .shape) in
-    let f : formOf e later T s ≡ formOf e limit T s = form-told e later T s ∙ ap (written e) (k .1) ∙ sym (form-told e limit T s) in
-    let c : AcceptedFor e later T rows s (length out₁) n =
-    record { stated = i; text = g .text; shape = k .0; long = g .long ∙ ap length (sym f); most = g .most; fits = omega (arith, g .fits, l) } in
-    let q : a ≡ Written n = d′ .says ∙ accepted-exactly e later T rows s (length out₁) n .1 c in
-    (q, d′ .leaves ∙ rw (q, ← l, f) (sym (d .leaves)))
 
 -- ONE FORM. Two accepted calls in one edition wrote the same bytes exactly if the tables, each with its text bytes, mean the same, a plain dict's pair
 -- order aside.

@@ -57,13 +57,6 @@ module _ (e : Edition) (limit : ℕ) (T : List ℕ) (rows : ℕ) (s : List ℕ) 
   pub writable-rows : Words T → writable e limit T rows s ≡ true → length (cells (treeOf e limit T s)) ≡ rows
   writable-rows w h = sym (counts (conclude.writable-told e limit T rows s w h .1)) ∙ conclude.rows-length T rows
 
-  -- HIGHER LIMITS. With a limit that is not lower it is writable too, and tells the same.
-  pub writable-higher : Words T → (later : ℕ) → limit ≤ later → writable e limit T rows s ≡ true → (writable e later T rows s ≡ true) × (treeOf e later T s ≡ treeOf e limit T s)
-  writable-higher w later h i =
-      let g = conclude.writable-told e limit T rows s w i in
-      let o = deeper (g .0) later h in
-      (conclude.realised-writable e later T rows s (conclude.within e limit T rows s i) o (g .1), conclude.realised-told e later T rows s o (g .1))
-
 -- MEANING, as document 01 has it. Two writable tables, each with its text bytes and whatever limit it was judged by, mean the same in its words exactly
 -- if they tell the same tree; `Same` puts a plain dict's pair order aside besides.
 pub mean-same :

@@ -9,8 +9,8 @@ use Rattle.text.proofs.Comparing.{clash}
 use Rattle.draft.specs.declared.Row.{Row}
 use Rattle.draft.specs.Table.{roomOf, rowAt}
 use Rattle.draft.specs.Written.{rowsOf}
-use Rattle.draft.specs.Grammar.{Payload, Cell, cell, Sent, Message, call-message, response-message, Call, call, Response, value-response, fault-response, Fault, fault, Value, integer-value, boolean-value, double-value, datetime-value, binary-value, array-value, struct-value, string-value, other-value, Array, array, Values, no-values, more-values, Struct, struct, Pairs as Members, no-pairs, more-pairs, Pair, pair, Other, other}
-use Rattle.draft.specs.Meaning.{Means, means, Realises}
+use Rattle.draft.specs.Grammar.{Payload, Cell, cell, Sent, Message, call-message, response-message, call, value-response, fault-response, fault, Value, integer-value, boolean-value, double-value, datetime-value, binary-value, array-value, struct-value, string-value, other-value, Array, array, Values, no-values, more-values, Struct, struct, Pairs as Members, no-pairs, more-pairs, Pair, pair, other}
+use Rattle.draft.specs.Meaning.{means, Realises}
 use Rattle.draft.specs.Writable.{writableTo}
 use Rattle.exact.proofs.Realising.{counts, one-meaning}
 use Rattle.written.proofs.Concluding as written
