@@ -65,7 +65,7 @@ extern "C" {
  * version's number, and an archive of another version does not have it ("undefined reference to `binmode_version_2'").
  */
 #define BINMODE_VERSION_MAJOR 2
-#define BINMODE_VERSION_MINOR 0
+#define BINMODE_VERSION_MINOR 1
 
 /* Gives the minor version of the archive. */
 uint32_t binmode_version_2(void);
@@ -493,10 +493,14 @@ struct binmode_pieces {
     size_t used;   /* the number of bytes used; 0 unless accepted */
     size_t place;  /* the place of a refusal; where more is wanted, the place that BINMODE_REFUSED_ENDED would have if it ended here */
     size_t held;   /* where more is wanted, how many bytes are held in the room; else 0 */
-    size_t wanted; /* where more is wanted: with fewer bytes than this held no other answer comes (it may be no more than are held); else 0 */
+    size_t wanted; /* where more is wanted: with fewer bytes than this held no other answer comes (it may be no more than are held, and is at
+                      most 65,537, the byte with which there is an answer in any case); else 0 */
 };
 
-/* Sets the state for a message of which nothing has come: more is wanted. */
+/*
+ * Sets the state for a message of which nothing has come: more is wanted. The calls below take a state of zeros, which was never started, for
+ * such a one too, and so any that says BINMODE_ACCEPTED with 0 rows, since no message has none.
+ */
 void binmode_pieces_start(struct binmode_pieces *state) BINMODE_NO_NULL;
 
 /*
@@ -516,7 +520,7 @@ void binmode_pieces_start(struct binmode_pieces *state) BINMODE_NO_NULL;
  *                               or refused within them stays so, however far its last piece goes on
  *   BINMODE_REFUSED_SHORT_ROOM  before all else, whatever the state: the room is shorter than 65,536. The room is unchanged, the
  *                               table zeros, the place 0
- * Nothing is read again until state->wanted bytes are held. A state that no call gave, or a room or table that was changed in
+ * Nothing is read again until state->wanted bytes are held. Any other state that no call gave, or a room or table that was changed in
  * between, has an answer too, but it says nothing of any message. The limit of nesting is 8.
  */
 uint8_t binmode_pieces_next(struct binmode_pieces *state, const uint8_t *piece, size_t piece_len, uint8_t *room,

@@ -114,6 +114,10 @@ impl InPieces {
         if !state::is(&state, Outcome::MoreWanted { place: 0 }, 0) {
             return Err(format!("the start is {state:?}"));
         }
+        // A state of zeros, which was never started, is a message that has just begun.
+        if rubbish & 6 == 0 {
+            state = State::default();
+        }
         for (call, piece) in cut.pieces().into_iter().enumerate() {
             let number = self.next_by_library(&mut state, rubbish, piece, limit);
             let (room, table) = (self.second_room.again(), self.second_table.again());

@@ -3,6 +3,7 @@
 use crate::library::Limit;
 use binmode::sys;
 use second::pieces::Outcome;
+use second::rules::BYTE_LIMIT;
 
 pub use binmode::sys::Pieces as State;
 
@@ -85,10 +86,11 @@ pub fn of(outcome: Outcome, held: usize) -> State {
 }
 
 /// Whether it is this outcome. How many bytes are wanted is the library's own
-/// to say, but only while more is wanted.
+/// to say, but only while more is wanted, and at most those that bring an
+/// answer in any case.
 pub fn is(state: &State, outcome: Outcome, held: usize) -> bool {
     let wanted = if state.answer == MORE_WANTED {
-        state.wanted
+        state.wanted.min(BYTE_LIMIT + 1)
     } else {
         0
     };

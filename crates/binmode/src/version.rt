@@ -5,7 +5,7 @@ ghost use mathlib.Core.Path.{_≡_};
 // The minor version.
 #[no_mangle]
 pub extern "C" fn binmode_version_2() -> u32
-    ensures { λ n. ⌜ n ≡ 0 ⌝ }
+    ensures { λ n. ⌜ n ≡ 1 ⌝ }
 {
-    0
+    1
 }

@@ -79,7 +79,8 @@ impl<'r> Pieces<'r> {
     }
 
     /// While more is wanted: with fewer bytes than this, counted from the
-    /// message's first, no answer comes.
+    /// message's first, no answer comes. It is at most one more than
+    /// [`crate::MOST_BYTES`]: with that byte there is an answer in any case.
     #[must_use]
     pub fn wanted(&self) -> usize {
         self.state.wanted

@@ -2,6 +2,8 @@
 //! ask of their caller. The rest of this crate is safe.
 
 /// The state of a message in pieces: six numbers, of which any have an answer.
+/// Zeros, the default, are a message of which nothing has come, as
+/// `binmode_pieces_start` leaves one.
 #[repr(C)]
 #[derive(Clone, Copy, Debug, Default, PartialEq, Eq)]
 pub struct Pieces {
@@ -18,7 +20,8 @@ pub struct Pieces {
     /// Where more is wanted, how many bytes are held in the room; else 0.
     pub held: usize,
     /// Where more is wanted: with fewer bytes than this held no other answer
-    /// comes (it may be no more than are held); else 0.
+    /// comes (it may be no more than are held, and is at most 65,537, the byte
+    /// with which there is an answer in any case); else 0.
     pub wanted: usize,
 }
 
