@@ -1,1 +1,3 @@
 pub mod Scalars
+pub mod Places
+pub mod Words

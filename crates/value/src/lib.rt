@@ -47,7 +47,10 @@ pub fn read_value(
         return item::close(step, 9, n as u32, row, room, table);
     }
     let t = s;
-    scalar::read_scalar(t, at, row, room, table, book)
+    if scalar::is_fixed(s[at]) {
+        return scalar::read_fixed(t, at, row, room, table, book);
+    }
+    scalar::step_of(scalar::read_sized(t, at, row, room, table, book))
 }
 
 // n values, one after the other.
@@ -82,7 +85,7 @@ fn read_values(
             free = step.row;
             left -= 1;
         } else {
-            let step = scalar::read_item(s, next, free, room, table, book);
+            let step = scalar::read_scalar(s, next, free, room, table, book);
             if step.number != 0 {
                 return step;
             }
@@ -135,7 +138,7 @@ fn read_pairs(
             free = step.row;
             pairs -= 1;
         } else {
-            let step = scalar::read_member(s, here, key.row, room, table, book);
+            let step = scalar::read_scalar(s, here, key.row, room, table, book);
             if step.number != 0 {
                 return step;
             }

@@ -1,43 +1,19 @@
-use Rattle.scalar.proofs.Scalars.{scalars}
+use Rattle.scalar.proofs.Scalars.{fixing}
+use Rattle.scalar.proofs.Words.{words}
 use borrow.Author.Needs.{needs}
 use Rattle.scalar.proofs.read_scalar.Statement.{statement}
 use Rattle.scalar.proofs.read_scalar.Tie as tie
 
 pub read-scalar-spec : {M : Type 1} → statement M
 read-scalar-spec = tie.close (tie.spec
-    (λ c. search needs)  -- shared-slice-read-match
-    (λ c κs. search needs)  -- read-integer-requires
-    (λ c κs. search needs)  -- read-boolean-requires
-    (λ c κs. search needs)  -- read-boolean-requires-2
-    (λ c κs. search needs)  -- read-short-requires
-    (λ c κs. search needs)  -- read-short-requires-2
-    (λ c κs. search needs)  -- read-long-requires
-    (λ c κs. search needs)  -- read-other-requires
-    (λ c κs. search needs)  -- read-long-requires-2
-    (λ c κs. search needs)  -- read-recorded-requires
-    (λ c κs. search needs)  -- read-recalled-requires
-    (λ c κs. search needs)  -- refuse-requires
+    (λ c. search needs)  -- shared-slice-read-is-fixed
+    (λ c κs. search needs)  -- is-fixed-requires
+    (λ c κs. (search needs, search fixing, search needs))  -- read-fixed-requires
     (λ c. search needs)  -- same-length
-    (λ c. search scalars)  -- returns
     (λ c. search needs)  -- same-length-2
-    (λ c. search scalars)  -- returns-2
+    (λ c. search needs)  -- returns
+    (λ c κs. (search needs, search needs, search needs, search fixing, search needs))  -- read-sized-requires
+    (λ c κs. search needs)  -- step-of-requires
     (λ c. search needs)  -- same-length-3
-    (λ c. search scalars)  -- returns-3
     (λ c. search needs)  -- same-length-4
-    (λ c. search scalars)  -- returns-4
-    (λ c. search needs)  -- same-length-5
-    (λ c. search scalars)  -- returns-5
-    (λ c. search needs)  -- same-length-6
-    (λ c. search scalars)  -- returns-6
-    (λ c. search needs)  -- same-length-7
-    (λ c. search needs)  -- same-length-8
-    (λ c. search scalars)  -- returns-7
-    (λ c. search needs)  -- same-length-9
-    (λ c. search scalars)  -- returns-8
-    (λ c. search needs)  -- same-length-10
-    (λ c. search needs)  -- same-length-11
-    (λ c. search scalars)  -- returns-9
-    (λ c. search needs)  -- same-length-12
-    (λ c. search needs)  -- same-length-13
-    (λ c. search scalars)  -- returns-10
-    (λ c. search scalars))  -- returns-11
+    (λ c. search words))  -- returns-2

@@ -5,6 +5,8 @@ use native.Mathlib.Omega.{arith}
 use lib.ListN.{length}
 use Rattle.draft.specs.Read.{value}
 use Rattle.heads.proofs.Values.{values}
+use Rattle.scalar.proofs.Scalars.{fixing}
+use Rattle.scalar.proofs.Words.{words}
 use Rattle.value.proofs.Keys.{going, Going, going-ready, done-ends}
 use Rattle.value.proofs.Items.{pairing, valuing, pair-ready, pair-value-stops, pair-value-less, pair-value-again, pair-flat-again}
 use Rattle.value.proofs.Arrays.{arrays, head-nests, head-row, head-ready, struct-got, array-got}
@@ -26,8 +28,10 @@ use Rattle.item.proofs.close.Reads as close-reads
 use Rattle.item.proofs.refuse.Reads as refuse-reads
 use Rattle.item.proofs.unsigned.Reads as unsigned-reads
 use Rattle.member_keys.proofs.read_key.Reads as read-key-reads
-use Rattle.scalar.proofs.read_item.Reads as read-item-reads
-use Rattle.scalar.proofs.read_member.Reads as read-member-reads
+use Rattle.scalar.proofs.is_fixed.Reads as is-fixed-reads
+use Rattle.scalar.proofs.read_fixed.Reads as read-fixed-reads
+use Rattle.scalar.proofs.read_sized.Reads as read-sized-reads
+use Rattle.scalar.proofs.step_of.Reads as step-of-reads
 use Rattle.scalar.proofs.read_scalar.Reads as read-scalar-reads
 use Rattle.value.proofs.+read_pairs+read_value+read_values.{statement}
 use Rattle.value.proofs.+read_pairs+read_value+read_values.Tie.{close}
@@ -66,13 +70,13 @@ read-values-below t =
     and 4 read-values-kinds.ps (falls 4 read-values-kinds.ps _<_ μ-read-values t) read-values.Pre
 
 abbrev read-pairs-calls : ℕ → read-pairs-lts.Claims
-read-pairs-calls t = (read-key-reads.Asked, read-key-reads.Learnt, refuse-reads.Asked, refuse-reads.Learnt, holds-items-reads.Asked, holds-items-reads.Learnt, read-value-below t, read-value.Post, read-member-reads.Asked, read-member-reads.Learnt)
+read-pairs-calls t = (read-key-reads.Asked, read-key-reads.Learnt, refuse-reads.Asked, refuse-reads.Learnt, holds-items-reads.Asked, holds-items-reads.Learnt, read-value-below t, read-value.Post, read-scalar-reads.Asked, read-scalar-reads.Learnt)
 
 abbrev read-value-calls : ℕ → read-value-lts.Claims
-read-value-calls t = (refuse-reads.Asked, refuse-reads.Learnt, holds-items-reads.Asked, holds-items-reads.Learnt, read-head-reads.Asked, read-head-reads.Learnt, unsigned-reads.Asked, unsigned-reads.Learnt, read-pairs-below t, read-pairs.Post, close-reads.Asked, close-reads.Learnt, read-values-below t, read-values.Post, read-scalar-reads.Asked, read-scalar-reads.Learnt)
+read-value-calls t = (refuse-reads.Asked, refuse-reads.Learnt, holds-items-reads.Asked, holds-items-reads.Learnt, read-head-reads.Asked, read-head-reads.Learnt, unsigned-reads.Asked, unsigned-reads.Learnt, read-pairs-below t, read-pairs.Post, close-reads.Asked, close-reads.Learnt, read-values-below t, read-values.Post, is-fixed-reads.Asked, is-fixed-reads.Learnt, read-fixed-reads.Asked, read-fixed-reads.Learnt, read-sized-reads.Asked, read-sized-reads.Learnt, step-of-reads.Asked, step-of-reads.Learnt)
 
 abbrev read-values-calls : ℕ → read-values-lts.Claims
-read-values-calls t = (refuse-reads.Asked, refuse-reads.Learnt, holds-items-reads.Asked, holds-items-reads.Learnt, read-value-below t, read-value.Post, read-item-reads.Asked, read-item-reads.Learnt)
+read-values-calls t = (refuse-reads.Asked, refuse-reads.Learnt, holds-items-reads.Asked, holds-items-reads.Learnt, read-value-below t, read-value.Post, read-scalar-reads.Asked, read-scalar-reads.Learnt)
 
 abbrev read-pairs-Inv-loop : read-pairs-lts.InvT-loop
 read-pairs-Inv-loop s at row deep n room table₀ book₀ notes₀ left₀ next₀ free₀ table book notes left next free =
@@ -103,11 +107,11 @@ read-pairs-loop-less t c = pair-value-less _ (c .before .before .before .before 
 read-pairs-loop-again : (t : ℕ) → read-pairs-lts.Need-loop-again (read-pairs-calls t) (read-pairs-at t) read-pairs.Post read-pairs-Inv-loop read-pairs-μ-loop
 read-pairs-loop-again t c = (pair-value-again _ (c .before .before .before .before .before .before .before .before .before .before .before .before .before .before .before .before .before .before .before .before .before .before .before .before .before .before .before .before .before .loop .inv .0) (c .before .before .before .before .before .before .before .before .before .before .before .before .before .before .before .before .before .before .before .before .before .before .before .before .before .before .before .before .loop-test .taken) (c .before .before .before .before .before .before .before .before .before .before .before .before .before .before .before .before .before .before .before .before .before .before .before .before .read-key .ensures) (c .before .before .before .before .before .before .before .before .before .before .before .before .before .before .before .before .if1 .left) (c .before .before .before .before .before .before .before .before .read-value .ensures) (c .if4 .left) (c .before .before .before .before .before .before .before .before .before .before .before .before .before .before .before .before .before .before .before .before .before .before .before .before .before .before .before .before .before .before .before .before .before .before .pre .1 .0), search (needs, c .before .before .before .before .before .before .before .before .before .before .before .before .before .before .before .before .before .before .before .before .before .before .before .before .before .before .before .before .before .loop .inv .1, c .before .before .before .before .before .before .before .before .before .before .before .before .before .before .before .before .before .before .before .before .before .before .before .table .given, c .before .before .before .before .before .before .before .table2 .given), search (needs, c .before .before .before .before .before .before .before .before .before .before .before .before .before .before .before .before .before .before .before .before .before .before .before .before .before .before .before .before .before .loop .inv .2, c .before .before .before .before .before .before .before .before .before .before .before .before .before .before .before .before .before .before .before .before .before .book .given, c .before .before .before .before .before .book2 .given), search (needs, c .before .before .before .before .before .before .before .before .before .before .before .before .before .before .before .before .before .before .before .before .before .before .before .before .before .before .before .before .before .loop .inv .3, c .before .before .before .before .before .before .before .before .before .before .before .before .before .before .before .before .before .before .before .notes .given, c .before .before .before .notes2 .given))
 
-read-pairs-read-member-requires : (t : ℕ) → read-pairs-lts.Need-read-member-requires (read-pairs-calls t) (read-pairs-at t) read-pairs.Post read-pairs-Inv-loop read-pairs-μ-loop
-read-pairs-read-member-requires t c κs = (search needs, search values, search values, (pair-ready _ (c .before .before .before .before .before .before .before .before .before .before .before .before .before .before .before .before .before .before .before .loop .inv .0) (c .before .before .before .before .before .before .before .before .before .before .before .before .before .before .before .before .before .before .loop-test .taken) (c .before .before .before .before .before .before .before .before .before .before .before .before .before .before .read-key .ensures) (c .before .before .before .before .before .before .if1 .left) (going-ready (c .before .before .before .before .before .before .before .before .before .before .before .before .before .before .before .before .before .before .before .loop .inv .0) (c .before .before .before .before .before .before .before .before .before .before .before .before .before .before .before .before .before .before .before .before .before .before .before .before .pre .1 .1) (c .before .before .before .before .before .before .before .before .before .before .before .before .before .before .before .before .before .before .before .loop .inv .1) (c .before .before .before .before .before .before .before .before .before .before .before .before .before .before .before .before .before .before .before .loop .inv .2) (c .before .before .before .before .before .before .before .before .before .before .before .before .before .before .before .before .before .before .before .loop .inv .3)) (search (needs, c .before .before .before .before .before .before .before .before .before .before .before .before .before .table .given)) (search (needs, c .before .before .before .before .before .before .before .before .before .before .before .book .given)) (search (needs, c .before .before .before .before .before .before .before .before .before .notes .given))) .ready)
+read-pairs-read-scalar-requires : (t : ℕ) → read-pairs-lts.Need-read-scalar-requires (read-pairs-calls t) (read-pairs-at t) read-pairs.Post read-pairs-Inv-loop read-pairs-μ-loop
+read-pairs-read-scalar-requires t c κs = (search needs, search values, search values, (pair-ready _ (c .before .before .before .before .before .before .before .before .before .before .before .before .before .before .before .before .before .before .before .loop .inv .0) (c .before .before .before .before .before .before .before .before .before .before .before .before .before .before .before .before .before .before .loop-test .taken) (c .before .before .before .before .before .before .before .before .before .before .before .before .before .before .read-key .ensures) (c .before .before .before .before .before .before .if1 .left) (going-ready (c .before .before .before .before .before .before .before .before .before .before .before .before .before .before .before .before .before .before .before .loop .inv .0) (c .before .before .before .before .before .before .before .before .before .before .before .before .before .before .before .before .before .before .before .before .before .before .before .before .pre .1 .1) (c .before .before .before .before .before .before .before .before .before .before .before .before .before .before .before .before .before .before .before .loop .inv .1) (c .before .before .before .before .before .before .before .before .before .before .before .before .before .before .before .before .before .before .before .loop .inv .2) (c .before .before .before .before .before .before .before .before .before .before .before .before .before .before .before .before .before .before .before .loop .inv .3)) (search (needs, c .before .before .before .before .before .before .before .before .before .before .before .before .before .table .given)) (search (needs, c .before .before .before .before .before .before .before .before .before .before .before .book .given)) (search (needs, c .before .before .before .before .before .before .before .before .before .notes .given))) .ready)
 
 read-pairs-loop-again-2 : (t : ℕ) → read-pairs-lts.Need-loop-again-2 (read-pairs-calls t) (read-pairs-at t) read-pairs.Post read-pairs-Inv-loop read-pairs-μ-loop
-read-pairs-loop-again-2 t c = (pair-flat-again _ (c .before .before .before .before .before .before .before .before .before .before .before .before .before .before .before .before .before .before .before .before .before .before .before .before .before .before .loop .inv .0) (c .before .before .before .before .before .before .before .before .before .before .before .before .before .before .before .before .before .before .before .before .before .before .before .before .before .loop-test .taken) (c .before .before .before .before .before .before .before .before .before .before .before .before .before .before .before .before .before .before .before .before .before .read-key .ensures) (c .before .before .before .before .before .before .before .before .before .before .before .before .before .if1 .left) (search needs) (c .before .before .before .before .before .before .before .before .before .before .holds-items .ensures) (c .before .before .before .before .before .before .before .before .before .if3 .left) (c .before .before .before .before .before .before .read-member .ensures) (c .if5 .left) (c .before .before .before .before .before .before .before .before .before .before .before .before .before .before .before .before .before .before .before .before .before .before .before .before .before .before .before .before .before .before .before .pre .1 .0) (going-ready (c .before .before .before .before .before .before .before .before .before .before .before .before .before .before .before .before .before .before .before .before .before .before .before .before .before .before .loop .inv .0) (c .before .before .before .before .before .before .before .before .before .before .before .before .before .before .before .before .before .before .before .before .before .before .before .before .before .before .before .before .before .before .before .pre .1 .1) (c .before .before .before .before .before .before .before .before .before .before .before .before .before .before .before .before .before .before .before .before .before .before .before .before .before .before .loop .inv .1) (c .before .before .before .before .before .before .before .before .before .before .before .before .before .before .before .before .before .before .before .before .before .before .before .before .before .before .loop .inv .2) (c .before .before .before .before .before .before .before .before .before .before .before .before .before .before .before .before .before .before .before .before .before .before .before .before .before .before .loop .inv .3)) (search (needs, c .before .before .before .before .before .before .before .before .before .before .before .before .before .before .before .before .before .before .before .before .table .given)) (search (needs, c .before .before .before .before .before .before .before .before .before .before .before .before .before .before .before .before .before .before .book .given)) (search (needs, c .before .before .before .before .before .before .before .before .before .before .before .before .before .before .before .before .notes .given)), search needs, search needs, search needs)
+read-pairs-loop-again-2 t c = (pair-flat-again _ (c .before .before .before .before .before .before .before .before .before .before .before .before .before .before .before .before .before .before .before .before .before .before .before .before .before .before .loop .inv .0) (c .before .before .before .before .before .before .before .before .before .before .before .before .before .before .before .before .before .before .before .before .before .before .before .before .before .loop-test .taken) (c .before .before .before .before .before .before .before .before .before .before .before .before .before .before .before .before .before .before .before .before .before .read-key .ensures) (c .before .before .before .before .before .before .before .before .before .before .before .before .before .if1 .left) (search needs) (c .before .before .before .before .before .before .before .before .before .before .holds-items .ensures) (c .before .before .before .before .before .before .before .before .before .if3 .left) (c .before .before .before .before .before .before .read-scalar .ensures) (c .if5 .left) (c .before .before .before .before .before .before .before .before .before .before .before .before .before .before .before .before .before .before .before .before .before .before .before .before .before .before .before .before .before .before .before .pre .1 .0) (going-ready (c .before .before .before .before .before .before .before .before .before .before .before .before .before .before .before .before .before .before .before .before .before .before .before .before .before .before .loop .inv .0) (c .before .before .before .before .before .before .before .before .before .before .before .before .before .before .before .before .before .before .before .before .before .before .before .before .before .before .before .before .before .before .before .pre .1 .1) (c .before .before .before .before .before .before .before .before .before .before .before .before .before .before .before .before .before .before .before .before .before .before .before .before .before .before .loop .inv .1) (c .before .before .before .before .before .before .before .before .before .before .before .before .before .before .before .before .before .before .before .before .before .before .before .before .before .before .loop .inv .2) (c .before .before .before .before .before .before .before .before .before .before .before .before .before .before .before .before .before .before .before .before .before .before .before .before .before .before .loop .inv .3)) (search (needs, c .before .before .before .before .before .before .before .before .before .before .before .before .before .before .before .before .before .before .before .before .table .given)) (search (needs, c .before .before .before .before .before .before .before .before .before .before .before .before .before .before .before .before .before .before .book .given)) (search (needs, c .before .before .before .before .before .before .before .before .before .before .before .before .before .before .before .before .notes .given)), search needs, search needs, search needs)
 
 read-value-read-pairs-requires : (t : ℕ) → read-value-lts.Need-read-pairs-requires (read-value-calls t) (read-value-at t) read-value.Post
 read-value-read-pairs-requires t c κs = (omega (arith, head-nests _ _ _ _ _ (c .before .before .before .before .before .before .before .before .read-head .ensures) (c .before .before .before .before .before .before .if3 .left) (c .before .before .before .before .before .before .before .before .before .before .before .before .before .before .before .before .before .pre .1), c .before .before .before .before .before .before .before .before .before .before .before .before .before .before .before .before .before .pre .0), (search needs, head-ready _ _ _ _ _ (c .before .before .before .before .before .before .before .before .read-head .ensures) (c .before .before .before .before .before .before .if3 .left) (c .before .before .before .before .before .before .before .before .before .before .before .before .before .before .before .before .before .pre .1)))
@@ -135,8 +139,8 @@ abbrev read-values-μ-loop : read-values-lts.MeasureT-loop
 read-values-μ-loop s at row deep n room table₀ book₀ notes₀ left₀ next₀ free₀ table book notes left next free =
     length s - next
 
-read-values-read-item-requires : (t : ℕ) → read-values-lts.Need-read-item-requires (read-values-calls t) (read-values-at t) read-values.Post read-values-Inv-loop read-values-μ-loop
-read-values-read-item-requires t c κs = (search needs, search values, search values, (going-ready (c .before .before .before .before .before .before .before .loop .inv .0) (c .before .before .before .before .before .before .before .before .before .before .before .before .pre .1) (c .before .before .before .before .before .before .before .loop .inv .1) (c .before .before .before .before .before .before .before .loop .inv .2) (c .before .before .before .before .before .before .before .loop .inv .3)) .ready)
+read-values-read-scalar-requires : (t : ℕ) → read-values-lts.Need-read-scalar-requires (read-values-calls t) (read-values-at t) read-values.Post read-values-Inv-loop read-values-μ-loop
+read-values-read-scalar-requires t c κs = (search needs, search values, search values, (going-ready (c .before .before .before .before .before .before .before .loop .inv .0) (c .before .before .before .before .before .before .before .before .before .before .before .before .pre .1) (c .before .before .before .before .before .before .before .loop .inv .1) (c .before .before .before .before .before .before .before .loop .inv .2) (c .before .before .before .before .before .before .before .loop .inv .3)) .ready)
 
 pub +read-pairs+read-value+read-values-spec : {M : Type 1} → statement M
 +read-pairs+read-value+read-values-spec =
@@ -166,7 +170,7 @@ pub +read-pairs+read-value+read-values-spec : {M : Type 1} → statement M
     (λ c. search needs)  -- read-pairs-sub-pairs
     (read-pairs-loop-less t)
     (read-pairs-loop-again t)
-    (read-pairs-read-member-requires t)
+    (read-pairs-read-scalar-requires t)
     (λ c. search needs)  -- read-pairs-same-length-10
     (λ c. search needs)  -- read-pairs-same-length-11
     (λ c. search needs)  -- read-pairs-same-length-12
@@ -210,10 +214,17 @@ pub +read-pairs+read-value+read-values-spec : {M : Type 1} → statement M
     (λ c. search needs)  -- read-value-same-length-5
     (λ c. search needs)  -- read-value-same-length-6
     (read-value-returns-4 t)
-    (λ c κs. (search needs, search values, search values, search needs))  -- read-value-read-scalar-requires
+    (λ c. search needs)  -- read-value-shared-slice-read-is-fixed
+    (λ c κs. search needs)  -- read-value-is-fixed-requires
+    (λ c κs. (search needs, search fixing, search needs))  -- read-value-read-fixed-requires
     (λ c. search needs)  -- read-value-same-length-7
     (λ c. search needs)  -- read-value-same-length-8
-    (λ c. search arrays))  -- read-value-returns-5
+    (λ c. search arrays)  -- read-value-returns-5
+    (λ c κs. (search needs, search values, search values, search fixing, search needs))  -- read-value-read-sized-requires
+    (λ c κs. search needs)  -- read-value-step-of-requires
+    (λ c. search needs)  -- read-value-same-length-9
+    (λ c. search needs)  -- read-value-same-length-10
+    (λ c. search (arrays, words)))  -- read-value-returns-6
     λ t. read-values-lts.spec (read-values-calls t)
     (read-values-at t)
     read-values.Post
@@ -235,7 +246,7 @@ pub +read-pairs+read-value+read-values-spec : {M : Type 1} → statement M
     (λ c. search needs)  -- read-values-sub-left
     (λ c. search valuing)  -- read-values-loop-less
     (λ c. (search (valuing, going), search needs, search needs, search needs))  -- read-values-loop-again
-    (read-values-read-item-requires t)
+    (read-values-read-scalar-requires t)
     (λ c. search needs)  -- read-values-same-length-7
     (λ c. search needs)  -- read-values-same-length-8
     (λ c. search needs)  -- read-values-same-length-9
