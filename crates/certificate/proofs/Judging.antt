@@ -1,7 +1,7 @@
 -- What answers the returns of the functions that judge a plan and prices. Assumes nothing.
 use Prim.Native.Nat.{ℕ, zero, suc, _+_, _*_, _≤_, _<_}
 use mathlib.Core.Path.{_≡_, refl, sym, ap, _∙_}
-use mathlib.Core.Bool.{Bool, true, false, _||_, not}
+use mathlib.Core.Bool.{Bool, true, false, _||_, not, cond}
 use mathlib.Core.Option.{Option, some, none}
 use mathlib.Core.List.{List, [], _∷_}
 use native.Mathlib.Omega.{arith}
@@ -14,7 +14,7 @@ use Rattle.text.specs.Texts.{same, among}
 use Rattle.text.proofs.Comparing.{clash, both, same-is, same-self}
 use Rattle.draft.specs.declared.Row.{Row}
 use Rattle.draft.specs.Table.{roomOf, rowAt, from}
-use Rattle.draft.specs.Grammar.{Sent, recorded, Recording, text-at, first, look, after}
+use Rattle.draft.specs.Grammar.{Sent, recorded, Recording, text-at, look, after}
 use Rattle.draft.specs.Strings.{Text, cost, costs}
 use Rattle.draft.specs.Writable.{writable, writableWithin}
 use Rattle.draft.specs.Written.{rowsOf}
@@ -44,7 +44,7 @@ seen-recorded : {seen : List Text} {R : List Recording} (q : ℕ) (t : Text) →
 unfolding among
 seen-recorded {seen} {R} q t s = record { at = λ p u e. go (eqb p q) p u e }
   where
-    go : (b : Bool) (p : ℕ) (u : Text) → first b (some t) (look p R) ≡ some u → (same u t || among seen u) ≡ true
+    go : (b : Bool) (p : ℕ) (u : Text) → cond b (some t) (look p R) ≡ some u → (same u t || among seen u) ≡ true
     go true p u e = let i : u ≡ t = cc in rw (i, same-self t)
     go false p u e = seen-more t s .at p u e
 

@@ -1,6 +1,6 @@
 -- The codebook's words: what they hold when clear and after a text is recorded, and what a recall finds. Assumes nothing.
 use mathlib.Core.Path.{_≡_, refl, fun-ext}
-use mathlib.Core.Bool.{Bool, true, false}
+use mathlib.Core.Bool.{Bool, true, false, cond}
 use mathlib.Core.List.{List}
 use Prim.Native.Nat.{ℕ, zero, suc, _+_, _*_, _-_, _/_, _%_, _<_}
 use native.Mathlib.Omega.{arith}
@@ -10,7 +10,7 @@ use lib.ListN.{length, getD, set, replicate}
 use borrow.Author.Tests.{eq-eqb, ne-eqb, eqb-true, eqb-false}
 use Rattle.draft.specs.declared.Entry.{Entry}
 use Rattle.draft.specs.declared.Entry.the-variants.{Unset, Text}
-use Rattle.draft.specs.Codebook.{clear, recorded, choose}
+use Rattle.draft.specs.Codebook.{clear, recorded}
 use Rattle.codebook.specs.Words.{entry, bookOf}
 
 -- a word is not 0, and gives the offset and the length back
@@ -28,7 +28,7 @@ recorded-is : (W : List ℕ) (p o n : ℕ) → length W ≡ 256 → p < 256 → 
 unfolding bookOf recorded
 recorded-is W p o n l h z k = fun-ext (λ q. go q (eqb q p) refl)
   where
-    go : (q : ℕ) (b : Bool) → eqb q p ≡ b → entry (getD (set W p ((o - 1) * 65536 + n)) q 0) ≡ choose b (Text o n) (entry (getD W q 0))
+    go : (q : ℕ) (b : Bool) → eqb q p ≡ b → entry (getD (set W p ((o - 1) * 65536 + n)) q 0) ≡ cond b (Text o n) (entry (getD W q 0))
     go q true e =
         let s : q ≡ p = eqb-true q p e in
         rw (s, getD-set-same W p ((o - 1) * 65536 + n) 0 (omega arith), ne-eqb ((o - 1) * 65536 + n) 0 (some o n z k), offset-is o n z k, length-is o n z k)

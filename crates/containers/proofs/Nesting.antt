@@ -1,6 +1,6 @@
 -- What answers each return of the functions that walk Others, scalars and containers, by what they hold. Assumes nothing.
 use mathlib.Core.Path.{_≡_, refl, sym, _∙_}
-use mathlib.Core.Bool.{Bool, true, false, _||_}
+use mathlib.Core.Bool.{Bool, true, false, _||_, cond}
 use mathlib.Core.List.{List}
 use Prim.Native.Nat.{ℕ, zero, suc, _+_, _-_, _≤_, _<_}
 use native.Mathlib.Omega.{arith}
@@ -28,7 +28,7 @@ use Rattle.draft.specs.declared.Item.the-variants.{
 use Rattle.draft.specs.declared.Extent.{Extent}
 use Rattle.draft.specs.declared.Extent.the-variants.{Until, Unfit}
 use Rattle.draft.specs.declared.Row.{Row}
-use Rattle.draft.specs.Rows.{pickItem, itemOf}
+use Rattle.draft.specs.Rows.{itemOf}
 use Rattle.draft.specs.Content.{nameRule}
 use Rattle.draft.specs.Bytes.{part}
 use Rattle.draft.specs.Read.{textOf}
@@ -89,7 +89,7 @@ flat-kind k h =
     let n = neither (eqb k 9) (eqb k 10) h in
     chosen (eqb k 1) Call _ tt (chosen (eqb k 2) Response _ tt (chosen (eqb k 3) Fault _ tt (chosen (eqb k 4) Integer _ tt (chosen (eqb k 5) Boolean _ tt (chosen (eqb k 6) (Content Double) _ tt (chosen (eqb k 7) (Content DateTime) _ tt (chosen (eqb k 8) (Content Binary) _ tt (rw (n .0, n .1) (chosen (eqb k 11) (Content Text) _ tt (chosen (eqb k 12) Other Unknown tt tt))))))))))
   where
-    chosen : (x : Bool) (i j : Item) → Flat i → Flat j → Flat (pickItem x i j)
+    chosen : (x : Bool) (i j : Item) → Flat i → Flat j → Flat (cond x i j)
     chosen true i j f g = f
     chosen false i j f g = g
 
@@ -131,11 +131,11 @@ unfolding itemOf
 text-kind k =
     chosen (eqb k 1) Call _ tt (chosen (eqb k 2) Response _ tt (chosen (eqb k 3) Fault _ tt (chosen (eqb k 4) Integer _ tt (chosen (eqb k 5) Boolean _ tt (chosen (eqb k 6) (Content Double) _ tt (chosen (eqb k 7) (Content DateTime) _ tt (chosen (eqb k 8) (Content Binary) _ tt (chosen (eqb k 9) Array _ tt (chosen (eqb k 10) Struct _ tt (text (eqb k 11) refl _ (chosen (eqb k 12) Other Unknown tt tt)))))))))))
   where
-    chosen : (x : Bool) (i j : Item) → TextKind k i → TextKind k j → TextKind k (pickItem x i j)
+    chosen : (x : Bool) (i j : Item) → TextKind k i → TextKind k j → TextKind k (cond x i j)
     chosen true i j f g = f
     chosen false i j f g = g
 
-    text : (x : Bool) → eqb k 11 ≡ x → (j : Item) → TextKind k j → TextKind k (pickItem x (Content Text) j)
+    text : (x : Bool) → eqb k 11 ≡ x → (j : Item) → TextKind k j → TextKind k (cond x (Content Text) j)
     text true e j g = eqb-true k 11 e
     text false e j g = g
 

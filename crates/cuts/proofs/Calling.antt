@@ -1,6 +1,6 @@
 -- A call with a piece, from a state that stands for the bytes so far to one that stands for them and the piece. Assumes nothing.
 use mathlib.Core.Path.{_≡_, refl, sym, _∙_, ap}
-use mathlib.Core.Bool.{Bool, true, false, _&&_}
+use mathlib.Core.Bool.{Bool, true, false, _&&_, cond}
 use mathlib.Core.List.{List, [], _∷_, _++_, append-assoc}
 use Prim.Native.Nat.{ℕ, _+_, _-_, _*_, _/_, _≤_, _<_}
 use native.Mathlib.Omega.{arith}
@@ -12,14 +12,14 @@ use Rattle.draft.specs.declared.Refusal.the-variants.{Ended, TooLong}
 use Rattle.draft.specs.Limits.{allowed}
 use Rattle.draft.specs.Read.{Reading, got, refused}
 use Rattle.read_answer.specs.Answers.{reading, tableOf}
-use Rattle.rereading.specs.Rereading.{refusedWithOne, pickList, tableRead}
+use Rattle.rereading.specs.Rereading.{refusedWithOne, tableRead}
 use Rattle.rereading.proofs.Words.{length-table, more-words}
 use Rattle.room.specs.Room.{taken}
 use Rattle.pieces.specs.declared.PieceRefusal.the-variants.{Message}
 use Rattle.pieces.specs.declared.State.{State}
 use Rattle.pieces.specs.declared.State.the-variants.{More, Accepted, Refused}
 use Rattle.pieces.specs.Pieces.{outcome, wanting, through, roomWith}
-use Rattle.pieces.specs.Steps.{pickState, stillMore, wantedOf, stateOf, stateWent, roomWent, tableWent, Went}
+use Rattle.pieces.specs.Steps.{stillMore, wantedOf, stateOf, stateWent, roomWent, tableWent, Went}
 use Rattle.cuts.proofs.Outcomes.{View, cut-short, other, view, stays-cut, within, outcome-over, outcome-settled, wanting-within, through-more, through-done}
 use Rattle.cuts.proofs.Holding.{cut, length-cut, room-next, held-next, fits}
 
@@ -73,7 +73,7 @@ module _ (limit : ℕ) (ok : allowed limit ≡ true) (s p : List ℕ) (words : �
 
       by :
           (b : Bool) → ltb (65536 - length s) (length p) ≡ b
-          → Known limit (s ++ p) words T (pickState b (Refused (Message TooLong) 0) (More (length s + length p) wanted q))
+          → Known limit (s ++ p) words T (cond b (Refused (Message TooLong) 0) (More (length s + length p) wanted q))
       by true e = ten T here zeros (ltb-true _ _ e)
       by false e =
           let o : outcome limit (s ++ p) words ≡ refused Ended q = outcome-fits (ltb-false _ _ e) ∙ here in
@@ -160,7 +160,7 @@ read-table limit wanted s T words l cleared =
 
     by :
         (x : Bool) → ltb 0 wanted ≡ x → (y : Bool) → ltb (length s) (words / 4) ≡ y → (o : Reading) → View o → reading limit s (4 * length s) ≡ o
-        → pickList (x && y) (pickList (refusedWithOne o) (replicate (4 * length s) 0 ++ drop (4 * length s) T) full) full ≡ full
+        → cond (x && y) (cond (refusedWithOne o) (replicate (4 * length s) 0 ++ drop (4 * length s) T) full) full ≡ full
     by false e y f o v g = refl
     by true e false f o v g = refl
     by true e true f _ (cut-short {q = q}) g =
@@ -175,14 +175,14 @@ module _ (limit : ℕ) (s p R₀ : List ℕ) (wanted q : ℕ) (T : List ℕ) (sh
   says-more :
       (words : ℕ)
       → stateWent limit (More (length s) wanted q) p (roomWith s R₀) words
-      ≡ pickState (ltb (length s + taken (length s) p) wanted) (stillMore (length s) (length p) wanted q)
+      ≡ cond (ltb (length s + taken (length s) p) wanted) (stillMore (length s) (length p) wanted q)
       (stateOf (length s) (length p) (take 65536 (s ++ p)) (reading limit (take 65536 (s ++ p)) words))
   unfolding stateWent
   says-more words = simp (le-ltb _ _ short) (rw (room-next s p R₀ short, held-next s p R₀ short))
 
   table-more :
       tableWent limit (More (length s) wanted q) p (roomWith s R₀) T
-      ≡ pickList (ltb (length s + taken (length s) p) wanted) T (tableRead limit wanted (take 65536 (s ++ p)) T)
+      ≡ cond (ltb (length s + taken (length s) p) wanted) T (tableRead limit wanted (take 65536 (s ++ p)) T)
   unfolding tableWent
   table-more = simp (le-ltb _ _ short) (rw (room-next s p R₀ short, held-next s p R₀ short))
 

@@ -1,6 +1,6 @@
 -- What some bytes come to, and what stays of it when more of them come. Assumes nothing.
 use mathlib.Core.Path.{_≡_, refl, sym, _∙_, ap}
-use mathlib.Core.Bool.{Bool, true, false, _&&_}
+use mathlib.Core.Bool.{Bool, true, false, _&&_, cond}
 use mathlib.Core.List.{List, [], _∷_, _++_, append-nil, append-assoc}
 use Prim.Native.Nat.{ℕ, _+_, _-_, _≤_, _<_}
 use native.Mathlib.Omega.{arith}
@@ -14,14 +14,14 @@ use Rattle.draft.specs.declared.Refusal.the-variants.{Ended, TooLong}
 use Rattle.draft.specs.Refusals.{numberOf}
 use Rattle.draft.specs.Limits.{allowed}
 use Rattle.draft.specs.Table.{roomOf}
-use Rattle.draft.specs.Read.{Reading, got, refused, pick, message, messageWithin}
+use Rattle.draft.specs.Read.{Reading, got, refused, message, messageWithin}
 use Rattle.wanting.specs.Want.{wantOf}
 use Rattle.draft.proofs.Naming.{refusal-ended, refusal-long, number-own}
 use Rattle.read_answer.specs.Answers.{reading}
 use Rattle.rereading.specs.Rereading.{refusedWithOne}
 use Rattle.exact.proofs.Growing.{OfReading, waits, decided}
 use Rattle.exact.proofs.Concluding.{of-reading}
-use Rattle.pieces.specs.Pieces.{joined, outcome, wanting, pickBytes, through, refusal, toldOf}
+use Rattle.pieces.specs.Pieces.{joined, outcome, wanting, through, refusal, toldOf}
 
 -- a reading that is refused with 1, or another
 pub data View : Reading → Type 0 where
@@ -69,7 +69,7 @@ module _ (limit : ℕ) (ok : allowed limit ≡ true) (words : ℕ) where
   unfolding outcome
   within s h = rw (take-all 65536 s h, le-ltb 65536 (length s) h) (never (refusedWithOne (reading limit s words)))
     where
-      never : (b : Bool) → pick (b && false) (refused TooLong 0) (reading limit s words) ≡ reading limit s words
+      never : (b : Bool) → cond (b && false) (refused TooLong 0) (reading limit s words) ≡ reading limit s words
       never true = refl
       never false = refl
 
@@ -161,7 +161,7 @@ module _ (limit : ℕ) (ok : allowed limit ≡ true) (words : ℕ) where
     where
       by :
           (b : Bool) → wanting limit s words ≡ b → outcome limit (through limit words (s ++ p) ps) words ≡ outcome limit ((s ++ p) ++ joined ps) words
-          → outcome limit (pickBytes b (through limit words (s ++ p) ps) s) words ≡ outcome limit (s ++ (p ++ joined ps)) words
+          → outcome limit (cond b (through limit words (s ++ p) ps) s) words ≡ outcome limit (s ++ (p ++ joined ps)) words
       by true e i = rw (← later s p ps) i
       by false e i = sym (outcome-stays s (p ++ joined ps) e)
 
@@ -194,7 +194,7 @@ module _ (limit : ℕ) (ok : allowed limit ≡ true) (words : ℕ) where
   unfolding through
   through-step s p ps = by (wanting limit s words) refl
     where
-      by : (b : Bool) → wanting limit s words ≡ b → pickBytes b (through limit words (s ++ p) ps) s ≡ through limit words (pickBytes b (s ++ p) s) ps
+      by : (b : Bool) → wanting limit s words ≡ b → cond b (through limit words (s ++ p) ps) s ≡ through limit words (cond b (s ++ p) s) ps
       by true e = refl
       by false e = sym (through-done s ps e)
 
@@ -207,7 +207,7 @@ module _ (limit : ℕ) (ok : allowed limit ≡ true) (words : ℕ) where
       by :
           (b : Bool) → wanting limit s words ≡ b
           → (wanting limit (through limit words (s ++ p) ps) words ≡ true → through limit words (s ++ p) ps ≡ (s ++ p) ++ joined ps)
-          → wanting limit (pickBytes b (through limit words (s ++ p) ps) s) words ≡ true → pickBytes b (through limit words (s ++ p) ps) s ≡ s ++ (p ++ joined ps)
+          → wanting limit (cond b (through limit words (s ++ p) ps) s) words ≡ true → cond b (through limit words (s ++ p) ps) s ≡ s ++ (p ++ joined ps)
       by true e i v = i v ∙ later s p ps
       by false e i v = clash (sym e ∙ v) refl
 

@@ -1,6 +1,6 @@
 -- Runs of calls from `start` on, and the end call: what they come to. Assumes nothing.
 use mathlib.Core.Path.{_≡_, refl, _∙_, ap}
-use mathlib.Core.Bool.{Bool, true, false}
+use mathlib.Core.Bool.{Bool, true, false, cond}
 use mathlib.Core.List.{List, [], _∷_, _++_}
 use Prim.Native.Nat.{ℕ, _≤_}
 use native.Mathlib.Omega.{arith}
@@ -12,12 +12,12 @@ use Rattle.draft.specs.declared.Refusal.the-variants.{Ended}
 use Rattle.draft.specs.Limits.{allowed}
 use Rattle.draft.specs.Read.{Reading, got, refused, agree, message, messageWithin}
 use Rattle.read_answer.specs.Answers.{reading, tableOf}
-use Rattle.rereading.specs.Rereading.{refusedWithOne, pickList}
+use Rattle.rereading.specs.Rereading.{refusedWithOne}
 use Rattle.room.specs.Room.{roomAfter}
 use Rattle.pieces.specs.declared.PieceRefusal.the-variants.{Message}
 use Rattle.pieces.specs.declared.State.{State}
 use Rattle.pieces.specs.declared.State.the-variants.{More, Accepted, Refused}
-use Rattle.pieces.specs.Pieces.{outcome, through, roomWith, more, refusal, pickTold, toldOf, soFar}
+use Rattle.pieces.specs.Pieces.{outcome, through, roomWith, more, refusal, toldOf, soFar}
 use Rattle.pieces.specs.Steps.{told, stateWent, roomWent, tableWent, Went, stateClosed, tableClosed, Closed}
 use Rattle.pieces.specs.Runs.{begun, Runs, none, piece}
 use Rattle.cuts.proofs.Outcomes.{through-step}
@@ -142,7 +142,7 @@ past-stays limit state {p} {R} {T} {R′} {T′} {state′} w = by (allowed limi
     went : (x : State) → 65536 ≤ length R → drop 65536 (roomWent x p R) ≡ drop 65536 R
     went (More held wanted place) long = in-room (ltb 65536 held) refl
       where
-        in-room : (b : Bool) → ltb 65536 held ≡ b → drop 65536 (pickList b R (roomAfter held p R)) ≡ drop 65536 R
+        in-room : (b : Bool) → ltb 65536 held ≡ b → drop 65536 (cond b R (roomAfter held p R)) ≡ drop 65536 R
         in-room true e = refl
         in-room false e = past held p R (ltb-false 65536 held e) long
     went (Accepted rows used) long = refl
@@ -162,7 +162,7 @@ more-told o = by (refusedWithOne o) refl
     never (got rows used book) e = let z : _≡_ {A = ℕ} 0 1 = cc in omega arith
     never (refused m q) e = let z : _≡_ {A = ℕ} 0 1 = cc in omega arith
 
-    by : (b : Bool) → refusedWithOne o ≡ b → pickTold b more (toldOf o) ≡ more → refusedWithOne o ≡ true
+    by : (b : Bool) → refusedWithOne o ≡ b → cond b more (toldOf o) ≡ more → refusedWithOne o ≡ true
     by true f e = f
     by false f e = absurd (never o e)
 
@@ -173,7 +173,7 @@ told-more o e = rw e
 pub refusal-told : (o : Reading) {n p : ℕ} → soFar o ≡ refusal n p → toldOf o ≡ refusal n p
 refusal-told o {n} {p} = by (refusedWithOne o)
   where
-    by : (b : Bool) → pickTold b more (toldOf o) ≡ refusal n p → toldOf o ≡ refusal n p
+    by : (b : Bool) → cond b more (toldOf o) ≡ refusal n p → toldOf o ≡ refusal n p
     by true e = let z : _≡_ {A = ℕ} 0 1 = cc in absurd (omega arith)
     by false e = e
 

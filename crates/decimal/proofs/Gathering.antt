@@ -16,7 +16,7 @@ use Rattle.text.proofs.Comparing.{both, clash, ended}
 use Rattle.lexical.specs.Digits.{digit}
 use Rattle.decimal.specs.declared.Gathered.the-variants.{Number, TooMany}
 use Rattle.decimal.specs.Digits.{nonzero, digitsOf, significant, whole, places, negative, Counting}
-use Rattle.decimal.specs.Decimal.{pickGathered, gathered}
+use Rattle.decimal.specs.Decimal.{gathered}
 
 -- ---- the sign
 
@@ -204,7 +204,7 @@ pub number-small : (s : List ℕ) (from n : ℕ) → Number n ≡ gathered (digi
 unfolding gathered
 number-small s from n e = go (leb (length (digitsOf (drop from s))) 15) refl e
   where
-    go : (t : Bool) → leb (length (digitsOf (drop from s))) 15 ≡ t → Number n ≡ pickGathered t (Number (whole 0 (digitsOf (drop from s)))) TooMany → n < 10 ^ 15
+    go : (t : Bool) → leb (length (digitsOf (drop from s))) 15 ≡ t → Number n ≡ cond t (Number (whole 0 (digitsOf (drop from s)))) TooMany → n < 10 ^ 15
     go true l q = let w : n ≡ whole 0 (digitsOf (drop from s)) = cc in rw w (fifteen (drop from s) (leb-true _ 15 l))
     go false l q = let z : _≡_ {A = ℕ} 0 1 = cc in absurd (omega arith)
 

@@ -16,7 +16,7 @@ use borrow.Author.Tests.{ne-eqb, leb-true}
 use Rattle.text.proofs.Comparing.{both}
 use Rattle.decimal.specs.declared.Decimal.the-variants.{Value, TooManyDigits}
 use Rattle.decimal.specs.Digits.{digitsOf, significant, whole, places, negative}
-use Rattle.decimal.specs.Decimal.{power, quotient, signed, held, pick, decimalOf, nearestTo}
+use Rattle.decimal.specs.Decimal.{power, quotient, signed, held, decimalOf, nearestTo}
 use Rattle.decimal.proofs.Powers.{power-exact}
 use Rattle.decimal.proofs.Gathering.{significant-small}
 
@@ -97,6 +97,6 @@ pub value-number : (s : List ℕ) {x : Float} → decimalOf s ≡ Value x → T 
 unfolding decimalOf nearestTo
 value-number s {x} e = go (held s) refl e
   where
-    go : (t : Bool) → held s ≡ t → pick t (Value (signed (negative s) (quotient (whole 0 (significant (digitsOf s))) (places s)))) TooManyDigits ≡ Value x → T (not (isNan x))
+    go : (t : Bool) → held s ≡ t → cond t (Value (signed (negative s) (quotient (whole 0 (significant (digitsOf s))) (places s)))) TooManyDigits ≡ Value x → T (not (isNan x))
     go true h q = let n : x ≡ nearestTo s = cc (nearest s h) in rw n (round-number binary64 (negative s) (whole 0 (significant (digitsOf s))) (10 ^ places s))
     go false h q = let z : _≡_ {A = ℕ} 0 1 = cc in absurd (omega arith)

@@ -1,5 +1,5 @@
 -- Job defaults behind a card: whose text a key has. Defined for any two tables. Assumes nothing.
-use mathlib.Core.Bool.{Bool, true, false}
+use mathlib.Core.Bool.{Bool, true, false, cond}
 use mathlib.Core.List.{List}
 use Prim.Native.Nat.{ℕ}
 use lib.Dec.{eqb}
@@ -28,15 +28,11 @@ pub record Source : Type 0 where
 abbrev pub source : List ℕ → ℕ → List ℕ → ℕ → Source
 source T rows s r = record { table = T; rows = rows; text = s; row = r }
 
-abbrev pub pickHeld : Bool → Held → Held → Held
-pickHeld true x y = x
-pickHeld false x y = y
-
 -- the rows by their numbers
 module _ (row : ℕ → Row) where
   -- what the value of row r is to one who asks for a text: a String's, or none
   unfoldable pub textAt : ℕ → Held
-  textAt r = pickHeld (eqb (row r .kind) 11) (Text (row r .a) (row r .b)) NoText
+  textAt r = cond (eqb (row r .kind) 11) (Text (row r .a) (row r .b)) NoText
 
   abbrev pub foundText : Found → Held
   foundText (found.At m) = textAt (m .value)

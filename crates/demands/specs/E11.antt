@@ -40,7 +40,7 @@ use Rattle.plan_writer.specs.Answers as planner
 use Rattle.member.specs.declared.Member.{Member}
 use Rattle.lookup_answer.specs.declared.Refusal.the-variants as why
 use Rattle.lookup_answer.specs.declared.Answer.the-variants as lookup-answer
-use Rattle.lookup_answer.specs.Answers.{lookup, look, pick}
+use Rattle.lookup_answer.specs.Answers.{lookup, look}
 use Rattle.index.specs.Filling.{refusalOf, refusalIn}
 use Rattle.index_search.specs.Through.{throughIf, through}
 use Rattle.choice.specs.declared.Refusal.the-variants as unfit
@@ -67,7 +67,7 @@ use Rattle.demands_calls.specs.Growth.{Lasts, Stays}
 pub record Judged : Type 0 where
   pub looked-up :
       (T : List ℕ) (rows : ℕ) (s : List ℕ) (r : ℕ) (key : List ℕ)
-      → lookup T rows s r key ≡ pick (writableTo 32 T rows s) (look (rowAt (roomOf 4096 (length T)) T) rows s r key) (lookup-answer.Refused why.NotWritable)
+      → lookup T rows s r key ≡ cond (writableTo 32 T rows s) (look (rowAt (roomOf 4096 (length T)) T) rows s r key) (lookup-answer.Refused why.NotWritable)
   pub index-filled :
       (T : List ℕ) (rows : ℕ) (s : List ℕ) (r n : ℕ)
       → refusalOf T rows s r n ≡ cond (writableTo 32 T rows s) (refusalIn (roomOf 4096 (length T)) (rowAt (roomOf 4096 (length T)) T) rows s r n) 11

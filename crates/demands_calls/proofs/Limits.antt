@@ -1,6 +1,6 @@
 -- Request E11's law of growth, for each call that reads, of its own answers: one that is none of 8, 9, 22 and 23 stays. Assumes nothing.
 use mathlib.Core.Path.{_≡_, refl, sym, ap, _∙_}
-use mathlib.Core.Bool.{Bool, true, false, _&&_}
+use mathlib.Core.Bool.{Bool, true, false, _&&_, cond}
 use mathlib.Core.Logic.{_≢_}
 use mathlib.Core.List.{List, [], _∷_, _++_}
 use Prim.Native.Nat.{ℕ, _≤_}
@@ -14,7 +14,7 @@ use Rattle.draft.specs.Refusals.{numberOf}
 use Rattle.draft.specs.Bytes.{part}
 use Rattle.draft.specs.Limits.{allowed}
 use Rattle.draft.specs.Table.{roomOf}
-use Rattle.draft.specs.Read.{Reading, got, refused, pick, message, messageWithin}
+use Rattle.draft.specs.Read.{Reading, got, refused, message, messageWithin}
 use Rattle.exact.proofs.Concluding.{within-is}
 use Rattle.read_answer.specs.declared.Answer.{Answer}
 use Rattle.read_answer.specs.declared.Answer.the-variants.{Accepted, Refused}
@@ -28,7 +28,7 @@ use Rattle.job.specs.declared.Answer.{Answer as JobAnswer}
 use Rattle.job.specs.Cards as job
 use Rattle.job.specs.Cards.{located, Reads}
 use Rattle.pieces.specs.declared.State.{State}
-use Rattle.pieces.specs.Pieces.{joined, toldOf, soFar, pickTold, more, refusal, outcome, wanting, through, pickBytes}
+use Rattle.pieces.specs.Pieces.{joined, toldOf, soFar, more, refusal, outcome, wanting, through}
 use Rattle.pieces.specs.Steps.{told, Closed}
 use Rattle.pieces.specs.Runs.{begun, Runs}
 use Rattle.shares.specs.declared.Station.{Station}
@@ -79,7 +79,7 @@ lasting-one o h =
 lasting-so-far : (o : Reading) → Lasts (numberTold (soFar o)) → Lasting o
 lasting-so-far o l = go (refusedWithOne o) refl l
   where
-    go : (b : Bool) → refusedWithOne o ≡ b → Lasts (numberTold (pickTold b more (toldOf o))) → Lasting o
+    go : (b : Bool) → refusedWithOne o ≡ b → Lasts (numberTold (cond b more (toldOf o))) → Lasting o
     go true h l = lasting-one o h
     go false h l = lasting-told o l
 
@@ -194,7 +194,7 @@ so-far-rows : (o : Reading) → rowsTold (soFar o) ≡ length (rowsIn o)
 so-far-rows (got rows used book) = refl
 so-far-rows (refused m p) = go (refusedWithOne (refused m p))
   where
-    go : (b : Bool) → rowsTold (pickTold b more (refusal (numberOf m) p)) ≡ 0
+    go : (b : Bool) → rowsTold (cond b more (refusal (numberOf m) p)) ≡ 0
     go true = refl
     go false = refl
 
@@ -202,13 +202,13 @@ module _ {limit later words words′ : ℕ} (higher : limit ≤ later) (ok : all
   outcome-stays : (s : List ℕ) → Lasting (outcome limit s words) → outcome later s words′ ≡ outcome limit s words
   unfolding outcome
   outcome-stays s l =
-      ap (λ (o : Reading). pick (refusedWithOne o && ltb 65536 (length s)) (refused TooLong 0) o)
+      ap (λ (o : Reading). cond (refusedWithOne o && ltb 65536 (length s)) (refused TooLong 0) o)
       (reading-stays (take 65536 s) higher ok larger (inner (refusedWithOne (reading limit (take 65536 s) words)) refl))
     where
       inner : (b : Bool) → refusedWithOne (reading limit (take 65536 s) words) ≡ b → Lasting (reading limit (take 65536 s) words)
       inner true h = lasting-one (reading limit (take 65536 s) words) h
       inner false h =
-          let e : pick (refusedWithOne (reading limit (take 65536 s) words) && ltb 65536 (length s)) (refused TooLong 0) (reading limit (take 65536 s) words) ≡ reading limit (take 65536 s) words = rw h in
+          let e : cond (refusedWithOne (reading limit (take 65536 s) words) && ltb 65536 (length s)) (refused TooLong 0) (reading limit (take 65536 s) words) ≡ reading limit (take 65536 s) words = rw h in
           rw e at l
 
   through-stays : (s : List ℕ) (ps : List (List ℕ)) → Lasting (outcome limit (through limit words s ps) words) → through later words′ s ps ≡ through limit words s ps
@@ -217,9 +217,9 @@ module _ {limit later words words′ : ℕ} (higher : limit ≤ later) (ok : all
   through-stays s (p ∷ ps) l = go (wanting limit s words) refl l (λ z. through-stays (s ++ p) ps z)
     where
       go :
-          (b : Bool) → wanting limit s words ≡ b → Lasting (outcome limit (pickBytes (wanting limit s words) (through limit words (s ++ p) ps) s) words)
+          (b : Bool) → wanting limit s words ≡ b → Lasting (outcome limit (cond (wanting limit s words) (through limit words (s ++ p) ps) s) words)
           → (Lasting (outcome limit (through limit words (s ++ p) ps) words) → through later words′ (s ++ p) ps ≡ through limit words (s ++ p) ps)
-          → pickBytes (wanting later s words′) (through later words′ (s ++ p) ps) s ≡ pickBytes (wanting limit s words) (through limit words (s ++ p) ps) s
+          → cond (wanting later s words′) (through later words′ (s ++ p) ps) s ≡ cond (wanting limit s words) (through limit words (s ++ p) ps) s
       go true h l rest =
           let e : wanting later s words′ ≡ true = ap refusedWithOne (outcome-stays s (lasting-one (outcome limit s words) h)) ∙ h in
           rw (e, h) (rest (rw h at l))

@@ -16,7 +16,7 @@ use Rattle.draft.specs.Table.{roomOf, rowAt}
 use Rattle.draft.specs.Strings.{textsOf}
 use Rattle.draft.specs.Writable.{writable, writableTo}
 use Rattle.draft.specs.Written.{rowsOf}
-use Rattle.draft.specs.Read.{Reading, got, refused, pick}
+use Rattle.draft.specs.Read.{Reading, got, refused}
 use Rattle.draft.proofs.Limiting.{limit-least, limit-most}
 use Rattle.draft.proofs.Naming.{number-own}
 use Rattle.exact.proofs.Concluding.{of-reading, WithinRefused, of-bytes, of-message, within-refused}
@@ -26,7 +26,7 @@ use Rattle.read_answer.specs.Answers.{reading, answerOf, tableOf, Answers, repo
 use Rattle.read_answer.proofs.Limited.{reading-within, reading-unlimited}
 use Rattle.rereading.specs.Rereading.{refusedWithOne}
 use Rattle.pieces.specs.declared.State.{State}
-use Rattle.pieces.specs.Pieces.{toldOf, soFar, pickTold, more, refusal, outcome, through}
+use Rattle.pieces.specs.Pieces.{toldOf, soFar, more, refusal, outcome, through}
 use Rattle.pieces.specs.Steps.{told}
 use Rattle.pieces.specs.Runs.{begun, Runs, none, piece}
 use Rattle.write_answer.specs.declared.Answer.{Answer as WriterAnswer}
@@ -52,7 +52,7 @@ use Rattle.station_plans.specs.Answers as planned
 use Rattle.member.specs.declared.Member.{Member}
 use Rattle.lookup_answer.specs.declared.Refusal.the-variants as why
 use Rattle.lookup_answer.specs.declared.Answer.the-variants as found
-use Rattle.lookup_answer.specs.Answers.{lookup, look, pick as choose}
+use Rattle.lookup_answer.specs.Answers.{lookup, look}
 use Rattle.index.specs.Filling as index
 use Rattle.index.specs.Filling.{refusalIn}
 use Rattle.index_search.specs.Through.{throughIf, through as through-index}
@@ -122,7 +122,7 @@ runs-limit h (piece w (piece v x)) = runs-limit h (piece v x)
 so-far-limit : (o : Reading) → ((at : ℕ) → o ≢ refused NoLimit at) → numberTold (soFar o) ≢ 23
 so-far-limit o n = go (refusedWithOne o)
   where
-    go : (b : Bool) → numberTold (pickTold b more (toldOf o)) ≢ 23
+    go : (b : Bool) → numberTold (cond b more (toldOf o)) ≢ 23
     go true e = omega arith
     go false e = not-limit o n e
 
@@ -130,7 +130,7 @@ outcome-limit : (limit : ℕ) (s : List ℕ) (words : ℕ) → allowed limit ≡
 unfolding outcome
 outcome-limit limit s words ok at = by (refusedWithOne (reading limit (take 65536 s) words) && ltb 65536 (length s))
   where
-    by : (b : Bool) → pick b (refused TooLong 0) (reading limit (take 65536 s) words) ≢ refused NoLimit at
+    by : (b : Bool) → cond b (refused TooLong 0) (reading limit (take 65536 s) words) ≢ refused NoLimit at
     by true e = let z : _≡_ {A = ℕ} 0 1 = cc in omega arith
     by false e = unlimited-only limit (take 65536 s) words ok at e
 
@@ -258,7 +258,7 @@ module _ (at : Station) (split : ℕ) (T : List ℕ) (ok : splits split (length 
 module _ (T : List ℕ) (rows : ℕ) (s : List ℕ) (r : ℕ) where
   pub lookup-judged :
       (key : List ℕ)
-      → lookup T rows s r key ≡ choose (writableTo 32 T rows s) (look (rowAt (roomOf 4096 (length T)) T) rows s r key) (found.Refused why.NotWritable)
+      → lookup T rows s r key ≡ cond (writableTo 32 T rows s) (look (rowAt (roomOf 4096 (length T)) T) rows s r key) (found.Refused why.NotWritable)
   unfolding lookup writable writableTo
   lookup-judged key = refl
 

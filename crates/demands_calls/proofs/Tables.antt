@@ -1,7 +1,7 @@
 -- The table that any reading leaves: its rows stand in it, and every other word is 0. Assumes nothing.
 use mathlib.Core.Path.{_≡_, refl, sym, ap, _∙_}
 use mathlib.Core.Logic.{_≢_}
-use mathlib.Core.Bool.{Bool, true, false, _&&_}
+use mathlib.Core.Bool.{Bool, true, false, _&&_, cond}
 use mathlib.Core.List.{List, [], _∷_}
 use Prim.Native.Nat.{ℕ, zero, suc, _+_, _*_, _≤_, _<_}
 use native.Mathlib.Omega.{arith}
@@ -10,7 +10,7 @@ use lib.ListN.{length, getD, take, replicate, length-replicate}
 use Rattle.draft.specs.declared.Row.{Row}
 use Rattle.draft.specs.declared.Refusal.the-variants.{TooLong}
 use Rattle.draft.specs.Table.{roomOf, place, setRow, putRows, rowAt, from}
-use Rattle.draft.specs.Read.{Reading, got, refused, pick}
+use Rattle.draft.specs.Read.{Reading, got, refused}
 use Rattle.draft.specs.Written.{rowsOf}
 use Rattle.table.proofs.Rows.{length-putRows, place-in, place-one}
 use Rattle.table.proofs.Stored.{rows-there, words-other}
@@ -35,7 +35,7 @@ pub fits-outcome : (limit : ℕ) (s : List ℕ) (words : ℕ) → FitsIn words (
 unfolding outcome
 fits-outcome limit s words = go (refusedWithOne (reading limit (take 65536 s) words) && ltb 65536 (length s))
   where
-    go : (b : Bool) → FitsIn words (pick b (refused TooLong 0) (reading limit (take 65536 s) words))
+    go : (b : Bool) → FitsIn words (cond b (refused TooLong 0) (reading limit (take 65536 s) words))
     go true = tt
     go false = fits limit (take 65536 s) words (reading limit (take 65536 s) words) refl
 

@@ -1,7 +1,7 @@
 -- Laws of job files (request E2): what `job::read_card` answers and leaves, by the file's records. `Reads s words (bodyOf s n) T a` is its promise, for
 -- a file s, the card's number n, a table of so many words that is T after the call, and the answer a. Assumes nothing.
 use mathlib.Core.Path.{_≡_, refl, sym, ap, _∙_}
-use mathlib.Core.Bool.{Bool, true, false, _||_}
+use mathlib.Core.Bool.{Bool, true, false, _||_, cond}
 use mathlib.Core.Logic.{_↔_}
 use mathlib.Core.List.{List, _++_}
 use Prim.Native.Nat.{ℕ, _+_, _≤_, _<_}
@@ -21,7 +21,7 @@ use Rattle.records.specs.declared.JobRefusal.{JobRefusal}
 use Rattle.records.specs.declared.JobRefusal.the-variants.{FileEnded, WrongEnd, NoCard}
 use Rattle.records.specs.declared.Found.{Found}
 use Rattle.records.specs.declared.Found.the-variants as found
-use Rattle.records.specs.Job.{refusalNumber, pickRefusal, recordLength, bodyOf}
+use Rattle.records.specs.Job.{refusalNumber, recordLength, bodyOf}
 use Rattle.records.specs.Records.{Due, CardAt, EndAt, Counts}
 use Rattle.records.proofs.Standing.{lies, part-stands}
 use Rattle.records.proofs.Records.{card-exactly, cut-exactly, wrong-exactly, none-exactly, card-before, card-below, found-on, ended-on}
@@ -67,7 +67,7 @@ jobs-some NoCard e = omega arith
 
 -- the job's refusal of a number
 abbrev refusalBy : ℕ → JobRefusal
-refusalBy k = pickRefusal (eqb k 15) FileEnded (pickRefusal (eqb k 16) WrongEnd NoCard)
+refusalBy k = cond (eqb k 15) FileEnded (cond (eqb k 16) WrongEnd NoCard)
 
 by-number : (m : JobRefusal) → refusalBy (refusalNumber m) ≡ m
 by-number FileEnded = refl

@@ -1,7 +1,7 @@
 -- Document 02's job defaults: what `defaults::choose` and `defaults::text_of` promise (`Defaults.chosen`, `Choosing.Handed`) is E5's lookup in the card,
 -- and only if its Struct lacks the key, in the defaults; and where the part lies. Assumes nothing.
 use mathlib.Core.Path.{_≡_, refl, sym, ap, _∙_}
-use mathlib.Core.Bool.{Bool, true, false, _&&_}
+use mathlib.Core.Bool.{Bool, true, false, _&&_, cond}
 use mathlib.Core.Logic.{_↔_}
 use mathlib.Core.List.{List, []}
 use Prim.Native.Nat.{ℕ, _+_, _≤_, min}
@@ -26,7 +26,7 @@ use Rattle.choice.specs.declared.Refusal.the-variants.{NoMember}
 use Rattle.choice.specs.declared.Choice.{Choice}
 use Rattle.choice.specs.declared.Choice.the-variants.{Card, Defaults, Refused}
 use Rattle.choice.specs.Choosing.{preferred, byteOf, choiceNumber, Handed}
-use Rattle.defaults.specs.Defaults.{Source, pickHeld, textAt, foundText, heldIn, unless, structsThen, rowIn, isWritable, chosen}
+use Rattle.defaults.specs.Defaults.{Source, textAt, foundText, heldIn, unless, structsThen, rowIn, isWritable, chosen}
 use Rattle.sources.proofs.Asking.{decimal-other, Agrees, agrees, card-of, card-by, defaults-of, defaults-by, unchanged, Some, of-card, of-defaults, past-refusals}
 use Rattle.meant.specs.Meant.{Meaning, Answers, whole-number, yes-or-no, decimal, text, datetime, binary, array, struct, other, Said, no-member, this-member, later-member, Answered, in-struct, no-struct}
 use Rattle.demands_writing.proofs.Writing.{Words, form-derived, judged}
@@ -159,7 +159,7 @@ unfolding heldIn textAt
 held-is c key e w = go (foundIn c key) refl
   where
     kind : (m : Member) → Has c key m → (b : Bool) → eqb (kindIn c m) 11 ≡ b
-        → HeldIs c key (pickHeld b (held.Text (rowIn c (m .value) .a) (rowIn c (m .value) .b)) held.NoText)
+        → HeldIs c key (cond b (held.Text (rowIn c (m .value) .a) (rowIn c (m .value) .b)) held.NoText)
     kind m h true i = a-string m h (eqb-true (kindIn c m) 11 i)
     kind m h false i = no-string m h (eqb-false (kindIn c m) 11 i)
 

@@ -18,7 +18,7 @@ use Rattle.placing.specs.declared.Outcome.{Outcome}
 use Rattle.placing.specs.declared.Outcome.the-variants as outcome
 use Rattle.placing.specs.declared.Position.{Position}
 use Rattle.placing.specs.declared.Placed.{Placed}
-use Rattle.placing.specs.Placing.{coordinateNumber, coordinateValue, outcomeNumber, at, acceptedAt, refusedWith, pick, isAny, together, settled, position}
+use Rattle.placing.specs.Placing.{coordinateNumber, coordinateValue, outcomeNumber, at, acceptedAt, refusedWith, isAny, together, settled, position}
 use Rattle.defaults.specs.Defaults.{Source, isWritable}
 use Rattle.demands_writing.proofs.Writing.{Words}
 use Rattle.demands_lookups.specs.Asked.{looked, placed, placedNumber, Has, kindIn, valueText, Yields, integer, boolean, double, long-double, string, datetime, binary, array, struct, other, absent, NoDouble, missing, wrong-sort, IsDouble, LongDouble, DoubleOf, OneOf, for-x, for-y, for-turn, AllOf}
@@ -77,7 +77,7 @@ number-of x y z =
     (isAny 19 (coordinateNumber x) (coordinateNumber y) (coordinateNumber z)) (at (coordinateValue x) (coordinateValue y) (coordinateValue z))
   where
     go : (i j k : Bool) (p : Position)
-        → outcomeNumber (pick i (refusedWith why.NotWritable) (pick j (refusedWith why.NoMember) (pick k (refusedWith why.TooManyDigits) (acceptedAt p))) .outcome)
+        → outcomeNumber (cond i (refusedWith why.NotWritable) (cond j (refusedWith why.NoMember) (cond k (refusedWith why.TooManyDigits) (acceptedAt p))) .outcome)
         ≡ cond i 11 (cond j 18 (cond k 19 0))
     go true j k p = refl
     go false true k p = refl

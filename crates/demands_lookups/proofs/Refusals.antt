@@ -1,7 +1,7 @@
 -- E5's answers and refusals exactly: what looking a member up answers, by the member with the key and its value's kind, and which number it tells.
 -- Assumes nothing.
 use mathlib.Core.Path.{_≡_, refl, sym, ap, _∙_}
-use mathlib.Core.Bool.{Bool, true, false, _||_}
+use mathlib.Core.Bool.{Bool, true, false, _||_, cond}
 use mathlib.Core.Logic.{_↔_, _⊎_, inl, inr}
 use mathlib.Core.List.{List, [], _∷_}
 use Prim.Native.Nat.{ℕ, _+_}
@@ -21,7 +21,7 @@ use Rattle.written.proofs.Concluding.{rows-length}
 use Rattle.member.specs.declared.Member.{Member}
 use Rattle.member.specs.declared.Found.{Found}
 use Rattle.member.specs.declared.Found.the-variants.{At, Absent}
-use Rattle.member.specs.Members.{members, pickFound, hasKey, find, sameMember, isAmong}
+use Rattle.member.specs.Members.{members, hasKey, find, sameMember, isAmong}
 use Rattle.member.proofs.Apart.{Apart}
 use Rattle.lookup_answer.specs.declared.Refusal.the-variants as why
 use Rattle.lookup_answer.specs.declared.Answer.{Answer}
@@ -52,7 +52,7 @@ unfolding find isAmong hasKey
 found-has row s key [] e = let z : _≡_ {A = ℕ} 0 1 = cc in absurd (omega arith)
 found-has row s key (x ∷ ms) {m} e = go (hasKey row s key (x .key)) refl e (λ h. found-has row s key ms h)
   where
-    go : (b : Bool) → hasKey row s key (x .key) ≡ b → pickFound b (At x) (find row s key ms) ≡ At m
+    go : (b : Bool) → hasKey row s key (x .key) ≡ b → cond b (At x) (find row s key ms) ≡ At m
         → (find row s key ms ≡ At m → (isAmong m ms ≡ true) × (textOf s (row (m .key)) ≡ key))
         → (sameMember x m || isAmong m ms ≡ true) × (textOf s (row (m .key)) ≡ key)
     go true h f more = let g : x ≡ m = cc in rw (← g) (rw (same-self x), same-is (textOf s (row (x .key))) key h)

@@ -1,7 +1,7 @@
 -- Messages in pieces by the exported calls, whose state is six words that the caller keeps: calls from the words that `binmode_pieces_start` leaves
 -- are a run of the functions' calls, and tell what it tells. Assumes nothing.
 use mathlib.Core.Path.{_≡_, refl, sym, ap, _∙_}
-use mathlib.Core.Bool.{Bool, true, false}
+use mathlib.Core.Bool.{Bool, true, false, cond}
 use mathlib.Core.Logic.{_↔_}
 use mathlib.Core.List.{List, [], _∷_, _++_}
 use Prim.Native.Nat.{ℕ, _+_, _-_, _≤_, _<_}
@@ -21,7 +21,7 @@ use Rattle.room.specs.Room.{taken}
 use Rattle.pieces.specs.declared.State.{State}
 use Rattle.pieces.specs.declared.State.the-variants.{More, Accepted, Refused}
 use Rattle.pieces.specs.Pieces.{joined, outcome, through, roomWith, more, refusal, toldOf, soFar}
-use Rattle.pieces.specs.Steps.{told, pickState, stateOf as stateRead, bytesHeld, stateWent, Went, Closed}
+use Rattle.pieces.specs.Steps.{told, stateOf as stateRead, bytesHeld, stateWent, Went, Closed}
 use Rattle.pieces.specs.Runs.{begun, Runs, none, piece}
 use Rattle.piece_reports.specs.Words.{wordsOf, toldBy, stateOf}
 use Rattle.piece_reports.specs.Calls as exported
@@ -39,7 +39,7 @@ accepted-rows limit s words e =
     omega (arith, counts (d .meaning), some-cell (d .begins .derived))
 
 -- ---- no call gives a state that is accepted with 0 rows
-some-pick : (b : Bool) {x y : State} → SomeRows x → SomeRows y → SomeRows (pickState b x y)
+some-pick : (b : Bool) {x y : State} → SomeRows x → SomeRows y → SomeRows (cond b x y)
 some-pick true f g = f
 some-pick false f g = g
 

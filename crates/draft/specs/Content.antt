@@ -1,5 +1,5 @@
 -- The rules for content, each said once: reading, the grammar and writability all cite them. Assumes nothing.
-use mathlib.Core.Bool.{Bool, true, false, _&&_, _||_}
+use mathlib.Core.Bool.{Bool, true, false, _&&_, _||_, cond}
 use mathlib.Core.List.{List, [], _∷_}
 use Prim.Native.Nat.{ℕ, _+_}
 use lib.ListN.{length}
@@ -59,13 +59,9 @@ pub data Held : Type 0 where
   integer : Held
   another : Held
 
-abbrev pub pickHeld : Bool → Held → Held → Held
-pickHeld true x y = x
-pickHeld false x y = y
-
 -- by the kind of its row, with the text that it has if it is a String
 unfoldable pub heldOf : ℕ → List ℕ → Held
-heldOf kind text = pickHeld (eqb kind (kindOf Text)) (string text) (pickHeld (eqb kind 4) integer another)
+heldOf kind text = cond (eqb kind (kindOf Text)) (string text) (cond (eqb kind 4) integer another)
 
 abbrev pub isInteger : Held → Bool
 isInteger (string text) = false

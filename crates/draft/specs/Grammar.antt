@@ -2,7 +2,7 @@
 -- '01:' marks a decision of document 01 where 002 is open or says otherwise, '02:' one of document 02. No rule sets a limit on bytes, rows or
 -- nesting. Assumes nothing.
 use mathlib.Core.Path.{_≡_}
-use mathlib.Core.Bool.{Bool, true, false}
+use mathlib.Core.Bool.{cond}
 use mathlib.Core.Option.{Option, some, none}
 use mathlib.Core.List.{List, [], _∷_, _++_}
 use Prim.Native.Nat.{ℕ, zero, suc, _+_, _*_, _≤_}
@@ -265,14 +265,10 @@ mutual
 pub data Recording : Type 0 where
   text-at : ℕ → List ℕ → Recording
 
-abbrev pub first : Bool → Option (List ℕ) → Option (List ℕ) → Option (List ℕ)
-first true x y = x
-first false x y = y
-
 -- 'It is legal to change a codebook position once it has been set; the most recent value applies'
 abbrev pub look : ℕ → List Recording → Option (List ℕ)
 look p [] = none
-look p (text-at q t ∷ R) = first (eqb p q) (some t) (look p R)
+look p (text-at q t ∷ R) = cond (eqb p q) (some t) (look p R)
 
 -- 'When the decoder encounters a RecordedString, it MUST store it into the specified codebook position'
 -- 01: an empty text too; Strings already read stand for what they stood for

@@ -2,7 +2,7 @@
 -- Items are read from left to right, and the first failure decides. Limits are parameters. Assumes nothing.
 use Prim.Native.Nat.{ℕ, zero, suc, _+_}
 use Prim.Native.Char.{code}
-use mathlib.Core.Bool.{Bool, true, false, _&&_}
+use mathlib.Core.Bool.{Bool, true, _&&_, cond}
 use mathlib.Core.List.{List, [], _∷_, _++_}
 use lib.ListN.{length}
 use lib.Dec.{ltb, leb, eqb}
@@ -30,10 +30,6 @@ use Rattle.draft.specs.Codebook.{Book, clear, recorded}
 pub data Reading : Type 0 where
   got : List Row → ℕ → Book → Reading
   refused : Refusal → ℕ → Reading
-
-abbrev pub pick : Bool → Reading → Reading → Reading
-pick true x y = x
-pick false x y = y
 
 -- a reading, and what goes on from its rows, its end and its codebook
 abbrev pub then : Reading → (List Row → ℕ → Book → Reading) → Reading
@@ -85,25 +81,21 @@ over kind b r (got rows at book) = got (row kind 0 b (r + 1 + length rows) ∷ r
 abbrev pub leaf : ℕ → ℕ → ℕ → ℕ → ℕ → Book → Reading
 leaf kind a b r to book = got (row kind a b (r + 1) ∷ []) to book
 
-abbrev pub pickTag : Bool → Tag → Tag → Tag
-pickTag true x y = x
-pickTag false x y = y
-
 -- what a byte begins where a Value is looked for
 unfoldable pub tagOf : ℕ → Tag
 tagOf b =
-    pickTag (eqb b (code "I")) (Plain Integer)
-    (pickTag (eqb b (code "t")) (Plain True)
-    (pickTag (eqb b (code "f")) (Plain False)
-    (pickTag (eqb b (code "D")) (Plain Double)
-    (pickTag (eqb b (code "8")) (Plain DateTime)
-    (pickTag (eqb b (code "B")) (Plain Binary)
-    (pickTag (eqb b (code "A")) Array
-    (pickTag (eqb b (code "S")) Struct
-    (pickTag (eqb b (code "O")) (Plain Other)
-    (pickTag (eqb b (code "U")) (String Regular)
-    (pickTag (eqb b (code ">")) (String Recorded)
-    (pickTag (eqb b (code "<")) (String Recalled)
+    cond (eqb b (code "I")) (Plain Integer)
+    (cond (eqb b (code "t")) (Plain True)
+    (cond (eqb b (code "f")) (Plain False)
+    (cond (eqb b (code "D")) (Plain Double)
+    (cond (eqb b (code "8")) (Plain DateTime)
+    (cond (eqb b (code "B")) (Plain Binary)
+    (cond (eqb b (code "A")) Array
+    (cond (eqb b (code "S")) Struct
+    (cond (eqb b (code "O")) (Plain Other)
+    (cond (eqb b (code "U")) (String Regular)
+    (cond (eqb b (code ">")) (String Recorded)
+    (cond (eqb b (code "<")) (String Recalled)
     Unknown)))))))))))
 
 -- what may nest here: nothing more, or what f reads
@@ -127,11 +119,11 @@ heldRows s (x ∷ rows) = heldRow s x ∷ heldRows s rows
 module _ (s : List ℕ) (room : ℕ) where
   -- no byte there is 1
   abbrev pub present : ℕ → Reading → Reading
-  present at o = pick (ltb at (length s)) o (refused Ended at)
+  present at o = cond (ltb at (length s)) o (refused Ended at)
 
   -- 9, then 1 for the fixed fields: a row is left, and the item's first `size` bytes are there
   abbrev pub opened : ℕ → ℕ → ℕ → Reading → Reading
-  opened size at r o = pick (ltb r room) (pick (leb (at + size) (length s)) o (refused Ended at)) (refused NoRow at)
+  opened size at r o = cond (ltb r room) (cond (leb (at + size) (length s)) o (refused Ended at)) (refused NoRow at)
 
   -- 1 for the content, then what its rule says: the n bytes at o, for the item at `at`
   unfoldable pub contents : Content → ℕ → ℕ → ℕ → ℕ → Book → Reading
@@ -184,7 +176,7 @@ module _ (s : List ℕ) (room : ℕ) where
 
   -- what f reads, where only the byte b may begin it
   unfoldable pub only : ℕ → Reader → Reader
-  only b f at r book = present at (pick (eqb (byteAt s at) b) (f at r book) (refused UnexpectedByte at))
+  only b f at r book = present at (cond (eqb (byteAt s at) b) (f at r book) (refused UnexpectedByte at))
 
   -- the text of the first row
   abbrev pub firstText : List Row → List ℕ
@@ -269,15 +261,15 @@ module _ (s : List ℕ) (room : ℕ) where
   responseItem deep at r book =
       opened 1 at r
       (present (at + 1)
-      (pick (eqb (byteAt s (at + 1)) (code "F"))
+      (cond (eqb (byteAt s (at + 1)) (code "F"))
       (over 3 1 r (faultStruct deep (at + 2) (r + 1) book))
       (over 2 1 r (value deep (at + 1) (r + 1) book))))
 
   unfoldable pub callOrResponse : ℕ → Reader
   callOrResponse deep at r book =
       present at
-      (pick (eqb (byteAt s at) (code "C")) (callItem deep at r book)
-      (pick (eqb (byteAt s at) (code "R")) (responseItem deep at r book)
+      (cond (eqb (byteAt s at) (code "C")) (callItem deep at r book)
+      (cond (eqb (byteAt s at) (code "R")) (responseItem deep at r book)
       (refused UnexpectedByte at)))
 
 -- the 12 bytes that every message begins with
@@ -294,10 +286,10 @@ agree (x ∷ xs) (y ∷ ys) = eqb x y && agree xs ys
 -- then the Call or Response, with an empty codebook
 unfoldable pub message : List ℕ → ℕ → ℕ → Reading
 message s room deep =
-    pick (agree s prefix)
-    (pick (leb 12 (length s)) (callOrResponse s room deep 12 0 clear) (refused Ended 0))
+    cond (agree s prefix)
+    (cond (leb 12 (length s)) (callOrResponse s room deep 12 0 clear) (refused Ended 0))
     (refused WrongPrefix 0)
 
 -- the same, of at most so many bytes: else 10
 unfoldable pub messageWithin : ℕ → List ℕ → ℕ → ℕ → Reading
-messageWithin most s room deep = pick (leb (length s) most) (message s room deep) (refused TooLong 0)
+messageWithin most s room deep = cond (leb (length s) most) (message s room deep) (refused TooLong 0)

@@ -1,7 +1,7 @@
 -- The refusals of a message or a table and the numbers that documents 01 and 02 give them; 4, of a room that is too short (E6), is none of
 -- these: crate pieces has it. Assumes nothing.
 use Prim.Native.Nat.{ℕ}
-use mathlib.Core.Bool.{Bool, true, false}
+use mathlib.Core.Bool.{cond}
 use lib.Dec.{eqb}
 use Rattle.draft.specs.declared.Refusal.{Refusal}
 use Rattle.draft.specs.declared.Refusal.the-variants.{
@@ -57,26 +57,22 @@ numberOf RepeatedKey = 20
 -- 02: a limit of nesting outside 1 to 32
 numberOf NoLimit = 23
 
-abbrev pickRefusal : Bool → Refusal → Refusal → Refusal
-pickRefusal true x y = x
-pickRefusal false x y = y
-
 -- the refusal that has a number
 unfoldable pub refusalOf : ℕ → Refusal
 refusalOf n =
-    pickRefusal (eqb n 1) Ended
-    (pickRefusal (eqb n 2) WrongPrefix
-    (pickRefusal (eqb n 3) UnexpectedByte
-    (pickRefusal (eqb n 5) BadText
-    (pickRefusal (eqb n 6) UnsetPosition
-    (pickRefusal (eqb n 7) StandardName
-    (pickRefusal (eqb n 8) TooDeep
-    (pickRefusal (eqb n 9) NoRow
-    (pickRefusal (eqb n 10) TooLong
-    (pickRefusal (eqb n 11) NotWritable
-    (pickRefusal (eqb n 12) FormTooLong
-    (pickRefusal (eqb n 13) OutputTooShort
-    (pickRefusal (eqb n 14) BadFault
-    (pickRefusal (eqb n 17) BadValue
-    (pickRefusal (eqb n 20) RepeatedKey
+    cond (eqb n 1) Ended
+    (cond (eqb n 2) WrongPrefix
+    (cond (eqb n 3) UnexpectedByte
+    (cond (eqb n 5) BadText
+    (cond (eqb n 6) UnsetPosition
+    (cond (eqb n 7) StandardName
+    (cond (eqb n 8) TooDeep
+    (cond (eqb n 9) NoRow
+    (cond (eqb n 10) TooLong
+    (cond (eqb n 11) NotWritable
+    (cond (eqb n 12) FormTooLong
+    (cond (eqb n 13) OutputTooShort
+    (cond (eqb n 14) BadFault
+    (cond (eqb n 17) BadValue
+    (cond (eqb n 20) RepeatedKey
     NoLimit))))))))))))))

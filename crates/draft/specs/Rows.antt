@@ -1,5 +1,5 @@
 -- Rows: document 01's kinds, and a row of them. Assumes nothing.
-use mathlib.Core.Bool.{Bool, true, false}
+use mathlib.Core.Bool.{cond}
 use mathlib.Core.List.{List, [], _∷_}
 use Prim.Native.Nat.{ℕ}
 use lib.Dec.{eqb}
@@ -24,23 +24,19 @@ kindOf DateTime = 7
 kindOf Binary = 8
 kindOf Text = 11
 
-abbrev pub pickItem : Bool → Item → Item → Item
-pickItem true x y = x
-pickItem false x y = y
-
 -- the item that a kind names
 unfoldable pub itemOf : ℕ → Item
 itemOf k =
-    pickItem (eqb k 1) item.Call
-    (pickItem (eqb k 2) item.Response
-    (pickItem (eqb k 3) item.Fault
-    (pickItem (eqb k 4) item.Integer
-    (pickItem (eqb k 5) item.Boolean
-    (pickItem (eqb k 6) (item.Content Double)
-    (pickItem (eqb k 7) (item.Content DateTime)
-    (pickItem (eqb k 8) (item.Content Binary)
-    (pickItem (eqb k 9) item.Array
-    (pickItem (eqb k 10) item.Struct
-    (pickItem (eqb k 11) (item.Content Text)
-    (pickItem (eqb k 12) item.Other
+    cond (eqb k 1) item.Call
+    (cond (eqb k 2) item.Response
+    (cond (eqb k 3) item.Fault
+    (cond (eqb k 4) item.Integer
+    (cond (eqb k 5) item.Boolean
+    (cond (eqb k 6) (item.Content Double)
+    (cond (eqb k 7) (item.Content DateTime)
+    (cond (eqb k 8) (item.Content Binary)
+    (cond (eqb k 9) item.Array
+    (cond (eqb k 10) item.Struct
+    (cond (eqb k 11) (item.Content Text)
+    (cond (eqb k 12) item.Other
     item.Unknown)))))))))))

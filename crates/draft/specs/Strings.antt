@@ -1,6 +1,6 @@
 -- The texts that stand as strings, which of them have positions, and how each string is sent. Assumes nothing.
 use Prim.Native.Nat.{ℕ, suc, _+_}
-use mathlib.Core.Bool.{Bool, true, false, _&&_, not}
+use mathlib.Core.Bool.{Bool, true, false, _&&_, not, cond}
 use mathlib.Core.List.{List, [], _∷_}
 use lib.ListN.{length, take}
 use lib.Dec.{eqb}
@@ -49,13 +49,9 @@ unfoldable pub position : List Text → Text → ℕ
 position [] t = 0
 position (u ∷ us) t = onward (same t u) (position us t)
 
-abbrev pub choose : Bool → Sent → Sent → Sent
-choose true x y = x
-choose false x y = y
-
 -- the string t after the strings seen, where the texts P have positions: recorded the first time and recalled from then on
 abbrev pub sentOf : List Text → List Text → Text → Sent
-sentOf P seen t = choose (among P t) (choose (among seen t) (recalled (position P t) t) (recorded (position P t) t)) (regular t)
+sentOf P seen t = cond (among P t) (cond (among seen t) (recalled (position P t) t) (recorded (position P t) t)) (regular t)
 
 unfoldable pub sents : List Text → List Text → List Text → List Sent
 sents P seen [] = []

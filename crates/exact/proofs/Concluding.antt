@@ -1,6 +1,6 @@
 -- The theorems of a whole message, from completeness, soundness and growth. Assumes nothing.
 use mathlib.Core.Path.{_≡_, refl, sym, ap, _∙_}
-use mathlib.Core.Bool.{Bool, true, false}
+use mathlib.Core.Bool.{Bool, true, false, cond}
 use mathlib.Core.Logic.{_≢_}
 use mathlib.Core.List.{List, []}
 use Prim.Native.Nat.{ℕ, _≤_, _<_, max}
@@ -15,7 +15,7 @@ use Rattle.draft.specs.declared.Refusal.the-variants.{Ended, TooDeep, NoRow, To
 use Rattle.draft.specs.declared.Row.{Row}
 use Rattle.draft.specs.Refusals.{numberOf}
 use Rattle.draft.specs.Codebook.{Book}
-use Rattle.draft.specs.Read.{Reading, got, refused, pick, message, messageWithin}
+use Rattle.draft.specs.Read.{Reading, got, refused, message, messageWithin}
 use Rattle.draft.specs.Grammar.{Cell, Begins, Message, Recording, after}
 use Rattle.exact.proofs.Standing.{ends, part-here, bytes-at}
 use Rattle.exact.proofs.Realising.{one-meaning}
@@ -152,7 +152,7 @@ module _ (most : ℕ) (s : List ℕ) (room deep : ℕ) where
   within-got {rows} {to} {book} e = go (leb (length s) most) refl e
     where
       go :
-          (b : Bool) → leb (length s) most ≡ b → pick b (message s room deep) (refused TooLong 0) ≡ got rows to book
+          (b : Bool) → leb (length s) most ≡ b → cond b (message s room deep) (refused TooLong 0) ≡ got rows to book
           → (length s ≤ most) × (message s room deep ≡ got rows to book)
       go true i j = (leb-true (length s) most i, j)
       go false i j = refused-got j
@@ -165,6 +165,6 @@ module _ (most : ℕ) (s : List ℕ) (room deep : ℕ) where
   unfolding messageWithin
   within-refused {m} {p} e = go (leb (length s) most) refl e
     where
-      go : (b : Bool) → leb (length s) most ≡ b → pick b (message s room deep) (refused TooLong 0) ≡ refused m p → WithinRefused m p
+      go : (b : Bool) → leb (length s) most ≡ b → cond b (message s room deep) (refused TooLong 0) ≡ refused m p → WithinRefused m p
       go true i j = of-message j
       go false i j = of-bytes (leb-false (length s) most i) (cc)

@@ -1,7 +1,7 @@
 -- What is read is derived, from exactly the bytes that were read, with legal sendings and the meaning of the rows: one law for each combinator
 -- of reading, then one for each production. Assumes nothing.
 use mathlib.Core.Path.{_≡_, refl, sym, ap₂, _∙_}
-use mathlib.Core.Bool.{Bool, true, false, _&&_}
+use mathlib.Core.Bool.{Bool, true, false, _&&_, cond}
 use mathlib.Core.List.{List, [], _∷_, _++_, append-assoc, append-nil}
 use Prim.Native.Nat.{ℕ, zero, suc, _+_, _≤_, _<_}
 use Prim.Native.Char.{code}
@@ -29,7 +29,7 @@ use Rattle.draft.specs.Bytes.{byteAt, unsignedAt, part}
 use Rattle.draft.specs.Rows.{row, below, kindOf}
 use Rattle.draft.specs.Content.{contentRule, allThere, verdict, nameRule, keyRule, faultRule}
 use Rattle.draft.specs.Codebook.{Book, clear, recorded as record-text}
-use Rattle.draft.specs.Read.{Reading, got, refused, pick, then, judged, Reader, behind, over, pair as read-pair, items, alike, leaf, pickTag, tagOf, Nest, floor, under, present, opened, contents as read-contents, integerItem, booleanItem, shortItem, longItem, recordedItem, recalled as recalledEntry, recalledItem, stringItem, ifString, string as read-string, only, firstText, stringBy, name, Texts, nothing, key, member, keeping, otherItem, counted, arrayItem, structItem, item, value, nested, callItem, heldRows, faultStruct, responseItem, callOrResponse, prefix, agree, message}
+use Rattle.draft.specs.Read.{Reading, got, refused, then, judged, Reader, behind, over, pair as read-pair, items, alike, leaf, tagOf, Nest, floor, under, present, opened, contents as read-contents, integerItem, booleanItem, shortItem, longItem, recordedItem, recalled as recalledEntry, recalledItem, stringItem, ifString, string as read-string, only, firstText, stringBy, name, Texts, nothing, key, member, keeping, otherItem, counted, arrayItem, structItem, item, value, nested, callItem, heldRows, faultStruct, responseItem, callOrResponse, prefix, agree, message}
 use Rattle.draft.specs.Grammar.{Cell, cell, holding, content-cell, heldCells, Sent, regular, LSB, Keeps, Message, call-message, response-message, Call, call, Response, value-response, fault-response, fault, Value, integer-value, boolean-value, double-value, datetime-value, binary-value, array-value, struct-value, string-value, other-value, Integer, integer, Boolean, boolean-true, boolean-false, Double, double, datetime, Binary, binary, Array, array, Values, no-values, more-values, Struct, struct, Pairs, no-pairs, more-pairs, Pair, pair, Other, other, String, regular-string, recorded-string, recalled-string, string-data, Recording, after, Legal, legal-none, legal-regular, legal-recorded, legal-recalled}
 use Rattle.draft.specs.Meaning.{hasNumber, hasContent, Means, Realises, no-more, and-then}
 use Rattle.exact.proofs.Standing.{Here, nothing-here, ends, join, bytes-at, long, byte-before, two-before, five-before, six-before}
@@ -42,7 +42,7 @@ module _ {rows : List Row} {to : ℕ} {book′ : Book} where
   pub refused-got : {A : Type 0} {m : Refusal} {q : ℕ} → refused m q ≡ got rows to book′ → A
   refused-got e = let z : _≡_ {A = ℕ} 0 1 = cc in absurd (omega arith)
 
-  picked : (b : Bool) (x : Reading) (m : Refusal) (q : ℕ) → pick b x (refused m q) ≡ got rows to book′ → (b ≡ true) × (x ≡ got rows to book′)
+  picked : (b : Bool) (x : Reading) (m : Refusal) (q : ℕ) → cond b x (refused m q) ≡ got rows to book′ → (b ≡ true) × (x ≡ got rows to book′)
   picked true x m q e = (refl, e)
   picked false x m q e = refused-got e
 
@@ -247,10 +247,10 @@ Byte tag.Array b = b ≡ code "A"
 Byte tag.Struct b = b ≡ code "S"
 Byte tag.Unknown b = Unit {0}
 
-tag-or : (b k : ℕ) (x y : Tag) → (b ≡ k → Byte x b) → Byte y b → Byte (pickTag (eqb b k) x y) b
+tag-or : (b k : ℕ) (x y : Tag) → (b ≡ k → Byte x b) → Byte y b → Byte (cond (eqb b k) x y) b
 tag-or b k x y h i = go (eqb b k) refl
   where
-    go : (c : Bool) → eqb b k ≡ c → Byte (pickTag c x y) b
+    go : (c : Bool) → eqb b k ≡ c → Byte (cond c x y) b
     go true e = h (eqb-true b k e)
     go false e = i
 
@@ -779,7 +779,7 @@ module _ (s : List ℕ) (room : ℕ) where
       go :
           (at r : ℕ) (book : Book) (R : List Recording) (rows : List Row) (to : ℕ) (book′ : Book) → byteAt s at ≡ code "R" → at + 1 < length s
           → (c : Bool) → eqb (byteAt s (at + 1)) (code "F") ≡ c
-          → pick c (over 3 1 r (faultStruct s room d (at + 2) (r + 1) book))
+          → cond c (over 3 1 r (faultStruct s room d (at + 2) (r + 1) book))
           (over 2 1 r (value s room d (at + 1) (r + 1) book)) ≡ got rows to book′
           → Agrees s book R → Derived (Response d) s room at r R rows to book′
       go at r book R rows to book′ b i true j e a =
@@ -805,7 +805,7 @@ module _ (s : List ℕ) (room : ℕ) where
     where
       go :
           (at r : ℕ) (book : Book) (R : List Recording) (rows : List Row) (to : ℕ) (book′ : Book) (c : Bool) → eqb (byteAt s at) (code "C") ≡ c
-          → pick c (callItem s room d at r book) (pick (eqb (byteAt s at) (code "R")) (responseItem s room d at r book) (refused UnexpectedByte at)) ≡ got rows to book′
+          → cond c (callItem s room d at r book) (cond (eqb (byteAt s at) (code "R")) (responseItem s room d at r book) (refused UnexpectedByte at)) ≡ got rows to book′
           → Agrees s book R → Derived (CallOrResponse d) s room at r R rows to book′
       go at r book R rows to book′ true i e a = as-value (λ xs cs fs x. of-call x) (call-sound d .derived at r book R rows to book′ (eqb-true _ _ i) e a)
       go at r book R rows to book′ false i e a =

@@ -1,7 +1,7 @@
 -- With more room, more nesting or more bytes at the end, an answer stays unless it said that there was too little: one law for each combinator
 -- of reading. Assumes nothing.
 use mathlib.Core.Path.{_≡_, refl, sym, ap, _∙_}
-use mathlib.Core.Bool.{Bool, true, false, _&&_}
+use mathlib.Core.Bool.{Bool, true, false, _&&_, cond}
 use mathlib.Core.List.{List, [], _∷_, _++_, append-nil}
 use Prim.Native.Nat.{ℕ, zero, suc, _+_, _≤_, _<_}
 use Prim.Native.Char.{code}
@@ -38,7 +38,7 @@ use Rattle.wanting.proofs.Wanting.{want-none, want-fields, want-content}
 use Rattle.draft.specs.Codebook.{Book, clear, recorded as record-text}
 use Rattle.draft.specs.Grammar.{Payload, Cell, Sent, Recording, after, Value, pair}
 use Rattle.draft.specs.Meaning.{Realises, no-more, and-then, means, Says, says-holding, says-number, says-contents}
-use Rattle.draft.specs.Read.{Reading, got, refused, pick, then, judged, Reader, behind, over, pair as read-pair, items, alike, tagOf, Nest, floor, under, present, opened, contents as read-contents, shortItem, longItem, recalled as recalledEntry, stringItem, ifString, string as read-string, only, firstText, stringBy, name, Texts, nothing, key, member, keeping, otherItem, counted, arrayItem, structItem, item, value, nested, callItem, heldRows, faultStruct, responseItem, callOrResponse, prefix, agree, message}
+use Rattle.draft.specs.Read.{Reading, got, refused, then, judged, Reader, behind, over, pair as read-pair, items, alike, tagOf, Nest, floor, under, present, opened, contents as read-contents, shortItem, longItem, recalled as recalledEntry, stringItem, ifString, string as read-string, only, firstText, stringBy, name, Texts, nothing, key, member, keeping, otherItem, counted, arrayItem, structItem, item, value, nested, callItem, heldRows, faultStruct, responseItem, callOrResponse, prefix, agree, message}
 use Rattle.exact.proofs.Replaying.{Agrees, agrees-clear}
 use Rattle.exact.proofs.Realising.{held-below}
 use Rattle.exact.proofs.Completing.{value-is}
@@ -139,18 +139,18 @@ module _ {more : Bool} {limits : Raised} {s s′ : List ℕ} where
   over-stays kind b r (refuses e) = refuses e
   over-stays kind b r (changes e) = changes e
 
-  pick-stays : (b : Bool) {o o′ u u′ : Reading} → Stays more limits s s′ o o′ → Stays more limits s s′ u u′ → Stays more limits s s′ (pick b o u) (pick b o′ u′)
+  pick-stays : (b : Bool) {o o′ u u′ : Reading} → Stays more limits s s′ o o′ → Stays more limits s s′ u u′ → Stays more limits s s′ (cond b o u) (cond b o′ u′)
   pick-stays true h k = h
   pick-stays false h k = k
 
-  pick-stays-if : (b : Bool) {o o′ u u′ : Reading} → (b ≡ true → Stays more limits s s′ o o′) → Stays more limits s s′ u u′ → Stays more limits s s′ (pick b o u) (pick b o′ u′)
+  pick-stays-if : (b : Bool) {o o′ u u′ : Reading} → (b ≡ true → Stays more limits s s′ o o′) → Stays more limits s s′ u u′ → Stays more limits s s′ (cond b o u) (cond b o′ u′)
   pick-stays-if true h k = h refl
   pick-stays-if false h k = k
 
   -- a test of the bytes' number
   enough-stays :
       (at : ℕ) (b b′ : Bool) {o o′ : Reading} → (b ≡ true → (b′ ≡ true) × Stays more limits s s′ o o′) → (b ≡ false → b′ ≡ true → TooLittle more limits s s′ Ended at)
-      → Stays more limits s s′ (pick b o (refused Ended at)) (pick b′ o′ (refused Ended at))
+      → Stays more limits s s′ (cond b o (refused Ended at)) (cond b′ o′ (refused Ended at))
   enough-stays at true true h k = h refl .1
   enough-stays at true false h k = clash (h refl .0) refl
   enough-stays at false true h k = changes (k refl refl)
@@ -194,7 +194,7 @@ judged-stays :
 judged-stays Fine at rows to book h = accepts
 judged-stays (Bad m) at rows to book h = refuses (h m refl)
 
-there-is : (b : Bool) (v : Verdict) (at : ℕ) (o : Reading) → judged (allThere b v) at o ≡ pick b (judged v at o) (refused Ended at)
+there-is : (b : Bool) (v : Verdict) (at : ℕ) (o : Reading) → judged (allThere b v) at o ≡ cond b (judged v at o) (refused Ended at)
 there-is true v at o = refl
 there-is false v at o = refl
 
@@ -272,7 +272,7 @@ module _ {more : Bool} (limits : Raised) (s s′ : List ℕ) (room room′ : ℕ
 
   there-stays :
       (n at : ℕ) {o o′ : Reading} → (length s < n → wantOf s at ≤ n) → (n ≤ length s → Stays more limits s s′ o o′)
-      → Stays more limits s s′ (pick (leb n (length s)) o (refused Ended at)) (pick (leb n (length s′)) o′ (refused Ended at))
+      → Stays more limits s s′ (cond (leb n (length s)) o (refused Ended at)) (cond (leb n (length s′)) o′ (refused Ended at))
   there-stays n at w h =
       enough-stays at (leb n (length s)) (leb n (length s′))
       (λ e. let i = leb-true n (length s) e in (le-leb n (length s′) (omega (arith, least l)), h i))
@@ -285,13 +285,13 @@ module _ {more : Bool} (limits : Raised) (s s′ : List ℕ) (room room′ : ℕ
     where
       go :
           (b : Bool) → ltb r room ≡ b
-          → Stays more limits s s′ (pick b (pick (leb (at + size) (length s)) o (refused Ended at)) (refused NoRow at)) (opened s′ room′ size at r o′)
+          → Stays more limits s s′ (cond b (cond (leb (at + size) (length s)) o (refused Ended at)) (refused NoRow at)) (opened s′ room′ size at r o′)
       go true e = rw (lt-ltb r room′ (omega (arith, ltb-true r room e))) (there-stays (at + size) at w h)
       go false e = fuller (ltb r room′) refl
         where
           fuller :
               (b : Bool) → ltb r room′ ≡ b
-              → Stays more limits s s′ (refused NoRow at) (pick b (pick (leb (at + size) (length s′)) o′ (refused Ended at)) (refused NoRow at))
+              → Stays more limits s s′ (refused NoRow at) (cond b (cond (leb (at + size) (length s′)) o′ (refused Ended at)) (refused NoRow at))
           fuller true f = changes (little-room (roomier r (ltb-false r room e) (ltb-true r room′ f)))
           fuller false f = refuses {m = NoRow} tt
 
@@ -602,7 +602,7 @@ module _ {more : Bool} (limits : Raised) (s s′ : List ℕ) (room room′ : ℕ
     where
       go :
           (b : Bool) → agree s prefix ≡ b → (c : Bool) → leb 12 (length s) ≡ c → (m : Bool) → more ≡ m
-          → Stays more limits s s′ (pick b (pick c (callOrResponse s room d 12 0 clear) (refused Ended 0)) (refused WrongPrefix 0)) (message s′ room′ d′)
+          → Stays more limits s s′ (cond b (cond c (callOrResponse s room d 12 0 clear) (refused Ended 0)) (refused WrongPrefix 0)) (message s′ room′ d′)
       go false e c f m g = rw (l .is, agree-off s (l .rest) prefix e) (refuses {m = WrongPrefix} tt)
       go true e true f m g =
           let i = leb-true 12 (length s) f in

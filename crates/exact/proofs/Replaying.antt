@@ -1,7 +1,7 @@
 -- The codebook replayed over Strings as sent: legal sendings taken apart and put together, and how reading's codebook agrees with the recordings.
 -- Assumes nothing.
 use mathlib.Core.Path.{_≡_, refl}
-use mathlib.Core.Bool.{Bool, true, false}
+use mathlib.Core.Bool.{Bool, true, false, cond}
 use mathlib.Core.Option.{Option, some, none}
 use mathlib.Core.List.{List, [], _∷_, _++_}
 use Prim.Native.Nat.{ℕ}
@@ -10,8 +10,8 @@ use lib.Dec.{eqb}
 use lib.ListN.{length}
 use Rattle.draft.specs.declared.Entry.{Entry}
 use Rattle.draft.specs.declared.Entry.the-variants.{Unset, Text}
-use Rattle.draft.specs.Codebook.{Book, choose, clear, recorded as record-text}
-use Rattle.draft.specs.Grammar.{Sent, regular, recorded, recalled, Recording, text-at, first, look, after, Legal, legal-none, legal-regular, legal-recorded, legal-recalled}
+use Rattle.draft.specs.Codebook.{Book, clear, recorded as record-text}
+use Rattle.draft.specs.Grammar.{Sent, regular, recorded, recalled, Recording, text-at, look, after, Legal, legal-none, legal-regular, legal-recorded, legal-recalled}
 use Rattle.exact.proofs.Standing.{Here}
 
 pub after-append : (R : List Recording) (fs gs : List Sent) → after R (fs ++ gs) ≡ after (after R fs) gs
@@ -55,7 +55,7 @@ pub agrees-recorded :
 unfolding record-text
 agrees-recorded {s} {book} {R} p {o} {n} {t} a h l = record { each = λ q. go q (eqb q p) }
   where
-    go : (q : ℕ) (b : Bool) → Same s (choose b (Text o n) (book q)) (first b (some t) (look q R))
+    go : (q : ℕ) (b : Bool) → Same s (cond b (Text o n) (book q)) (cond b (some t) (look q R))
     go q true = same-text h l
     go q false = a .each q
 

@@ -1,7 +1,7 @@
 -- What answers the returns of the functions that find how each string is sent, and fill an output after that. Assumes nothing.
 use Prim.Native.Nat.{ℕ, suc, _≤_, _<_}
 use mathlib.Core.Path.{_≡_, refl, sym, ap, _∙_}
-use mathlib.Core.Bool.{Bool, true, false, not}
+use mathlib.Core.Bool.{Bool, true, false, not, cond}
 use mathlib.Core.List.{List, [], _∷_}
 use native.Mathlib.Omega.{arith}
 use lib.ListN.{length, replicate, length-append}
@@ -10,7 +10,7 @@ use Rattle.draft.specs.declared.Row.{Row}
 use Rattle.draft.specs.Read.{prefix, textOf}
 use Rattle.draft.specs.Table.{from}
 use Rattle.draft.specs.Grammar.{Sent, regular, recorded, recalled}
-use Rattle.draft.specs.Strings.{Text, textsOf, kept, keep, isString, position, choose, sents, plan, cost, costs}
+use Rattle.draft.specs.Strings.{Text, textsOf, kept, keep, isString, position, sents, plan, cost, costs}
 use Rattle.draft.specs.Written.{stringBytes, itemBytes, next, itemsOf, written}
 use Rattle.text.specs.Texts.{among}
 use Rattle.text.proofs.Comparing.{clash}
@@ -31,7 +31,7 @@ unfolding news costs sents cost
 news-least P seen [] = omega arith
 news-least P seen (t ∷ ts) = omega (arith, one (among seen t) (among P t), news-least P (t ∷ seen) ts)
   where
-    one : (x y : Bool) → newCost (not x) (length t) ≤ cost (choose y (choose x (recalled (position P t) t) (recorded (position P t) t)) (regular t))
+    one : (x y : Bool) → newCost (not x) (length t) ≤ cost (cond y (cond x (recalled (position P t) t) (recorded (position P t) t)) (regular t))
     one true true = omega arith
     one true false = omega arith
     one false true = omega arith

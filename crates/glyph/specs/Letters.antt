@@ -1,6 +1,6 @@
 -- What a byte begins where an object is due, by edition, and which objects may stand at a place. Document 02: 'In 1.0 `X` is an extension; in
 -- 0.5 `X` is a node and `H` an extension'; 'other letters are 3'. Assumes nothing.
-use mathlib.Core.Bool.{Bool, true, false}
+use mathlib.Core.Bool.{Bool, true, false, cond}
 use Prim.Native.Nat.{ℕ}
 use Prim.Native.Char.{code}
 use lib.Dec.{eqb}
@@ -17,10 +17,6 @@ use Rattle.glyph.specs.declared.Letter.the-variants.{Leaf, Many, Three, 
 use Rattle.glyph.specs.declared.Want.{Want}
 use Rattle.glyph.specs.declared.Want.the-variants.{Any, Text, EitherDict}
 
-abbrev pub pickLetter : Bool → Letter → Letter → Letter
-pickLetter true x y = x
-pickLetter false x y = y
-
 -- `X`, and `H`: all that the edition changes
 abbrev pub letterX : Edition → Letter
 letterX New = Three Extension
@@ -33,17 +29,17 @@ letterH Old = Three Extension
 -- what a byte begins
 unfoldable pub letterOf : Edition → ℕ → Letter
 letterOf e b =
-    pickLetter (eqb b (code "i")) (Leaf Integer)
-    (pickLetter (eqb b (code "u")) (Leaf Unicode)
-    (pickLetter (eqb b (code "b")) (Leaf Bytes)
-    (pickLetter (eqb b (code "T")) (Leaf True)
-    (pickLetter (eqb b (code "F")) (Leaf False)
-    (pickLetter (eqb b (code "N")) (Leaf Nil)
-    (pickLetter (eqb b (code "L")) (Many List)
-    (pickLetter (eqb b (code "D")) (Many Dict)
-    (pickLetter (eqb b (code "O")) (Many Ordered)
-    (pickLetter (eqb b (code "X")) (letterX e)
-    (pickLetter (eqb b (code "H")) (letterH e)
+    cond (eqb b (code "i")) (Leaf Integer)
+    (cond (eqb b (code "u")) (Leaf Unicode)
+    (cond (eqb b (code "b")) (Leaf Bytes)
+    (cond (eqb b (code "T")) (Leaf True)
+    (cond (eqb b (code "F")) (Leaf False)
+    (cond (eqb b (code "N")) (Leaf Nil)
+    (cond (eqb b (code "L")) (Many List)
+    (cond (eqb b (code "D")) (Many Dict)
+    (cond (eqb b (code "O")) (Many Ordered)
+    (cond (eqb b (code "X")) (letterX e)
+    (cond (eqb b (code "H")) (letterH e)
     Unknown))))))))))
 
 -- a unicode, where nothing else may stand

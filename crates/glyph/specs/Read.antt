@@ -2,7 +2,7 @@
 -- Objects are read from left to right, and the first failure decides. Limits and the edition are parameters. Assumes nothing.
 use Prim.Native.Nat.{ℕ, zero, suc, _+_}
 use Prim.Native.Char.{code}
-use mathlib.Core.Bool.{Bool, true, false, _&&_}
+use mathlib.Core.Bool.{Bool, true, false, _&&_, cond}
 use mathlib.Core.List.{List, [], _∷_, _++_}
 use lib.ListN.{length, drop}
 use lib.Dec.{ltb, leb, eqb}
@@ -29,10 +29,6 @@ use Rattle.glyph.specs.Numbers.{past, digits, decimal, isMinus, signs, i
 pub data Reading : Type 0 where
   got : List Row → ℕ → Reading
   refused : Refusal → ℕ → Reading
-
-abbrev pub pick : Bool → Reading → Reading → Reading
-pick true x y = x
-pick false x y = y
 
 -- a reading, and what goes on from its rows and its end
 abbrev pub then : Reading → (List Row → ℕ → Reading) → Reading
@@ -63,7 +59,7 @@ pub data Nest : Type 0 where
 
 -- 9: a row is left
 abbrev pub opened : ℕ → ℕ → ℕ → Reading → Reading
-opened room at r o = pick (ltb r room) o (refused NoRow at)
+opened room at r o = cond (ltb r room) o (refused NoRow at)
 
 -- a unicode is UTF-8 and has kind 11; a bytearray is any bytes and has kind 8
 abbrev pub textKind : Bool → ℕ
@@ -78,16 +74,16 @@ goodText false t = true
 module _ (s : List ℕ) where
   -- no byte there is 1
   abbrev pub present : ℕ → Reading → Reading
-  present at o = pick (ltb at (length s)) o (refused Ended at)
+  present at o = cond (ltb at (length s)) o (refused Ended at)
 
   -- in the item at `at`, the byte at i is there and is b; or 1, or 3, at the item's first byte
   abbrev pub expected : ℕ → ℕ → ℕ → Reading → Reading
-  expected b at i o = pick (ltb i (length s)) (pick (eqb (byteAt s i) b) o (refused UnexpectedByte at)) (refused Ended at)
+  expected b at i o = cond (ltb i (length s)) (cond (eqb (byteAt s i) b) o (refused UnexpectedByte at)) (refused Ended at)
 
   -- the same behind digits, of which there is one at least: 'Numbers need a digit'
   abbrev pub numbered : ℕ → ℕ → ℕ → ℕ → Reading → Reading
   numbered b at from n o =
-      pick (ltb (from + n) (length s)) (pick (ltb 0 n && eqb (byteAt s (from + n)) b) o (refused UnexpectedByte at)) (refused Ended at)
+      cond (ltb (from + n) (length s)) (cond (ltb 0 n && eqb (byteAt s (from + n)) b) o (refused UnexpectedByte at)) (refused Ended at)
 
   -- T, F and N: a letter and `;`
   unfoldable pub single : ℕ → ℕ → Reader
@@ -97,7 +93,7 @@ module _ (s : List ℕ) where
   unfoldable pub numberFrom : Bool → ℕ → Reader
   numberFrom minus from at r =
       numbered (code ";") at from (digits (drop from s))
-      (pick (inRange minus (decimal 0 (drop from s)))
+      (cond (inRange minus (decimal 0 (drop from s)))
       (leaf 4 (word minus (decimal 0 (drop from s))) 0 r (from + digits (drop from s) + 1))
       (refused OutOfRange at))
 
@@ -108,7 +104,7 @@ module _ (s : List ℕ) where
   unfoldable pub content : Bool → ℕ → ℕ → Reader
   content unicode o n at r =
       expected (code ";") at (o + n)
-      (pick (goodText unicode (part s o n)) (leaf (textKind unicode) o n r (o + n + 1)) (refused BadText at))
+      (cond (goodText unicode (part s o n)) (leaf (textKind unicode) o n r (o + n + 1)) (refused BadText at))
 
   -- a length, `:` and the content
   unfoldable pub lengthened : Bool → Reader
@@ -119,7 +115,7 @@ module _ (s : List ℕ) where
   -- 'u' ascii_number ':' utf8_bytes ';' or 'u;', whose offset is that of its `;`; alike with 'b'
   unfoldable pub text : Bool → Reader
   text unicode at r =
-      pick (eqb (byteAt s (at + 1)) (code ";")) (leaf (textKind unicode) (at + 1) 0 r (at + 2)) (lengthened unicode at r)
+      cond (eqb (byteAt s (at + 1)) (code ";")) (leaf (textKind unicode) (at + 1) 0 r (at + 2)) (lengthened unicode at r)
 
   -- the objects without children, behind their row
   abbrev pub leafOf : LeafLetter → Reader
@@ -140,7 +136,7 @@ module _ (s : List ℕ) where
   unfoldable pub run : (Texts → Reader) → (Texts → List Row → Texts) → ℕ → ℕ → ℕ → Texts → List Row → Reader
   run f more kind zero n seen acc at r = refused Ended at
   run f more kind (suc fuel) n seen acc at r =
-      pick (eqb (byteAt s at) (code ";"))
+      cond (eqb (byteAt s at) (code ";"))
       (got (row kind 0 n (r + 1 + length acc) ∷ acc) (at + 1))
       (then (f seen at (r + 1 + length acc)) (λ rows at′. run f more kind fuel (n + 1) (more seen rows) (acc ++ rows) (past s at′) r))
 
@@ -151,7 +147,7 @@ module _ (s : List ℕ) where
 
   -- 20: a key that is among those seen, once it is read, at its first byte
   unfoldable pub distinct : Texts → ℕ → Reading → Reading
-  distinct seen at o = then o (λ rows at′. pick (among seen (firstText rows)) (refused RepeatedKey at) (got rows at′))
+  distinct seen at o = then o (λ rows at′. cond (among seen (firstText rows)) (refused RepeatedKey at) (got rows at′))
 
   -- a key, and behind it what f reads; or what f reads alone
   unfoldable pub entry : Bool → (Want → Reader) → Texts → Reader
@@ -168,7 +164,7 @@ module _ (s : List ℕ) where
   closing kind r o =
       then o
       (λ rows at. present (past s at)
-      (pick (eqb (byteAt s (past s at)) (code ";"))
+      (cond (eqb (byteAt s (past s at)) (code ";"))
       (got (row kind 0 3 (r + 1 + length rows) ∷ rows) (past s at + 1))
       (refused UnexpectedByte (past s at))))
 
@@ -200,7 +196,7 @@ module _ (s : List ℕ) (room : ℕ) where
 
   -- root :== ws object ws. 'After the root only blanks may follow, not counted as used'; another byte is 3 there
   abbrev pub rooted : Reading → Reading
-  rooted o = then o (λ rows at. pick (leb (length s) (past s at)) (got rows at) (refused UnexpectedByte (past s at)))
+  rooted o = then o (λ rows at. cond (leb (length s) (past s at)) (got rows at) (refused UnexpectedByte (past s at)))
 
   unfoldable pub root : Edition → ℕ → Reading
   root e deep = rooted (object e deep Any (past s 0) 0)
@@ -208,4 +204,4 @@ module _ (s : List ℕ) (room : ℕ) where
 -- 23 for the limit, 10 for the bytes, both at 0; then the root
 unfoldable pub message : Edition → ℕ → List ℕ → ℕ → Reading
 message e limit s room =
-    pick (leb 1 limit && leb limit 32) (pick (leb (length s) 65536) (root s room e limit) (refused TooLong 0)) (refused BadLimit 0)
+    cond (leb 1 limit && leb limit 32) (cond (leb (length s) 65536) (root s room e limit) (refused TooLong 0)) (refused BadLimit 0)

@@ -11,7 +11,7 @@ use borrow.Author.Tests.{le-leb, ne-eqb, eqb-false, ltb-true, ltb-false, leb-tru
 use Rattle.lexical.specs.Digits.{digit}
 use Rattle.draft.specs.Grammar.{number}
 use Rattle.glyph.specs.declared.Edition.{Edition}
-use Rattle.glyph.specs.Numbers.{choose, inRange, word}
+use Rattle.glyph.specs.Numbers.{inRange, word}
 use Rattle.glyph.specs.Tree.{leaf}
 use Rattle.glyph.specs.Grammar.{minus, no-sign, Digits, no-digits, and-digit, valueOf, Number, ascii-number, Content, content, empty, Object, integer}
 use Rattle.glyph_form.specs.Form.{digitsBefore, numberBefore, integerBytes, contentBytes}
@@ -92,7 +92,7 @@ unfolding inRange
 word-fits false n h = let l = leb-true n 2147483647 h in omega arith
 word-fits true n h = go (eqb n 0) refl
   where
-    go : (b : Bool) → eqb n 0 ≡ b → choose b 0 (4294967296 - n) < 4294967296
+    go : (b : Bool) → eqb n 0 ≡ b → cond b 0 (4294967296 - n) < 4294967296
     go true e = omega arith
     go false e = let z = eqb-false n 0 e in omega (arith, z)
 

@@ -1,6 +1,6 @@
 -- Which bytes begin an object without children. Assumes nothing.
 use mathlib.Core.Path.{_≡_, refl, sym}
-use mathlib.Core.Bool.{Bool, true, false, true≢false}
+use mathlib.Core.Bool.{Bool, true, false, true≢false, cond}
 use mathlib.Core.List.{List}
 use Prim.Native.Nat.{ℕ, _≤_, _<_}
 use lib.Dec.{eqb}
@@ -11,7 +11,7 @@ use Rattle.glyph.specs.declared.Edition.the-variants.{New, Old}
 use Rattle.glyph.specs.declared.Many.the-variants as many
 use Rattle.glyph.specs.declared.Letter.{Letter}
 use Rattle.glyph.specs.declared.Letter.the-variants.{Many, Unknown}
-use Rattle.glyph.specs.Letters.{pickLetter, letterX, letterH, letterOf}
+use Rattle.glyph.specs.Letters.{letterX, letterH, letterOf}
 use Rattle.glyph_bytes.specs.Leafs.{leafBy, isLeaf, Leafy, LeafAt}
 use Rattle.glyph_bytes.proofs.Bytes.{getD-past}
 
@@ -48,7 +48,7 @@ module _ (b : ℕ) where
         letter = λ n. absurd (true≢false (sym n));
       }
     where
-      either : (x : Bool) (p q : Letter) → isLeaf p ≡ false → isLeaf q ≡ false → isLeaf (pickLetter x p q) ≡ false
+      either : (x : Bool) (p q : Letter) → isLeaf p ≡ false → isLeaf q ≡ false → isLeaf (cond x p q) ≡ false
       either true p q f g = f
       either false p q f g = g
 
@@ -62,7 +62,7 @@ module _ (b : ℕ) where
 
       others :
           (e : Edition)
-          → isLeaf (pickLetter (eqb b 76) (Many many.List) (pickLetter (eqb b 68) (Many many.Dict) (pickLetter (eqb b 79) (Many many.Ordered) (pickLetter (eqb b 88) (letterX e) (pickLetter (eqb b 72) (letterH e) Unknown)))))
+          → isLeaf (cond (eqb b 76) (Many many.List) (cond (eqb b 68) (Many many.Dict) (cond (eqb b 79) (Many many.Ordered) (cond (eqb b 88) (letterX e) (cond (eqb b 72) (letterH e) Unknown)))))
           ≡ false
       others e = either (eqb b 76) _ _ refl (either (eqb b 68) _ _ refl (either (eqb b 79) _ _ refl (either (eqb b 88) _ _ (x-none e) (either (eqb b 72) _ _ (h-none e) refl))))
 

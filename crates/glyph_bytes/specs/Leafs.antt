@@ -1,6 +1,6 @@
 -- The bytes that begin an object without children. Assumes nothing.
 use mathlib.Core.Path.{_≡_}
-use mathlib.Core.Bool.{Bool, true, false}
+use mathlib.Core.Bool.{Bool, true, false, cond}
 use mathlib.Core.List.{List}
 use Prim.Native.Nat.{ℕ, _<_}
 use Prim.Native.Char.{code}
@@ -13,18 +13,14 @@ use Rattle.glyph.specs.declared.Letter.{Letter}
 use Rattle.glyph.specs.declared.Letter.the-variants.{Leaf, Many, Three, Unknown}
 use Rattle.glyph.specs.Letters.{letterOf}
 
-abbrev pub pickLeaf : Bool → LeafLetter → LeafLetter → LeafLetter
-pickLeaf true x y = x
-pickLeaf false x y = y
-
 -- the object without children that a byte begins; nil for a byte that begins none
 unfoldable pub leafBy : ℕ → LeafLetter
 leafBy b =
-    pickLeaf (eqb b (code "i")) Integer
-    (pickLeaf (eqb b (code "u")) Unicode
-    (pickLeaf (eqb b (code "b")) Bytes
-    (pickLeaf (eqb b (code "T")) True
-    (pickLeaf (eqb b (code "F")) False
+    cond (eqb b (code "i")) Integer
+    (cond (eqb b (code "u")) Unicode
+    (cond (eqb b (code "b")) Bytes
+    (cond (eqb b (code "T")) True
+    (cond (eqb b (code "F")) False
     Nil))))
 
 abbrev pub isLeaf : Letter → Bool

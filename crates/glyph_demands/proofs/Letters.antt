@@ -1,6 +1,6 @@
 -- A message that begins with a byte that is no blank and no letter of the edition is refused with 3, there. Assumes nothing.
 use mathlib.Core.Path.{_≡_, refl, ap, _∙_}
-use mathlib.Core.Bool.{Bool, true, false, true≢false, _||_}
+use mathlib.Core.Bool.{Bool, true, false, true≢false, _||_, cond}
 use mathlib.Core.List.{List, [], _∷_}
 use Prim.Native.Nat.{ℕ, zero, suc}
 use Prim.Native.Char.{code}
@@ -16,7 +16,7 @@ use Rattle.glyph.specs.declared.Letter.the-variants.{Unknown}
 use Rattle.glyph.specs.declared.Want.the-variants.{Any}
 use Rattle.glyph.specs.declared.Answer.{Answer}
 use Rattle.glyph.specs.declared.Answer.the-variants.{Refused}
-use Rattle.glyph.specs.Letters.{pickLetter, letterH, letterOf}
+use Rattle.glyph.specs.Letters.{letterH, letterOf}
 use Rattle.glyph.specs.Numbers.{isBlank, blanks, past}
 use Rattle.glyph.specs.Read.{refused, object, rooted, root}
 use Rattle.glyph.specs.Answers.{reading, answerOf, Answers}
@@ -28,7 +28,7 @@ split true b h = absurd (true≢false h)
 split false b h = (refl, h)
 
 -- the letters that both editions have
-not-common : (x : ℕ) (more : List ℕ) → has (code "i" ∷ code "u" ∷ code "b" ∷ code "T" ∷ code "F" ∷ code "N" ∷ code "L" ∷ code "D" ∷ code "O" ∷ code "X" ∷ more) x ≡ false → (e : Edition) → (letterOf e x ≡ pickLetter (eqb x (code "H")) (letterH e) Unknown) × (has more x ≡ false)
+not-common : (x : ℕ) (more : List ℕ) → has (code "i" ∷ code "u" ∷ code "b" ∷ code "T" ∷ code "F" ∷ code "N" ∷ code "L" ∷ code "D" ∷ code "O" ∷ code "X" ∷ more) x ≡ false → (e : Edition) → (letterOf e x ≡ cond (eqb x (code "H")) (letterH e) Unknown) × (has more x ≡ false)
 unfolding letterOf
 not-common x more h e =
     let a = split (eqb x (code "i")) _ h in
@@ -46,7 +46,7 @@ not-common x more h e =
 no-letter : (e : Edition) (x : ℕ) → has (lettersOf e) x ≡ false → letterOf e x ≡ Unknown
 no-letter New x h = not-common x [] h New .0 ∙ go (eqb x (code "H"))
   where
-    go : (b : Bool) → pickLetter b Unknown Unknown ≡ Unknown
+    go : (b : Bool) → cond b Unknown Unknown ≡ Unknown
     go true = refl
     go false = refl
 no-letter Old x h = let g = not-common x (code "H" ∷ []) h Old in g .0 ∙ rw (split (eqb x (code "H")) _ (g .1) .0)

@@ -1,6 +1,6 @@
 -- Whatever is read, the grammar derives from exactly the bytes that were read, and the rows have its meaning. Assumes nothing.
 use mathlib.Core.Path.{_≡_, refl, sym, ap, _∙_}
-use mathlib.Core.Bool.{Bool, true, false, _&&_}
+use mathlib.Core.Bool.{Bool, true, false, _&&_, cond}
 use mathlib.Core.List.{List, [], _∷_, _++_, append-assoc, append-nil}
 use Prim.Native.Nat.{ℕ, zero, suc, _+_, _-_, _*_, _≤_, _<_}
 use native.Mathlib.Omega.{arith}
@@ -32,9 +32,9 @@ use Rattle.glyph.specs.declared.Letter.{Letter}
 use Rattle.glyph.specs.declared.Letter.the-variants.{Leaf, Many, Three, Unknown}
 use Rattle.glyph.specs.declared.Want.{Want}
 use Rattle.glyph.specs.declared.Want.the-variants.{Any, Text, EitherDict}
-use Rattle.glyph.specs.Letters.{pickLetter, letterX, letterH, letterOf, wanted}
-use Rattle.glyph.specs.Numbers.{isBlank, blanks, past, digits, decimal, choose, isMinus, signs, inRange, word}
-use Rattle.glyph.specs.Read.{Reading, got, refused, pick, then, behind, Reader, Texts, Nest, floor, under, numbered, leafOf, single, numberFrom, integer as integerAt, content as contentAt, lengthened, text, textKind, goodText, next, run, firstText, distinct, entry, kept, closing, many as manyAt, three as threeAt, item, object, rooted, root}
+use Rattle.glyph.specs.Letters.{letterX, letterH, letterOf, wanted}
+use Rattle.glyph.specs.Numbers.{isBlank, blanks, past, digits, decimal, isMinus, signs, inRange, word}
+use Rattle.glyph.specs.Read.{Reading, got, refused, then, behind, Reader, Texts, Nest, floor, under, numbered, leafOf, single, numberFrom, integer as integerAt, content as contentAt, lengthened, text, textKind, goodText, next, run, firstText, distinct, entry, kept, closing, many as manyAt, three as threeAt, item, object, rooted, root}
 use Rattle.glyph.specs.Tree.{Tree, leaf, many, plain, ordered, Trees, none, also, Pairs, no-pairs, pair, count, countPairs, cells, cellsOf, pairCells}
 use Rattle.glyph.specs.Grammar.{Blanks, no-blanks, and-blank, Sign, plus, minus, no-sign, Digits, no-digits, and-digit, valueOf, Number, ascii-number, Content, content, empty, Meets, any, unicode-met, dict-met, ordered-met, Extends, new-extension, old-extension, Nodes, old-node, Object, integer, unicode, bytearray, true-object, false-object, nil, list, dict, ordered-dict, extension, node, Objects, close, more, Members, close-members, more-members, Parts, parts, Root}
 
@@ -43,12 +43,12 @@ no-got : {A : Type 0} {m : Refusal} {q : ℕ} {rows : List Row} {to : ℕ} → r
 no-got e = let z : _≡_ {A = ℕ} 0 1 = cc in absurd (omega arith)
 
 module _ {rows : List Row} {to : ℕ} where
-  picked : (b : Bool) (x : Reading) (m : Refusal) (q : ℕ) → pick b x (refused m q) ≡ got rows to → (b ≡ true) × (x ≡ got rows to)
+  picked : (b : Bool) (x : Reading) (m : Refusal) (q : ℕ) → cond b x (refused m q) ≡ got rows to → (b ≡ true) × (x ≡ got rows to)
   picked true x m q e = (refl, e)
   picked false x m q e = no-got e
 
 -- blanks and digits in front
-blank-on : (x : ℕ) (xs : List ℕ) (b : Bool) → isBlank x ≡ b → Blanks (take (blanks xs) xs) → Blanks (take (choose b (suc (blanks xs)) 0) (x ∷ xs))
+blank-on : (x : ℕ) (xs : List ℕ) (b : Bool) → isBlank x ≡ b → Blanks (take (blanks xs) xs) → Blanks (take (cond b (suc (blanks xs)) 0) (x ∷ xs))
 blank-on x xs true e h = and-blank e h
 blank-on x xs false e h = no-blanks
 
@@ -57,7 +57,7 @@ unfolding blanks
 blanks-all [] = no-blanks
 blanks-all (x ∷ xs) = blank-on x xs (isBlank x) refl (blanks-all xs)
 
-choose-in : (b : Bool) (n m : ℕ) → n ≤ m → choose b (suc n) 0 ≤ suc m
+choose-in : (b : Bool) (n m : ℕ) → n ≤ m → cond b (suc n) 0 ≤ suc m
 choose-in true n m h = omega arith
 choose-in false n m h = omega arith
 
@@ -66,7 +66,7 @@ unfolding blanks
 blanks-in [] = omega arith
 blanks-in (x ∷ xs) = choose-in (isBlank x) (blanks xs) (length xs) (blanks-in xs)
 
-digit-on : (x : ℕ) (xs : List ℕ) (b : Bool) → digit x ≡ b → Digits (take (digits xs) xs) → Digits (take (choose b (suc (digits xs)) 0) (x ∷ xs))
+digit-on : (x : ℕ) (xs : List ℕ) (b : Bool) → digit x ≡ b → Digits (take (digits xs) xs) → Digits (take (cond b (suc (digits xs)) 0) (x ∷ xs))
 digit-on x xs true e h = and-digit e h
 digit-on x xs false e h = no-digits
 
@@ -75,7 +75,7 @@ unfolding digits
 digits-all [] = no-digits
 digits-all (x ∷ xs) = digit-on x xs (digit x) refl (digits-all xs)
 
-value-on : (n x : ℕ) (xs : List ℕ) (b : Bool) → decimal (n * 10 + digitValue x) xs ≡ valueOf (n * 10 + digitValue x) (take (digits xs) xs) → choose b (decimal (n * 10 + digitValue x) xs) n ≡ valueOf n (take (choose b (suc (digits xs)) 0) (x ∷ xs))
+value-on : (n x : ℕ) (xs : List ℕ) (b : Bool) → decimal (n * 10 + digitValue x) xs ≡ valueOf (n * 10 + digitValue x) (take (digits xs) xs) → cond b (decimal (n * 10 + digitValue x) xs) n ≡ valueOf n (take (cond b (suc (digits xs)) 0) (x ∷ xs))
 value-on n x xs true h = h
 value-on n x xs false h = refl
 
@@ -126,10 +126,10 @@ Byte e (Three three-letter.Extension) b = Extends e b
 Byte e (Three three-letter.Node) b = Nodes e b
 Byte e Unknown b = Unit {0}
 
-letter-or : (e : Edition) (b k : ℕ) (x y : Letter) → (b ≡ k → Byte e x b) → Byte e y b → Byte e (pickLetter (eqb b k) x y) b
+letter-or : (e : Edition) (b k : ℕ) (x y : Letter) → (b ≡ k → Byte e x b) → Byte e y b → Byte e (cond (eqb b k) x y) b
 letter-or e b k x y h i = go (eqb b k) refl
   where
-    go : (c : Bool) → eqb b k ≡ c → Byte e (pickLetter c x y) b
+    go : (c : Bool) → eqb b k ≡ c → Byte e (cond c x y) b
     go true j = h (eqb-true b k j)
     go false j = i
 
@@ -348,7 +348,7 @@ text-sound : {s : List ℕ} (u : Bool) {at r : ℕ} {rows : List Row} {to : ℕ}
 unfolding text
 text-sound {s} u {at} {r} {rows} {to} i = go (eqb (byteAt s (at + 1)) 59) refl i
   where
-    go : (b : Bool) → eqb (byteAt s (at + 1)) 59 ≡ b → pick b (got (row (textKind u) (at + 1) 0 (r + 1) ∷ []) (at + 2)) (lengthened s u at r) ≡ got rows to → TextDerived s u at r rows to
+    go : (b : Bool) → eqb (byteAt s (at + 1)) 59 ≡ b → cond b (got (row (textKind u) (at + 1) 0 (r + 1) ∷ []) (at + 2)) (lengthened s u at r) ≡ got rows to → TextDerived s u at r rows to
     go true j k =
         let y = eqb-true (byteAt s (at + 1)) 59 j in
         let h = there-by s (at + 1) y (omega arith) in
@@ -398,7 +398,7 @@ unfolding distinct
 distinct-inv s seen at (refused m q) i = no-got i
 distinct-inv s seen at (got rows₀ to₀) {rows} {to} i = go (among seen (firstText s rows₀)) refl i
   where
-    go : (b : Bool) → among seen (firstText s rows₀) ≡ b → pick b (refused RepeatedKey at) (got rows₀ to₀) ≡ got rows to → DistinctInv s seen (got rows₀ to₀) rows to
+    go : (b : Bool) → among seen (firstText s rows₀) ≡ b → cond b (refused RepeatedKey at) (got rows₀ to₀) ≡ got rows to → DistinctInv s seen (got rows₀ to₀) rows to
     go true j k = no-got k
     go false j k = let a : rows₀ ≡ rows = cc in record { reading = k; new = rw (← a) j }
 
@@ -496,7 +496,7 @@ module _ (e : Edition) (s : List ℕ) where
           let w = blank-at s at₁ (omega (arith, ends (g .here), g .ends)) in
           joined g w (rest (n + 1) seen (acc ++ new) (past s at₁) r rows to k (omega (arith, ends (w .here), w .ends)))
 
-      test : (b : Bool) → eqb (byteAt s at) 59 ≡ b → pick b (got (row kind 0 n (r + 1 + length acc) ∷ acc) (at + 1)) (then (f Any at (r + 1 + length acc)) (λ new at₁. run s (entry s false f) (kept s false) kind fuel (n + 1) seen (acc ++ new) (past s at₁) r)) ≡ got rows to → DerivedOn d kind n at acc r rows to
+      test : (b : Bool) → eqb (byteAt s at) 59 ≡ b → cond b (got (row kind 0 n (r + 1 + length acc) ∷ acc) (at + 1)) (then (f Any at (r + 1 + length acc)) (λ new at₁. run s (entry s false f) (kept s false) kind fuel (n + 1) seen (acc ++ new) (past s at₁) r)) ≡ got rows to → DerivedOn d kind n at acc r rows to
       test true j k = closed-on d kind n at r acc (eqb-true (byteAt s at) 59 j) k
       test false j k = after (f Any at (r + 1 + length acc)) refl k
 
@@ -556,7 +556,7 @@ module _ (e : Edition) (s : List ℕ) where
           (keys-as (first-text both)
           (rest (n + 1) (firstText s new ∷ seen) (acc ++ new) (past s at₁) r rows to k (omega (arith, ends (x .here), x .ends)))))
 
-      test : (b : Bool) → eqb (byteAt s at) 59 ≡ b → pick b (got (row kind 0 n (r + 1 + length acc) ∷ acc) (at + 1)) (then (next s (distinct s seen at (f Text at (r + 1 + length acc))) (r + 1 + length acc) (f Any)) (λ new at₁. run s (entry s true f) (kept s true) kind fuel (n + 1) (firstText s new ∷ seen) (acc ++ new) (past s at₁) r)) ≡ got rows to → DerivedMembers d kind n at seen acc r rows to
+      test : (b : Bool) → eqb (byteAt s at) 59 ≡ b → cond b (got (row kind 0 n (r + 1 + length acc) ∷ acc) (at + 1)) (then (next s (distinct s seen at (f Text at (r + 1 + length acc))) (r + 1 + length acc) (f Any)) (λ new at₁. run s (entry s true f) (kept s true) kind fuel (n + 1) (firstText s new ∷ seen) (acc ++ new) (past s at₁) r)) ≡ got rows to → DerivedMembers d kind n at seen acc r rows to
       test true j k = closed-members d kind n at r seen acc (eqb-true (byteAt s at) 59 j) k
       test false j k = after (next s (distinct s seen at (f Text at (r + 1 + length acc))) (r + 1 + length acc) (f Any)) refl k
 

@@ -1,6 +1,6 @@
 -- What is read has no more rows than there is room for. Assumes nothing.
 use mathlib.Core.Path.{_≡_, refl, ap}
-use mathlib.Core.Bool.{Bool, true, false}
+use mathlib.Core.Bool.{Bool, true, false, cond}
 use mathlib.Core.List.{List, [], _++_}
 use Prim.Native.Nat.{ℕ, zero, suc, _+_, _≤_, _<_}
 use native.Mathlib.Omega.{arith}
@@ -21,7 +21,7 @@ use Rattle.glyph.specs.declared.Want.{Want}
 use Rattle.glyph.specs.declared.Want.the-variants.{Any, Text}
 use Rattle.glyph.specs.Letters.{letterOf, wanted, nameWant, attributesWant, threeKind, manyKind, keyedBy}
 use Rattle.glyph.specs.Numbers.{past}
-use Rattle.glyph.specs.Read.{Reading, got, refused, pick, then, behind, Reader, Texts, floor, under, opened, leafOf, next, run, distinct, entry, kept, closing, many, three, item, object, rooted, root}
+use Rattle.glyph.specs.Read.{Reading, got, refused, then, behind, Reader, Texts, floor, under, opened, leafOf, next, run, distinct, entry, kept, closing, many, three, item, object, rooted, root}
 use Rattle.glyph_keys.proofs.Ones.{opened-one}
 
 -- an accepted reading from row r on ends within the room
@@ -30,14 +30,14 @@ Within room r (refused m p) = Unit {0}
 Within room r (got rows at) = r + length rows ≤ room
 
 module _ (room : ℕ) where
-  within-pick : (b : Bool) (r : ℕ) (x y : Reading) → Within room r x → Within room r y → Within room r (pick b x y)
+  within-pick : (b : Bool) (r : ℕ) (x y : Reading) → Within room r x → Within room r y → Within room r (cond b x y)
   within-pick true r x y p q = p
   within-pick false r x y p q = q
 
   within-opened : (at r : ℕ) (o : Reading) → (r < room → Within room r o) → Within room r (opened room at r o)
   within-opened at r o h = go (ltb r room) refl
     where
-      go : (b : Bool) → ltb r room ≡ b → Within room r (pick b o (refused NoRow at))
+      go : (b : Bool) → ltb r room ≡ b → Within room r (cond b o (refused NoRow at))
       go true i = h (ltb-true r room i)
       go false i = tt
 
@@ -87,7 +87,7 @@ module _ (room : ℕ) where
     opened-in : (at r : ℕ) (o : Reading) {rows : List Row} {to : ℕ} → opened room at r o ≡ got rows to → r < room
     opened-in at r o {rows} {to} i = go (ltb r room) refl i
       where
-        go : (b : Bool) → ltb r room ≡ b → pick b o (refused NoRow at) ≡ got rows to → r < room
+        go : (b : Bool) → ltb r room ≡ b → cond b o (refused NoRow at) ≡ got rows to → r < room
         go true j k = ltb-true r room j
         go false j k = let z : _≡_ {A = ℕ} 0 1 = cc in absurd (omega arith)
 
@@ -123,6 +123,6 @@ module _ (room : ℕ) where
         go (refused m p) w k = let z : _≡_ {A = ℕ} 0 1 = cc in absurd (omega arith)
         go (got rows₀ at) w k = test (leb (length s) (past s at)) k
           where
-            test : (b : Bool) → pick b (got rows₀ at) (refused UnexpectedByte (past s at)) ≡ got rows used → length rows ≤ room
+            test : (b : Bool) → cond b (got rows₀ at) (refused UnexpectedByte (past s at)) ≡ got rows used → length rows ≤ room
             test true j = let a : rows₀ ≡ rows = cc in omega (arith, ap length a)
             test false j = let z : _≡_ {A = ℕ} 0 1 = cc in absurd (omega arith)

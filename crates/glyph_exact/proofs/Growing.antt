@@ -1,7 +1,7 @@
 -- Reading grows with its limits: an answer other than 8 and 9 stays, 8 changes only where more may nest, and 9 only where there is more room.
 -- Assumes nothing.
 use mathlib.Core.Path.{_≡_, refl}
-use mathlib.Core.Bool.{Bool, true, false}
+use mathlib.Core.Bool.{Bool, true, false, cond}
 use mathlib.Core.List.{List, [], _∷_, _++_}
 use Prim.Native.Nat.{ℕ, zero, suc, _+_, _≤_, _<_}
 use native.Mathlib.Omega.{arith}
@@ -20,7 +20,7 @@ use Rattle.glyph.specs.declared.Want.{Want}
 use Rattle.glyph.specs.declared.Want.the-variants.{Any, Text}
 use Rattle.glyph.specs.Letters.{letterOf, wanted, nameWant, attributesWant, threeKind, manyKind, keyedBy}
 use Rattle.glyph.specs.Numbers.{past}
-use Rattle.glyph.specs.Read.{Reading, got, refused, pick, then, behind, Reader, Texts, floor, under, opened, next, run, distinct, entry, kept, closing, many, three, item, object, root}
+use Rattle.glyph.specs.Read.{Reading, got, refused, then, behind, Reader, Texts, floor, under, opened, next, run, distinct, entry, kept, closing, many, three, item, object, root}
 
 -- the same; or 8, if D, or 9, if R
 pub data Grows (D R : Type 0) : Reading → Reading → Type 0 where
@@ -30,11 +30,11 @@ pub data Grows (D R : Type 0) : Reading → Reading → Type 0 where
 
 -- where more may nest if D holds, and there is more room if R holds
 module _ (D R : Type 0) where
-  grows-left : (b : Bool) (x x′ y : Reading) → Grows D R x x′ → Grows D R (pick b x y) (pick b x′ y)
+  grows-left : (b : Bool) (x x′ y : Reading) → Grows D R x x′ → Grows D R (cond b x y) (cond b x′ y)
   grows-left true x x′ y g = g
   grows-left false x x′ y g = stays
 
-  grows-right : (b : Bool) (x y y′ : Reading) → Grows D R y y′ → Grows D R (pick b x y) (pick b x y′)
+  grows-right : (b : Bool) (x y y′ : Reading) → Grows D R y y′ → Grows D R (cond b x y) (cond b x y′)
   grows-right true x y y′ g = stays
   grows-right false x y y′ g = g
 
@@ -55,7 +55,7 @@ module _ (D R : Type 0) where
   grows-opened : {room room′ : ℕ} (at r : ℕ) {o o′ : Reading} → room ≤ room′ → (room < room′ → R) → Grows D R o o′ → Grows D R (opened room at r o) (opened room′ at r o′)
   grows-opened {room} {room′} at r {o} {o′} h more g = go (ltb r room) refl (ltb r room′) refl
     where
-      go : (b : Bool) → ltb r room ≡ b → (c : Bool) → ltb r room′ ≡ c → Grows D R (pick b o (refused NoRow at)) (pick c o′ (refused NoRow at))
+      go : (b : Bool) → ltb r room ≡ b → (c : Bool) → ltb r room′ ≡ c → Grows D R (cond b o (refused NoRow at)) (cond c o′ (refused NoRow at))
       go true i true j = g
       go true i false j = absurd (omega (arith, ltb-true r room i, ltb-false r room′ j))
       go false i true j = full (more (omega (arith, ltb-false r room i, ltb-true r room′ j)))
@@ -147,7 +147,7 @@ module _ (D R : Type 0) where
     pub root-growing : (e : Edition) (d d′ : ℕ) → d ≤ d′ → (d < d′ → D) → Grows D R (root s room e d) (root s room′ e d′)
     unfolding root Growing
     root-growing e d d′ h k =
-        grows-then (λ rows at. pick (leb (length s) (past s at)) (got rows at) (refused UnexpectedByte (past s at))) (λ rows at. pick (leb (length s) (past s at)) (got rows at) (refused UnexpectedByte (past s at))) (object-grows e d d′ h k Any (past s 0) 0) (λ rows at. stays)
+        grows-then (λ rows at. cond (leb (length s) (past s at)) (got rows at) (refused UnexpectedByte (past s at))) (λ rows at. cond (leb (length s) (past s at)) (got rows at) (refused UnexpectedByte (past s at))) (object-grows e d d′ h k Any (past s 0) 0) (λ rows at. stays)
 
 -- A MESSAGE, with no less room and no less nesting
 pub root-grows : (s : List ℕ) {room room′ : ℕ} → room ≤ room′ → (e : Edition) (d d′ : ℕ) → d ≤ d′ → Grows (d < d′) (room < room′) (root s room e d) (root s room′ e d′)

@@ -1,6 +1,6 @@
 -- What the root is refused for: never for the number of its bytes, and never for the limit that was stated. Assumes nothing.
 use mathlib.Core.Path.{_≡_}
-use mathlib.Core.Bool.{Bool, true, false}
+use mathlib.Core.Bool.{Bool, true, false, cond}
 use mathlib.Core.List.{List, [], _∷_, _++_}
 use Prim.Native.Nat.{ℕ, zero, suc, _+_}
 use native.Mathlib.Omega.{arith}
@@ -23,7 +23,7 @@ use Rattle.glyph.specs.declared.Want.{Want}
 use Rattle.glyph.specs.declared.Want.the-variants.{Any, Text}
 use Rattle.glyph.specs.Letters.{letterOf, wanted, nameWant, attributesWant, threeKind, manyKind, keyedBy}
 use Rattle.glyph.specs.Numbers.{past}
-use Rattle.glyph.specs.Read.{Reading, got, refused, pick, then, behind, Reader, Texts, floor, under, opened, single, numberFrom, content, lengthened, text, leafOf, next, run, firstText, distinct, entry, kept, closing, many, three, item, object, root}
+use Rattle.glyph.specs.Read.{Reading, got, refused, then, behind, Reader, Texts, floor, under, opened, single, numberFrom, content, lengthened, text, leafOf, next, run, firstText, distinct, entry, kept, closing, many, three, item, object, root}
 
 abbrev OfMessage : Refusal → Type 0
 OfMessage Ended = Unit {0}
@@ -46,7 +46,7 @@ own-no m p h = record { why = λ {m = n} e. let i : m ≡ n = cc in rw i at h }
 own-got : (rows : List Row) (to : ℕ) → Own (got rows to)
 own-got rows to = record { why = λ e. let z : _≡_ {A = ℕ} 0 1 = cc in absurd (omega arith) }
 
-own-pick : (b : Bool) (x y : Reading) → Own x → Own y → Own (pick b x y)
+own-pick : (b : Bool) (x y : Reading) → Own x → Own y → Own (cond b x y)
 own-pick true x y p q = p
 own-pick false x y p q = q
 
@@ -165,7 +165,7 @@ module _ (s : List ℕ) where
     own-root : (e : Edition) (d : ℕ) → Own (root s room e d)
     unfolding root OwnAll
     own-root e d =
-        own-then (object s room e d Any (past s 0) 0) (λ rows at. pick (leb (length s) (past s at)) (got rows at) (refused UnexpectedByte (past s at))) (own-object e d Any (past s 0) 0)
+        own-then (object s room e d Any (past s 0) 0) (λ rows at. cond (leb (length s) (past s at)) (got rows at) (refused UnexpectedByte (past s at))) (own-object e d Any (past s 0) 0)
         (λ rows at. own-pick (leb (length s) (past s at)) (got rows at) (refused UnexpectedByte (past s at)) (own-got rows at) (own-wrong (past s at)))
 
     pub never-long : (e : Edition) (d : ℕ) {p : ℕ} → root s room e d ≡ refused TooLong p → ⊥

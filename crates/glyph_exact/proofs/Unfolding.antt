@@ -1,6 +1,6 @@
 -- The cells of a derived tree say which tree it is. Assumes nothing.
 use mathlib.Core.Path.{_≡_, refl, sym, ap, ap₂, _∙_}
-use mathlib.Core.Bool.{_||_}
+use mathlib.Core.Bool.{_||_, cond}
 use mathlib.Core.List.{List, [], _++_, append-assoc}
 use Prim.Native.Nat.{ℕ, _+_}
 use native.Mathlib.Omega.{arith}
@@ -8,13 +8,12 @@ use lib.Dec.{eqb}
 use Rattle.draft.specs.Grammar.{Payload, Cell}
 use Rattle.glyph.specs.declared.Edition.{Edition}
 use Rattle.glyph.specs.declared.Want.{Want}
-use Rattle.glyph.specs.Numbers.{choose}
 use Rattle.glyph.specs.Tree.{Tree, leaf, many, plain, ordered, Trees, none, also, Pairs, no-pairs, pair, count, countPairs, cells, cellsOf, pairCells}
 use Rattle.glyph.specs.Grammar.{Object, integer, unicode, bytearray, true-object, false-object, nil, list, dict, ordered-dict, extension, node, Objects, close, more, Members, close-members, more-members, Parts, parts}
 
 -- kinds of objects without children, of those with objects below them, and of the two dicts
 class : ℕ → ℕ
-class k = choose (eqb k 9 || (eqb k 15 || eqb k 16)) 1 (choose (eqb k 10) 2 (choose (eqb k 14) 3 0))
+class k = cond (eqb k 9 || (eqb k 15 || eqb k 16)) 1 (cond (eqb k 10) 2 (cond (eqb k 14) 3 0))
 
 mutual
   data Proper : Tree → Type 0 where

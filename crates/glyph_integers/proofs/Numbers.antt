@@ -1,6 +1,6 @@
 -- Digits that were counted, and the byte behind them: what an integer and the length of a text share. Assumes nothing.
 use mathlib.Core.Path.{_≡_, _∙_}
-use mathlib.Core.Bool.{_&&_}
+use mathlib.Core.Bool.{_&&_, cond}
 use mathlib.Core.List.{List}
 use Prim.Native.Nat.{ℕ, _+_, _-_, _≤_, _<_}
 use native.Mathlib.Omega.{arith}
@@ -10,13 +10,13 @@ use borrow.Author.Tests.{eq-eqb, ne-eqb, lt-ltb, le-ltb}
 use Rattle.item.specs.declared.Step.{Step}
 use Rattle.glyph.specs.declared.Refusal.the-variants.{Ended, UnexpectedByte}
 use Rattle.glyph.specs.Numbers.{digits}
-use Rattle.glyph.specs.Read.{Reading, refused, pick, numbered}
+use Rattle.glyph.specs.Read.{Reading, refused, numbered}
 use Rattle.glyph_bytes.specs.Places.{Counted}
 use Rattle.glyph_item.specs.Contract.{refusedAt, Did}
 use Rattle.glyph_item.proofs.Readings.{done, did-no}
 
 module _ (s : List ℕ) (b at : ℕ) (o : Reading) {from end v : ℕ} (c : Counted s from end v) where
-  at-end : numbered s b at from (digits (drop from s)) o ≡ pick (ltb end (length s)) (pick (ltb 0 (end - from) && eqb (getD s end 0) b) o (refused UnexpectedByte at)) (refused Ended at)
+  at-end : numbered s b at from (digits (drop from s)) o ≡ cond (ltb end (length s)) (cond (ltb 0 (end - from) && eqb (getD s end 0) b) o (refused UnexpectedByte at)) (refused Ended at)
   at-end = let e : digits (drop from s) ≡ end - from = omega (arith, c .ends) in let k : from + (end - from) ≡ end = omega (arith, c .ahead) in rw (e, k)
 
 module _ (s : List ℕ) (b at : ℕ) (o : Reading) {from end v : ℕ} {room r : ℕ} {T T′ : List ℕ} {step : Step} (c : Counted s from end v) where

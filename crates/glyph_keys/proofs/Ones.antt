@@ -1,6 +1,6 @@
 -- An object without children has one row. Assumes nothing.
 use mathlib.Core.Path.{_≡_, sym, ap}
-use mathlib.Core.Bool.{Bool, true, false}
+use mathlib.Core.Bool.{Bool, true, false, cond}
 use mathlib.Core.List.{List, [], _∷_}
 use Prim.Native.Nat.{ℕ}
 use native.Mathlib.Omega.{arith}
@@ -11,7 +11,7 @@ use Rattle.glyph.specs.declared.Refusal.{Refusal}
 use Rattle.glyph.specs.declared.Refusal.the-variants.{NoRow}
 use Rattle.glyph.specs.declared.Leaf.{Leaf}
 use Rattle.glyph.specs.declared.Leaf.the-variants.{Integer, Unicode, Bytes, True, False, Nil}
-use Rattle.glyph.specs.Read.{Reading, got, refused, pick, single, numberFrom, content, lengthened, text, opened, leafOf}
+use Rattle.glyph.specs.Read.{Reading, got, refused, single, numberFrom, content, lengthened, text, opened, leafOf}
 use Rattle.glyph_keys.specs.Contract.{name}
 
 -- a reading that gives one row, if any
@@ -24,7 +24,7 @@ one-no m p = record { row = λ e. let z : _≡_ {A = ℕ} 0 1 = cc in absurd (om
 one-got : (x : Row) (to : ℕ) → One (got (x ∷ []) to)
 one-got x to = record { row = λ {rows} e. let z : x ∷ [] ≡ rows = cc in sym (ap length z) }
 
-one-pick : (b : Bool) (x y : Reading) → One x → One y → One (pick b x y)
+one-pick : (b : Bool) (x y : Reading) → One x → One y → One (cond b x y)
 one-pick true x y p q = p
 one-pick false x y p q = q
 

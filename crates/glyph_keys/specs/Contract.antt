@@ -1,6 +1,6 @@
 -- What reading asks of the notes on keys, and what it does to them. Assumes nothing.
 use mathlib.Core.Path.{_≡_}
-use mathlib.Core.Bool.{Bool, true, false}
+use mathlib.Core.Bool.{Bool, true, false, cond}
 use mathlib.Core.List.{List}
 use Prim.Native.Nat.{ℕ, _+_}
 use Prim.Native.Char.{code}
@@ -12,13 +12,13 @@ use Rattle.item.specs.Contract.{Fitting, readTo}
 use Rattle.keys.specs.Notes.{named, keysOf, Noted}
 use Rattle.member_keys.specs.Contract.{Entries, After, Joined}
 use Rattle.glyph.specs.declared.Refusal.the-variants.{UnexpectedByte}
-use Rattle.glyph.specs.Read.{Reading, Reader, pick, refused, present, opened, text, distinct}
+use Rattle.glyph.specs.Read.{Reading, Reader, refused, present, opened, text, distinct}
 use Rattle.glyph_bytes.specs.Places.{Skipped}
 use Rattle.glyph_item.specs.Contract.{Did}
 
 -- a unicode, where nothing else may stand: alike in both editions, and at any depth
 unfoldable pub name : List ℕ → ℕ → Reader
-name s room at r = present s at (pick (eqb (byteAt s at) (code "u")) (opened room at r (text s true at r)) (refused UnexpectedByte at))
+name s room at r = present s at (cond (eqb (byteAt s at) (code "u")) (opened room at r (text s true at r)) (refused UnexpectedByte at))
 
 -- what reading from a place and a row on asks of the table and the notes
 pub record Prepared (s : List ℕ) (at row room : ℕ) (T N : List ℕ) : Type 0 where

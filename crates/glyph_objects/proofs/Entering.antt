@@ -1,6 +1,6 @@
 -- One object behind another, and one thing of a container. Assumes nothing.
 use mathlib.Core.Path.{_≡_, refl, sym, ap, _∙_}
-use mathlib.Core.Bool.{Bool, true, false, true≢false}
+use mathlib.Core.Bool.{Bool, true, false, true≢false, cond}
 use mathlib.Core.List.{List, _++_}
 use Prim.Native.Nat.{ℕ, zero, suc, _+_, _-_, _≤_, _<_}
 use native.Mathlib.Omega.{arith}
@@ -22,9 +22,9 @@ use Rattle.glyph.specs.declared.Leaf.the-variants.{Integer, Bytes, True, False,
 use Rattle.glyph.specs.declared.Many.the-variants.{List as ListLetter, Dict, Ordered}
 use Rattle.glyph.specs.declared.Letter.{Letter}
 use Rattle.glyph.specs.declared.Letter.the-variants.{Leaf, Many, Unknown}
-use Rattle.glyph.specs.Letters.{letterOf, letterX, letterH, pickLetter, wanted}
+use Rattle.glyph.specs.Letters.{letterOf, letterX, letterH, wanted}
 use Rattle.glyph.specs.Numbers.{past}
-use Rattle.glyph.specs.Read.{Reading, got, refused, Nest, pick, behind, opened, text, leafOf, next, entry, object, item}
+use Rattle.glyph.specs.Read.{Reading, got, refused, Nest, behind, opened, text, leafOf, next, entry, object, item}
 use Rattle.glyph_bytes.specs.Places.{Skipped}
 use Rattle.glyph_bytes.specs.Leafs.{leafBy, LeafAt}
 use Rattle.glyph_item.specs.Contract.{answer, Leaves, Did}
@@ -129,7 +129,7 @@ next-done {before = before} d n =
     }
 
 -- a key is read alike by any edition, at any depth
-name-or : (c : Bool) (x y : Letter) → wanted Name x ≡ Unknown → wanted Name y ≡ Unknown → wanted Name (pickLetter c x y) ≡ Unknown
+name-or : (c : Bool) (x y : Letter) → wanted Name x ≡ Unknown → wanted Name y ≡ Unknown → wanted Name (cond c x y) ≡ Unknown
 name-or true x y p q = p
 name-or false x y p q = q
 
@@ -144,43 +144,43 @@ name-h Old = refl
 name-none : (e : Edition) (b : ℕ) → eqb b 117 ≡ false → wanted Name (letterOf e b) ≡ Unknown
 unfolding letterOf
 name-none e b n =
-    let t₁ : Letter = pickLetter (eqb b 72) (letterH e) Unknown in
+    let t₁ : Letter = cond (eqb b 72) (letterH e) Unknown in
     let p₁ : wanted Name t₁ ≡ Unknown = name-or (eqb b 72) (letterH e) Unknown (name-h e) refl in
-    let t₂ : Letter = pickLetter (eqb b 88) (letterX e) t₁ in
+    let t₂ : Letter = cond (eqb b 88) (letterX e) t₁ in
     let p₂ : wanted Name t₂ ≡ Unknown = name-or (eqb b 88) (letterX e) t₁ (name-x e) p₁ in
-    let t₃ : Letter = pickLetter (eqb b 79) (Many Ordered) t₂ in
+    let t₃ : Letter = cond (eqb b 79) (Many Ordered) t₂ in
     let p₃ : wanted Name t₃ ≡ Unknown = name-or (eqb b 79) (Many Ordered) t₂ refl p₂ in
-    let t₄ : Letter = pickLetter (eqb b 68) (Many Dict) t₃ in
+    let t₄ : Letter = cond (eqb b 68) (Many Dict) t₃ in
     let p₄ : wanted Name t₄ ≡ Unknown = name-or (eqb b 68) (Many Dict) t₃ refl p₃ in
-    let t₅ : Letter = pickLetter (eqb b 76) (Many ListLetter) t₄ in
+    let t₅ : Letter = cond (eqb b 76) (Many ListLetter) t₄ in
     let p₅ : wanted Name t₅ ≡ Unknown = name-or (eqb b 76) (Many ListLetter) t₄ refl p₄ in
-    let t₆ : Letter = pickLetter (eqb b 78) (Leaf Nil) t₅ in
+    let t₆ : Letter = cond (eqb b 78) (Leaf Nil) t₅ in
     let p₆ : wanted Name t₆ ≡ Unknown = name-or (eqb b 78) (Leaf Nil) t₅ refl p₅ in
-    let t₇ : Letter = pickLetter (eqb b 70) (Leaf False) t₆ in
+    let t₇ : Letter = cond (eqb b 70) (Leaf False) t₆ in
     let p₇ : wanted Name t₇ ≡ Unknown = name-or (eqb b 70) (Leaf False) t₆ refl p₆ in
-    let t₈ : Letter = pickLetter (eqb b 84) (Leaf True) t₇ in
+    let t₈ : Letter = cond (eqb b 84) (Leaf True) t₇ in
     let p₈ : wanted Name t₈ ≡ Unknown = name-or (eqb b 84) (Leaf True) t₇ refl p₇ in
-    let t₉ : Letter = pickLetter (eqb b 98) (Leaf Bytes) t₈ in
+    let t₉ : Letter = cond (eqb b 98) (Leaf Bytes) t₈ in
     let p₉ : wanted Name t₉ ≡ Unknown = name-or (eqb b 98) (Leaf Bytes) t₈ refl p₈ in
-    let t₁₀ : Letter = pickLetter (eqb b 105) (Leaf Integer) t₉ in
+    let t₁₀ : Letter = cond (eqb b 105) (Leaf Integer) t₉ in
     let p₁₀ : wanted Name t₁₀ ≡ Unknown = name-or (eqb b 105) (Leaf Integer) t₉ refl p₉ in
     rw n p₁₀
 
-item-name : (s : List ℕ) (room : ℕ) (e : Edition) (nest : Nest) (at r : ℕ) → item s room (wanted Name (letterOf e (getD s at 0))) nest at r ≡ pick (eqb (getD s at 0) 117) (opened room at r (text s true at r)) (refused UnexpectedByte at)
+item-name : (s : List ℕ) (room : ℕ) (e : Edition) (nest : Nest) (at r : ℕ) → item s room (wanted Name (letterOf e (getD s at 0))) nest at r ≡ cond (eqb (getD s at 0) 117) (opened room at r (text s true at r)) (refused UnexpectedByte at)
 unfolding letterOf
 item-name s room e nest at r = go (eqb (getD s at 0) 117) refl
   where
     yes : (b : ℕ) → b ≡ 117 → item s room (wanted Name (letterOf e b)) nest at r ≡ opened room at r (text s true at r)
     yes b i = rw i refl
 
-    go : (c : Bool) → eqb (getD s at 0) 117 ≡ c → item s room (wanted Name (letterOf e (getD s at 0))) nest at r ≡ pick c (opened room at r (text s true at r)) (refused UnexpectedByte at)
+    go : (c : Bool) → eqb (getD s at 0) 117 ≡ c → item s room (wanted Name (letterOf e (getD s at 0))) nest at r ≡ cond c (opened room at r (text s true at r)) (refused UnexpectedByte at)
     go true i = yes (getD s at 0) (eqb-true (getD s at 0) 117 i)
     go false i = rw (name-none e (getD s at 0) i)
 
 pub object-name : (s : List ℕ) (room : ℕ) (e : Edition) (d at r : ℕ) → object s room e d Name at r ≡ name s room at r
 unfolding object name
-object-name s room e zero at r = ap (λ (x : Reading). pick (ltb at (length s)) x (refused Ended at)) (item-name s room e _ at r)
-object-name s room e (suc d) at r = ap (λ (x : Reading). pick (ltb at (length s)) x (refused Ended at)) (item-name s room e _ at r)
+object-name s room e zero at r = ap (λ (x : Reading). cond (ltb at (length s)) x (refused Ended at)) (item-name s room e _ at r)
+object-name s room e (suc d) at r = ap (λ (x : Reading). cond (ltb at (length s)) x (refused Ended at)) (item-name s room e _ at r)
 
 -- a name, where nothing else may stand
 name-wanted : (want : Want) → isName want ≡ true → want ≡ Name

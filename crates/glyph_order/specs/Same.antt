@@ -1,6 +1,6 @@
 -- That two objects mean the same, a plain dict's pair order aside, which is what document 02 says of meaning; and distinct keys. Assumes nothing.
 use mathlib.Core.Path.{_≡_}
-use mathlib.Core.Bool.{Bool, true, false}
+use mathlib.Core.Bool.{Bool, true, false, cond}
 use mathlib.Core.List.{List}
 use Prim.Native.Nat.{ℕ}
 use Rattle.order.specs.declared.Relation.{Relation}
@@ -18,14 +18,10 @@ isBefore After = false
 unfoldable pub before : List ℕ → List ℕ → Bool
 before k l = isBefore (compared k l)
 
-abbrev pub pick : Bool → Pairs → Pairs → Pairs
-pick true x y = x
-pick false x y = y
-
 -- the pairs whose keys come after a key
 unfoldable pub above : List ℕ → Pairs → Pairs
 above b no-pairs = no-pairs
-above b (pair k t ps) = pick (before b k) (pair k t (above b ps)) (above b ps)
+above b (pair k t ps) = cond (before b k) (pair k t (above b ps)) (above b ps)
 
 -- pairs in another order
 pub data Shuffled : Pairs → Pairs → Type 0 where

@@ -25,7 +25,7 @@ use Rattle.glyph.specs.declared.Three.the-variants.{Extension, Node}
 use Rattle.glyph.specs.Letters.{threeKind}
 use Rattle.glyph.specs.Tree.{Tree, leaf}
 use Rattle.glyph_form.specs.declared.Sort.the-variants.{Integer, Boolean, Content, Nil, Many, Three, Unknown}
-use Rattle.glyph_form.specs.Sorts.{pickSort, sortOf}
+use Rattle.glyph_form.specs.Sorts.{sortOf}
 use Rattle.glyph_form.specs.Told.{trees, pairs, told, treeAt}
 use Rattle.glyph_form.specs.Form.{canon, canonAll, canonPairs, leafBytes, integerBytes, booleanBytes, contentBytes, letterFor, bytesOf, bytesOfAll, bytesOfPairs, written}
 use Rattle.glyph_output.specs.Contract.{reached, Open, Adds}
@@ -95,7 +95,7 @@ module _ (row : ℕ → Row) (s : List ℕ) (e : Edition) (r : ℕ) where
   unfolding canon bytesOf leafBytes leafForm sortOf
   leaf-told f h = let a = alone (row r .kind) h in rw (a .0, a .1, a .2, a .3, a .4) (go (eqb (row r .kind) 4) (eqb (row r .kind) 5) (eqb (row r .kind) 8) (eqb (row r .kind) 11) (eqb (row r .kind) 13))
     where
-      go : (p q u v w : Bool) → bytesOf e (canon (told row s (pickSort p Integer (pickSort q Boolean (pickSort u (Content Binary) (pickSort v (Content Text) (pickSort w Nil Unknown))))) f (row r) r)) ≡ cond p (integerBytes (row r .a)) (cond q (booleanBytes (row r .a)) (cond u (98 ∷ contentBytes (textOf s (row r))) (cond v (117 ∷ contentBytes (textOf s (row r))) (78 ∷ 59 ∷ []))))
+      go : (p q u v w : Bool) → bytesOf e (canon (told row s (cond p Integer (cond q Boolean (cond u (Content Binary) (cond v (Content Text) (cond w Nil Unknown))))) f (row r) r)) ≡ cond p (integerBytes (row r .a)) (cond q (booleanBytes (row r .a)) (cond u (98 ∷ contentBytes (textOf s (row r))) (cond v (117 ∷ contentBytes (textOf s (row r))) (78 ∷ 59 ∷ []))))
       go true q u v w = refl
       go false true u v w = refl
       go false false true v w = refl

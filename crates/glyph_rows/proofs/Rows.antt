@@ -1,6 +1,6 @@
 -- What each kind says. Assumes nothing.
 use mathlib.Core.Path.{_≡_, refl, _∙_}
-use mathlib.Core.Bool.{Bool, true, false, _&&_}
+use mathlib.Core.Bool.{Bool, true, false, _&&_, cond}
 use Prim.Native.Nat.{ℕ, _+_, _≤_, _<_}
 use lib.Dec.{eqb}
 use borrow.Author.Tests.{eq-eqb, ne-eqb, lt-ltb, le-ltb}
@@ -9,7 +9,7 @@ use Rattle.glyph.specs.declared.Edition.{Edition}
 use Rattle.glyph.specs.declared.Edition.the-variants.{New, Old}
 use Rattle.draft.specs.declared.Content.the-variants.{Binary, Text}
 use Rattle.glyph_form.specs.declared.Sort.the-variants.{Integer, Boolean, Content, Nil, Unknown}
-use Rattle.glyph_form.specs.Sorts.{pickSort, sortOf}
+use Rattle.glyph_form.specs.Sorts.{sortOf}
 use Rattle.glyph_form.specs.Form.{letterFor}
 use Rattle.glyph_rows.specs.Holding.{holds, isDict, named, mayHoldBy, mayHold}
 
@@ -105,7 +105,7 @@ module _ (row : ℕ → Row) (rows r : ℕ) where
     unfolding mayHold sortOf
     may-none a b c d f = rw (ne-eqb _ _ a, ne-eqb _ _ b, ne-eqb _ _ c, ne-eqb _ _ d, ne-eqb _ _ f) (go (eqb (x .kind) 4) (eqb (x .kind) 5) (eqb (x .kind) 8) (eqb (x .kind) 11) (eqb (x .kind) 13))
       where
-        go : (p q u v w : Bool) → false ≡ mayHoldBy row rows (pickSort p Integer (pickSort q Boolean (pickSort u (Content Binary) (pickSort v (Content Text) (pickSort w Nil Unknown))))) x r
+        go : (p q u v w : Bool) → false ≡ mayHoldBy row rows (cond p Integer (cond q Boolean (cond u (Content Binary) (cond v (Content Text) (cond w Nil Unknown))))) x r
         go true q u v w = refl
         go false true u v w = refl
         go false false true v w = refl

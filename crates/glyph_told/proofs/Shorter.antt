@@ -12,7 +12,7 @@ use Rattle.text.proofs.Comparing.{both}
 use Rattle.lexical.specs.Digits.{digit, digitValue}
 use Rattle.glyph.specs.declared.Edition.{Edition}
 use Rattle.glyph.specs.declared.Want.{Want}
-use Rattle.glyph.specs.Numbers.{choose, inRange, word}
+use Rattle.glyph.specs.Numbers.{inRange, word}
 use Rattle.glyph.specs.Tree.{Tree, Trees, none, also, Pairs}
 use Rattle.glyph.specs.Grammar.{Sign, minus, Digits, no-digits, and-digit, valueOf, Number, ascii-number, Content, content, empty, Object, integer, unicode, bytearray, true-object, false-object, nil, list, dict, ordered-dict, extension, node, Objects, close, more, Members, close-members, more-members, Parts, parts}
 use Rattle.glyph_form.specs.Form.{sort, canon, canonAll, canonPairs, digitsBefore, integerBytes, booleanBytes, contentBytes, leafBytes, bytesOf, bytesOfAll, bytesOfPairs, written}
@@ -21,7 +21,7 @@ use Rattle.glyph_order.proofs.Lengths.{pair-bytes, sort-bytes}
 -- how many digits a number is written with, of `most` at most
 unfoldable digitsIn : ℕ → ℕ → ℕ
 digitsIn zero n = 0
-digitsIn (suc most) n = choose (ltb n 10) 1 (suc (digitsIn most (n / 10)))
+digitsIn (suc most) n = cond (ltb n 10) 1 (suc (digitsIn most (n / 10)))
 
 digits-long : (most n : ℕ) (xs : List ℕ) → length (digitsBefore most n xs) ≡ digitsIn most n + length xs
 unfolding digitsIn digitsBefore
@@ -30,7 +30,7 @@ digits-long (suc most) n xs = go (ltb n 10) (digits-long most (n / 10) ((code "0
   where
     go :
         (b : Bool) → length (digitsBefore most (n / 10) ((code "0" + n % 10) ∷ xs)) ≡ digitsIn most (n / 10) + suc (length xs)
-        → length (cond b ((code "0" + n) ∷ xs) (digitsBefore most (n / 10) ((code "0" + n % 10) ∷ xs))) ≡ choose b 1 (suc (digitsIn most (n / 10))) + length xs
+        → length (cond b ((code "0" + n) ∷ xs) (digitsBefore most (n / 10) ((code "0" + n % 10) ∷ xs))) ≡ cond b 1 (suc (digitsIn most (n / 10))) + length xs
     go true h = omega arith
     go false h = omega (arith, h)
 
@@ -40,7 +40,7 @@ unfolding digitsIn
 digits-more zero n = omega arith
 digits-more (suc most) n = go (ltb n 10) (digits-more most (n / 10))
   where
-    go : (b : Bool) → digitsIn most (n / 10) ≤ digitsIn (suc most) (n / 10) → choose b 1 (suc (digitsIn most (n / 10))) ≤ choose b 1 (suc (digitsIn (suc most) (n / 10)))
+    go : (b : Bool) → digitsIn most (n / 10) ≤ digitsIn (suc most) (n / 10) → cond b 1 (suc (digitsIn most (n / 10))) ≤ cond b 1 (suc (digitsIn (suc most) (n / 10)))
     go true h = omega arith
     go false h = omega (arith, h)
 
@@ -52,7 +52,7 @@ digits-next most n d l = go (ltb (n * 10 + d) 10) (digits-more most n)
     e : (n * 10 + d) / 10 ≡ n
     e = omega arith
 
-    go : (b : Bool) → digitsIn most n ≤ digitsIn (suc most) n → choose b 1 (suc (digitsIn most ((n * 10 + d) / 10))) ≤ suc (digitsIn (suc most) n)
+    go : (b : Bool) → digitsIn most n ≤ digitsIn (suc most) n → cond b 1 (suc (digitsIn most ((n * 10 + d) / 10))) ≤ suc (digitsIn (suc most) n)
     go true h = omega arith
     go false h = rw e (omega (arith, h))
 
@@ -101,7 +101,7 @@ unfolding inRange
 word-short false n g h = omega (arith, plain-short n (omega (arith, leb-true n 2147483647 h)))
 word-short true n minus h = go (eqb n 0) refl
   where
-    go : (b : Bool) → eqb n 0 ≡ b → length (integerBytes (choose b 0 (4294967296 - n))) ≤ 3 + digitsIn 10 n
+    go : (b : Bool) → eqb n 0 ≡ b → length (integerBytes (cond b 0 (4294967296 - n))) ≤ 3 + digitsIn 10 n
     go true e = let z = eqb-true n 0 e in rw z (omega (arith, plain-short 0 (omega arith)))
     go false e = let z = eqb-false n 0 e in omega (arith, minus-short n (omega (arith, z)) (leb-true n 2147483648 h))
 

@@ -1,6 +1,6 @@
 -- What a walk over rows accepts tells a tree that the rows realise and that the edition derives: one law for each production. Assumes nothing.
 use mathlib.Core.Path.{_≡_, refl, sym, ap, _∙_}
-use mathlib.Core.Bool.{Bool, true, false, _||_}
+use mathlib.Core.Bool.{Bool, true, false, _||_, cond}
 use mathlib.Core.List.{List, [], _∷_, _++_, append-assoc}
 use Prim.Native.Nat.{ℕ, zero, suc, _+_, _≤_, _<_}
 use Prim.Native.Char.{code}
@@ -33,7 +33,7 @@ use Rattle.glyph.specs.Tree.{Tree, leaf, many as many-tree, plain, ordered, Tre
 use Rattle.glyph.specs.Grammar.{no-blanks, Meets, any, unicode-met, dict-met, ordered-met, Extends, new-extension, old-extension, Nodes, old-node, Object, unicode, bytearray, true-object, false-object, nil, list, dict, ordered-dict, extension, node, Objects, close, more, Members, close-members, more-members, Parts, parts}
 use Rattle.glyph_form.specs.declared.Sort.{Sort}
 use Rattle.glyph_form.specs.declared.Sort.the-variants.{Integer, Boolean, Content, Nil, Many, Three, Unknown}
-use Rattle.glyph_form.specs.Sorts.{pickSort, nodeSort, sortOf, meets}
+use Rattle.glyph_form.specs.Sorts.{nodeSort, sortOf, meets}
 use Rattle.glyph_form.specs.Told.{trees, pairs, told, treeAt}
 use Rattle.glyph_form.specs.Form.{booleanBytes, contentBytes, leafBytes, letterFor, bytesOf, bytesOfAll, bytesOfPairs}
 use Rattle.glyph_form.specs.Writable.{floor, under, entry, kept, entries, item, object}
@@ -57,10 +57,10 @@ HasKind e (Three three.Extension) k = k ≡ 15
 HasKind e (Three three.Node) k = (k ≡ 16) × Nodes e (code "X")
 HasKind e Unknown k = Unit {0}
 
-sort-or : (e : Edition) (k n : ℕ) (x y : Sort) → (k ≡ n → HasKind e x k) → HasKind e y k → HasKind e (pickSort (eqb k n) x y) k
+sort-or : (e : Edition) (k n : ℕ) (x y : Sort) → (k ≡ n → HasKind e x k) → HasKind e y k → HasKind e (cond (eqb k n) x y) k
 sort-or e k n x y h i = go (eqb k n) refl
   where
-    go : (b : Bool) → eqb k n ≡ b → HasKind e (pickSort b x y) k
+    go : (b : Bool) → eqb k n ≡ b → HasKind e (cond b x y) k
     go true j = h (eqb-true k n j)
     go false j = i
 

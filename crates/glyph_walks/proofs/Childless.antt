@@ -1,6 +1,6 @@
 -- Objects without children: what each row must say. Assumes nothing.
 use mathlib.Core.Path.{_≡_, refl, _∙_}
-use mathlib.Core.Bool.{Bool, true, false}
+use mathlib.Core.Bool.{Bool, true, false, cond}
 use mathlib.Core.List.{List}
 use Prim.Native.Nat.{ℕ, _+_, _<_}
 use native.Mathlib.Omega.{arith}
@@ -19,7 +19,7 @@ use Rattle.glyph.specs.declared.Edition.the-variants.{New}
 use Rattle.glyph.specs.declared.Many.the-variants.{List as ListOf, Dict, Ordered}
 use Rattle.glyph.specs.declared.Three.the-variants.{Extension}
 use Rattle.glyph_form.specs.declared.Sort.the-variants.{Many, Three, Unknown}
-use Rattle.glyph_form.specs.Sorts.{pickSort, nodeSort, sortOf}
+use Rattle.glyph_form.specs.Sorts.{nodeSort, sortOf}
 use Rattle.glyph_form.specs.Writable.{floor, item}
 use Rattle.glyph_walks.specs.Contract.{Here, childless}
 
@@ -59,7 +59,7 @@ module _ (row : ℕ → Row) (rows : ℕ) (s : List ℕ) (x : Row) (r : ℕ) whe
   unfolding childless sortOf
   leaf-none a b c d f = rw (ne-eqb _ _ a, ne-eqb _ _ b, ne-eqb _ _ c, ne-eqb _ _ d, ne-eqb _ _ f) (go (eqb (x .kind) 9) (eqb (x .kind) 10) (eqb (x .kind) 14) (eqb (x .kind) 15) (eqb (x .kind) 16))
     where
-      go : (p q u v w : Bool) → Unfit ≡ item row rows s (pickSort p (Many ListOf) (pickSort q (Many Dict) (pickSort u (Many Ordered) (pickSort v (Three Extension) (pickSort w (nodeSort New) Unknown))))) floor x r
+      go : (p q u v w : Bool) → Unfit ≡ item row rows s (cond p (Many ListOf) (cond q (Many Dict) (cond u (Many Ordered) (cond v (Three Extension) (cond w (nodeSort New) Unknown))))) floor x r
       go true q u v w = refl
       go false true u v w = refl
       go false false true v w = refl

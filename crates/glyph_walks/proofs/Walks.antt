@@ -1,6 +1,6 @@
 -- What answers each return of the functions that walk objects, and what becomes of the notes on keys. Assumes nothing.
 use mathlib.Core.Path.{_≡_, refl, sym, _∙_}
-use mathlib.Core.Bool.{Bool, true, false}
+use mathlib.Core.Bool.{Bool, true, false, cond}
 use mathlib.Core.List.{List}
 use Prim.Native.Nat.{ℕ, _+_, _-_, _≤_, _<_}
 use native.Mathlib.Omega.{arith}
@@ -28,7 +28,7 @@ use Rattle.glyph.specs.declared.Edition.the-variants.{New}
 use Rattle.glyph.specs.declared.Want.the-variants.{Any}
 use Rattle.glyph_form.specs.declared.Sort.{Sort}
 use Rattle.glyph_form.specs.declared.Sort.the-variants.{Integer, Boolean, Content, Nil, Many, Three, Unknown}
-use Rattle.glyph_form.specs.Sorts.{pickSort, sortOf, meets}
+use Rattle.glyph_form.specs.Sorts.{sortOf, meets}
 use Rattle.glyph_form.specs.Writable.{Nest, floor, entry, kept, entries, item, object}
 use Rattle.glyph_rows.specs.Holding.{holds, isDict, mayHold}
 use Rattle.glyph_walks.specs.Contract.{Met, Here, nested, childless}
@@ -48,7 +48,7 @@ module _ (row : ℕ → Row) (rows : ℕ) (s : List ℕ) (x : Row) (r : ℕ) whe
       let a = alone k h in
       rw (a .0, a .1, a .2, a .3, a .4) (go (eqb k 4) (eqb k 5) (eqb k 8) (eqb k 11) (eqb k 13))
     where
-      go : (p q u v w : Bool) → item row rows s (pickSort p Integer (pickSort q Boolean (pickSort u (Content Binary) (pickSort v (Content TextContent) (pickSort w Nil Unknown))))) nest x r ≡ item row rows s (pickSort p Integer (pickSort q Boolean (pickSort u (Content Binary) (pickSort v (Content TextContent) (pickSort w Nil Unknown))))) floor x r
+      go : (p q u v w : Bool) → item row rows s (cond p Integer (cond q Boolean (cond u (Content Binary) (cond v (Content TextContent) (cond w Nil Unknown))))) nest x r ≡ item row rows s (cond p Integer (cond q Boolean (cond u (Content Binary) (cond v (Content TextContent) (cond w Nil Unknown))))) floor x r
       go true q u v w = refl
       go false true u v w = refl
       go false false true v w = refl

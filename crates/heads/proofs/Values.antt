@@ -1,6 +1,6 @@
 -- What a Value is, by its byte: what answers the tests of the functions that read one. Assumes nothing.
 use mathlib.Core.Path.{_≡_, refl, sym, ap, _∙_}
-use mathlib.Core.Bool.{Bool, true, false, _||_}
+use mathlib.Core.Bool.{Bool, true, false, _||_, cond}
 use mathlib.Core.List.{List}
 use Prim.Native.Nat.{ℕ, zero, suc, _+_, _-_, _≤_, _<_}
 use native.Mathlib.Omega.{arith}
@@ -19,7 +19,7 @@ use Rattle.item.specs.Contract.{refusedAt, readTo, Did}
 use Rattle.item.proofs.Readings.{done, did-no, opened-full, opened-cut, opened-on}
 use Rattle.scalar.proofs.Scalars.{flat}
 use Rattle.member_keys.specs.Contract.{Done}
-use Rattle.heads.specs.Items.{pickStep, holdsItems, headOf, entries, contentsOf, Begun}
+use Rattle.heads.specs.Items.{holdsItems, headOf, entries, contentsOf, Begun}
 
 -- the byte begins an Array or a Struct, or neither
 pub holds-array : {b : ℕ} → b ≡ 65 → true ≡ holdsItems b
@@ -79,7 +79,7 @@ pub begun : (s : List ℕ) (room deep at r : ℕ) {step : Step} → step ≡ hea
 unfolding headOf
 begun s room deep at r f e = go _ _ _ refl refl refl (sym (ap (λ (x : Step). x .number) f) ∙ e)
   where
-    go : (a b c : Bool) → eqb deep 0 ≡ a → ltb r room ≡ b → leb (at + 5) (length s) ≡ c → pickStep a (refusedAt TooDeep at) (pickStep b (pickStep c (readTo at r) (refusedAt Ended at)) (refusedAt NoRow at)) .number ≡ 0 → Begun s room deep at r
+    go : (a b c : Bool) → eqb deep 0 ≡ a → ltb r room ≡ b → leb (at + 5) (length s) ≡ c → cond a (refusedAt TooDeep at) (cond b (cond c (readTo at r) (refusedAt Ended at)) (refusedAt NoRow at)) .number ≡ 0 → Begun s room deep at r
     go true b c d h k e = absurd (number-some TooDeep e)
     go false false c d h k e = absurd (number-some NoRow e)
     go false true false d h k e = absurd (number-some Ended e)
@@ -90,7 +90,7 @@ pub head-same : (bytes room deep at r : ℕ) {step : Step} → step ≡ headOf b
 unfolding headOf
 head-same bytes room deep at r {step} f e = go (eqb deep 0) (ltb r room) (leb (at + 5) bytes) f (sym (ap (λ (x : Step). x .number) f) ∙ e)
   where
-    go : (a b c : Bool) → step ≡ pickStep a (refusedAt TooDeep at) (pickStep b (pickStep c (readTo at r) (refusedAt Ended at)) (refusedAt NoRow at)) → pickStep a (refusedAt TooDeep at) (pickStep b (pickStep c (readTo at r) (refusedAt Ended at)) (refusedAt NoRow at)) .number ≡ 0 → step ≡ readTo at r
+    go : (a b c : Bool) → step ≡ cond a (refusedAt TooDeep at) (cond b (cond c (readTo at r) (refusedAt Ended at)) (refusedAt NoRow at)) → cond a (refusedAt TooDeep at) (cond b (cond c (readTo at r) (refusedAt Ended at)) (refusedAt NoRow at)) .number ≡ 0 → step ≡ readTo at r
     go true b c f e = absurd (number-some TooDeep e)
     go false false c f e = absurd (number-some NoRow e)
     go false true false f e = absurd (number-some Ended e)
@@ -139,7 +139,7 @@ module _ (s : List ℕ) (deep at : ℕ) {bytes room from r : ℕ} {T T′ W′ :
       unfolding headOf
       value-head f n = go _ _ _ refl refl refl f
         where
-          go : (x y z : Bool) → eqb deep 0 ≡ x → ltb r room ≡ y → leb (at + 5) (length s) ≡ z → step ≡ pickStep x (refusedAt TooDeep at) (pickStep y (pickStep z (readTo at r) (refusedAt Ended at)) (refusedAt NoRow at)) → Did (value s room deep at r book) bytes room from r T T′ W′ step
+          go : (x y z : Bool) → eqb deep 0 ≡ x → ltb r room ≡ y → leb (at + 5) (length s) ≡ z → step ≡ cond x (refusedAt TooDeep at) (cond y (cond z (readTo at r) (refusedAt Ended at)) (refusedAt NoRow at)) → Did (value s room deep at r book) bytes room from r T T′ W′ step
           go true y z d l k f = did-no TooDeep f (deep-none s room deep at r book h _ refl (sym o ∙ t) (eqb-true deep 0 d))
           go false false z d l k f = done (deep-some s room deep at r book h _ refl (sym o ∙ t) (positive deep (eqb-false deep 0 d))) (opened-full s 5 at _ (ltb-false r room l) f)
           go false true false d l k f = done (deep-some s room deep at r book h _ refl (sym o ∙ t) (positive deep (eqb-false deep 0 d))) (opened-cut s 5 at _ (ltb-true r room l) (leb-false (at + 5) (length s) k) f)

@@ -2,7 +2,7 @@
 -- Assumes nothing.
 use Prim.Native.Nat.{ℕ, _+_, _≤_, _<_}
 use mathlib.Core.Path.{_≡_}
-use mathlib.Core.Bool.{Bool, true, false, _||_}
+use mathlib.Core.Bool.{Bool, true, false, _||_, cond}
 use mathlib.Core.List.{List, []}
 use lib.ListN.{length}
 use lib.Dec.{leb, ltb, eqb}
@@ -13,10 +13,6 @@ use Rattle.draft.specs.Read.{Reader, Texts, items, alike, nothing, member, keep
 use Rattle.item.specs.declared.Step.{Step}
 use Rattle.item.specs.Contract.{refusedAt, readTo}
 
-abbrev pub pickStep : Bool → Step → Step → Step
-pickStep true x y = x
-pickStep false x y = y
-
 -- a byte that begins an Array or a Struct
 unfoldable pub holdsItems : ℕ → Bool
 holdsItems b = eqb b 65 || eqb b 83
@@ -24,9 +20,9 @@ holdsItems b = eqb b 65 || eqb b 83
 -- what an Array or a Struct begins with: 8, 9, or 1 for its count
 unfoldable pub headOf : ℕ → ℕ → ℕ → ℕ → ℕ → Step
 headOf bytes room deep at r =
-    pickStep (eqb deep 0) (refusedAt TooDeep at)
-    (pickStep (ltb r room)
-    (pickStep (leb (at + 5) bytes) (readTo at r) (refusedAt Ended at))
+    cond (eqb deep 0) (refusedAt TooDeep at)
+    (cond (ltb r room)
+    (cond (leb (at + 5) bytes) (readTo at r) (refusedAt Ended at))
     (refusedAt NoRow at))
 
 -- a Struct's items have keys, an Array's have none

@@ -13,7 +13,6 @@ use Rattle.member.specs.declared.Member.{Member}
 use Rattle.lookup_answer.specs.Reports.{reportOf}
 use Rattle.lookup_answer.specs.declared.Answer.the-variants.{Refused}
 use Rattle.lookup_answer.specs.declared.Refusal.the-variants.{NotWritable}
-use Rattle.lookup_answer.specs.Answers.{pick}
 use Rattle.seeking.specs.declared.Search.{Search}
 use Rattle.seeking.specs.Seeking.{over, begun, unused}
 use Rattle.seeking.proofs.Narrowing.{Seeking, seeking-first, seeking-next, seeking-done}
@@ -41,7 +40,7 @@ module _ (T s keys : List ℕ) (q : Question) (es : List Member) where
   pub looking-done : (left : ℕ) (st : Search) → Looking left st → length es ≤ st .at → reportOf (answerFor T s q st) ≡ reportOf (answered T s es keys q)
   unfolding answerFor answered throughIf foundRow
   looking-done left st k h =
-      ap (λ (x : Search). reportOf (pick (asks q) (rowAnswer T s (q .rows) (x .value)) (Refused NotWritable)))
+      ap (λ (x : Search). reportOf (cond (asks q) (rowAnswer T s (q .rows) (x .value)) (Refused NotWritable)))
       (seeking-done (itsRelation T s (keyOf keys q)) (itsMember T s (q .rows) (q .row)) left st k h)
 
 -- ---- a question about a key of several is that of a single lookup

@@ -23,7 +23,7 @@ use Rattle.order.proofs.Ordering.{Less, turned, compared-self, compared-equal, 
 use Rattle.lookup_answer.specs.declared.Refusal.the-variants.{NoMember}
 use Rattle.lookup_answer.specs.declared.Answer.{Answer}
 use Rattle.lookup_answer.specs.declared.Answer.the-variants.{Refused}
-use Rattle.lookup_answer.specs.Answers.{answerAt, foundAnswer, pick, look, lookup}
+use Rattle.lookup_answer.specs.Answers.{answerAt, foundAnswer, look, lookup}
 use Rattle.seeking.specs.Seeking.{over, begun, unused, searched}
 use Rattle.seeking.proofs.Finding.{Outcome, nothing, found, any-list, InOrder, Sought, none, hit, in-order-finds}
 use Rattle.sorting.specs.Sorting.{keyText, sorted, Rising}
@@ -189,7 +189,7 @@ module _ (room : ℕ) (row : ℕ → Row) (rows : ℕ) (s : List ℕ) (ms : List
 
       -- what a row found answers
       abbrev rowFound : ℕ → Answer
-      rowFound v = pick (ltb 0 v && ltb v rows) (answerAt row s v) (Refused NoMember)
+      rowFound v = cond (ltb 0 v && ltb v rows) (answerAt row s v) (Refused NoMember)
 
       row-found : (k : ℕ) → k + 1 < rows → rowFound (k + 1) ≡ answerAt row s (k + 1)
       row-found k h = rw (lt-ltb 0 (k + 1) (omega arith), lt-ltb (k + 1) rows h)
@@ -288,7 +288,7 @@ module _ (T : List ℕ) (rows : ℕ) (s : List ℕ) (r : ℕ) where
     through-any es = rw (g .writes) (go _ (any-finds itsRoom itsRow rows s itsMembers (g .apart) (g .low) (g .most) (g .within) r refl key (g .distinct) es true))
       where
         go : (v : ℕ) → Through itsRoom itsRow rows s itsMembers (g .apart) (g .low) (g .most) (g .within) r refl key (g .distinct) es v
-            → Answered es (pick (ltb 0 v && ltb v rows) (answerAt itsRow s v) (Refused NoMember))
+            → Answered es (cond (ltb 0 v && ltb v rows) (answerAt itsRow s v) (Refused NoMember))
         go v (nothing-there e) = no-member (rw e)
         go v (named-there i h f e l p) = as-front i h f (rw (lt-ltb 0 v p, lt-ltb v rows l, f, e, g .writes))
 

@@ -14,21 +14,21 @@ use Rattle.member.specs.declared.Member.{Member}
 use Rattle.member.specs.Members.{members, isAmong}
 use Rattle.order.specs.declared.Relation.{Relation}
 use Rattle.order.specs.declared.Relation.the-variants.{After}
-use Rattle.order.specs.ByteOrder.{compared, pick as pickRelation}
+use Rattle.order.specs.ByteOrder.{compared}
 use Rattle.lookup_answer.specs.declared.Refusal.the-variants.{NotWritable, NoMember}
 use Rattle.lookup_answer.specs.declared.Answer.{Answer}
 use Rattle.lookup_answer.specs.declared.Answer.the-variants.{Refused}
-use Rattle.lookup_answer.specs.Answers.{answerAt, pick}
+use Rattle.lookup_answer.specs.Answers.{answerAt}
 use Rattle.lookup_answer.specs.declared.Report.{Report}
 use Rattle.lookup_answer.specs.Reports.{reportOf}
 use Rattle.seeking.specs.declared.Search.{Search}
-use Rattle.seeking.specs.Seeking.{ended, pick as pickSearch, begun, stepped, searched}
+use Rattle.seeking.specs.Seeking.{ended, begun, stepped, searched}
 use Rattle.sorting.specs.Sorting.{keyText}
 use Rattle.index_search.specs.declared.Question.{Question}
 
 -- how the text of an entry's key stands to a key; an unused entry counts as after every key
 unfoldable pub relationTo : ℕ → (ℕ → Row) → List ℕ → List ℕ → Member → Relation
-relationTo room row s key e = pickRelation (eqb (e .key) 0) After (compared (keyText room row s (e .key)) key)
+relationTo room row s key e = cond (eqb (e .key) 0) After (compared (keyText room row s (e .key)) key)
 
 -- an entry names the two rows of a member of the Struct of row r
 unfoldable pub isMember : (ℕ → Row) → ℕ → ℕ → Member → Bool
@@ -36,7 +36,7 @@ isMember row rows r e = isAmong e (members row rows r)
 
 -- an entry whose text is the key ends the search, found or not
 abbrev pub verified : Bool → Member → Search
-verified named e = pickSearch named (ended (e .value)) (ended 0)
+verified named e = cond named (ended (e .value)) (ended 0)
 
 module _ (T s : List ℕ) where
   abbrev pub itsRelation : List ℕ → Member → Relation
@@ -51,10 +51,10 @@ module _ (T s : List ℕ) where
 
   -- what it answers
   unfoldable pub rowAnswer : ℕ → ℕ → Answer
-  rowAnswer rows v = pick (ltb 0 v && ltb v rows) (answerAt (rowAt (roomOf 4096 (length T)) T) s v) (Refused NoMember)
+  rowAnswer rows v = cond (ltb 0 v && ltb v rows) (answerAt (rowAt (roomOf 4096 (length T)) T) s v) (Refused NoMember)
 
   unfoldable pub throughIf : Bool → ℕ → ℕ → List Member → List ℕ → Answer
-  throughIf writes rows r es key = pick writes (rowAnswer rows (foundRow writes rows r es key)) (Refused NotWritable)
+  throughIf writes rows r es key = cond writes (rowAnswer rows (foundRow writes rows r es key)) (Refused NotWritable)
 
 -- LOOKING A KEY UP THROUGH A LIST: '11', or what the search through the list finds
 unfoldable pub through : List ℕ → ℕ → List ℕ → ℕ → List Member → List ℕ → Answer
@@ -103,7 +103,7 @@ module _ (T s : List ℕ) where
   stepFor keys q st e = stepped (itsRelation T s (keyOf keys q)) (itsMember T s (q .rows) (q .row)) st e
 
   unfoldable pub answerFor : Question → Search → Answer
-  answerFor q st = pick (asks q) (rowAnswer T s (q .rows) (st .value)) (Refused NotWritable)
+  answerFor q st = cond (asks q) (rowAnswer T s (q .rows) (st .value)) (Refused NotWritable)
 
   -- what a question is answered through a list
   unfoldable pub answered : List Member → List ℕ → Question → Answer

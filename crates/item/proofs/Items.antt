@@ -1,6 +1,6 @@
 -- What answers each return of the functions that read an item. Assumes nothing.
 use mathlib.Core.Path.{_≡_, refl, sym, ap, _∙_}
-use mathlib.Core.Bool.{Bool, true, false}
+use mathlib.Core.Bool.{Bool, true, false, cond}
 use mathlib.Core.List.{List, [], _∷_}
 use Prim.Native.Nat.{ℕ, _+_, _*_, _≤_, _<_}
 use native.Mathlib.Omega.{arith}
@@ -28,7 +28,7 @@ use Rattle.draft.specs.Content.{verdict, allThere, contentRule}
 use Rattle.draft.specs.Bytes.{part}
 use Rattle.draft.specs.Codebook.{Book, recorded}
 use Rattle.draft.specs.Table.{setRow, putRows, rowAt}
-use Rattle.draft.specs.Read.{Reading, got, refused, pick, opened, then, judged, leaf, contents, longItem, recordedItem, recalledItem, recalled, ifString, string, textOf, firstText, stringBy, pickTag, tagOf}
+use Rattle.draft.specs.Read.{Reading, got, refused, opened, then, judged, leaf, contents, longItem, recordedItem, recalledItem, recalled, ifString, string, textOf, firstText, stringBy, tagOf}
 use Rattle.codebook.specs.Words.{bookOf}
 use Rattle.table.proofs.Stored.{first-row}
 use Rattle.item.specs.declared.Step.{Step}
@@ -118,7 +118,7 @@ unfolding tagOf
 no-string s room at r book b l m n =
     chosen (eqb b 73) (Plain Integer) _ refl (chosen (eqb b 116) (Plain True) _ refl (chosen (eqb b 102) (Plain False) _ refl (chosen (eqb b 68) (Plain Double) _ refl (chosen (eqb b 56) (Plain DateTime) _ refl (chosen (eqb b 66) (Plain Binary) _ refl (chosen (eqb b 65) Array _ refl (chosen (eqb b 83) Struct _ refl (chosen (eqb b 79) (Plain Other) _ refl (rw (ne-eqb b 85 l, ne-eqb b 62 m, ne-eqb b 60 n))))))))))
   where
-    chosen : (x : Bool) (t u : Tag) → ifString s room t at r book ≡ refused UnexpectedByte at → ifString s room u at r book ≡ refused UnexpectedByte at → ifString s room (pickTag x t u) at r book ≡ refused UnexpectedByte at
+    chosen : (x : Bool) (t u : Tag) → ifString s room t at r book ≡ refused UnexpectedByte at → ifString s room u at r book ≡ refused UnexpectedByte at → ifString s room (cond x t u) at r book ≡ refused UnexpectedByte at
     chosen true t u e f = e
     chosen false t u e f = f
 
@@ -150,7 +150,7 @@ abbrev One : Reading → Type 0
 One (refused m q) = Unit {0}
 One (got rows at book) = (x : Row) × (rows ≡ x ∷ [])
 
-pick-one : (b : Bool) (o : Reading) (m : Refusal) (q : ℕ) → One o → One (pick b o (refused m q))
+pick-one : (b : Bool) (o : Reading) (m : Refusal) (q : ℕ) → One o → One (cond b o (refused m q))
 pick-one true o m q i = i
 pick-one false o m q i = tt
 

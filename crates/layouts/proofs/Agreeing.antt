@@ -28,10 +28,10 @@ use Rattle.draft.specs.Strings.{plan}
 use Rattle.member.specs.declared.Member.{Member}
 use Rattle.member.specs.declared.Found.{Found}
 use Rattle.member.specs.declared.Found.the-variants.{At, Absent}
-use Rattle.member.specs.Members.{memberOf, membersFrom, isStruct, members, hasKey, find, pickFound, isAmong}
+use Rattle.member.specs.Members.{memberOf, membersFrom, isStruct, members, hasKey, find, isAmong}
 use Rattle.lookup_answer.specs.Answers.{answerAt, foundAnswer, look}
 use Rattle.order.specs.declared.Relation.the-variants.{After}
-use Rattle.order.specs.ByteOrder.{compared, pick as pickRelation}
+use Rattle.order.specs.ByteOrder.{compared}
 use Rattle.sorting.specs.Sorting.{keyText}
 use Rattle.index.specs.Filling.{refusalIn, orderIn}
 use Rattle.index_search.specs.Through.{relationTo, isMember}
@@ -116,7 +116,7 @@ module _ (f g : ℕ → Row) (rows : ℕ) (same : Alike f g rows) where
     find-low no-member = tt
     find-low (and-member {r} {ms} l m) = go (find-low m) (hasKey g s key r)
       where
-        go : FoundLow rows (find g s key ms) → (b : Bool) → FoundLow rows (pickFound b (At (memberOf r (r + 1))) (find g s key ms))
+        go : FoundLow rows (find g s key ms) → (b : Bool) → FoundLow rows (cond b (At (memberOf r (r + 1))) (find g s key ms))
         go i true = l
         go i false = i
 
@@ -158,7 +158,7 @@ module _ (f g : ℕ → Row) (room : ℕ) (same : Alike f g room) where
 
   pub relation-same : (s key : List ℕ) → relationTo room f s key ≡ relationTo room g s key
   unfolding relationTo
-  relation-same s key = fun-ext (λ e. ap (λ (t : ℕ → List ℕ). pickRelation (eqb (e .key) 0) After (compared (t (e .key)) key)) (text-same s))
+  relation-same s key = fun-ext (λ e. ap (λ (t : ℕ → List ℕ). cond (eqb (e .key) 0) After (compared (t (e .key)) key)) (text-same s))
 
   module _ (rows : ℕ) (h : rows ≤ room) where
     pub member-same : (r : ℕ) → isMember f rows r ≡ isMember g rows r

@@ -24,7 +24,7 @@ use Rattle.member.specs.declared.Member.{Member}
 use Rattle.lookup_answer.specs.declared.Answer.{Answer}
 use Rattle.lookup_answer.specs.declared.Answer.the-variants as l
 use Rattle.lookup_answer.specs.declared.Refusal.the-variants as why
-use Rattle.lookup_answer.specs.Answers.{look, answerAt, pick}
+use Rattle.lookup_answer.specs.Answers.{look, answerAt}
 use Rattle.order.specs.declared.Relation.{Relation}
 use Rattle.seeking.specs.Seeking.{begun, searched}
 use Rattle.index.specs.Filling.{refusalIn, orderIn}
@@ -153,7 +153,7 @@ module _
       where
         go :
             (b : Bool) → writableBy at 32 T rows s ≡ b
-            → pick b (look (rowOf at T) rows s r key) (l.Refused why.NotWritable) ≡ pick b (look (rowOf at′ T′) rows s r key) (l.Refused why.NotWritable)
+            → cond b (look (rowOf at T) rows s r key) (l.Refused why.NotWritable) ≡ cond b (look (rowOf at′ T′) rows s r key) (l.Refused why.NotWritable)
         go true e = look-same (rowOf at T) (rowOf at′ T′) rows (below 32 e) s key r
         go false e = refl
 
@@ -195,7 +195,7 @@ module _
       where
         go :
             (a b : Bool) → ltb v rows ≡ b
-            → pick (a && b) (answerAt (rowOf at T) s v) (l.Refused why.NoMember) ≡ pick (a && b) (answerAt (rowOf at′ T′) s v) (l.Refused why.NoMember)
+            → cond (a && b) (answerAt (rowOf at T) s v) (l.Refused why.NoMember) ≡ cond (a && b) (answerAt (rowOf at′ T′) s v) (l.Refused why.NoMember)
         go true true e = answer-same (rowOf at T) (rowOf at′ T′) rows (alike-below rows alike h) s v (ltb-true v rows e)
         go true false e = refl
         go false b e = refl
@@ -206,8 +206,8 @@ module _
       where
         go :
             (b : Bool) → writableBy at 32 T rows s ≡ b
-            → pick b (rowAnswerBy at T rows s (foundRowBy at b T rows s r es key)) (l.Refused why.NotWritable)
-            ≡ pick b (rowAnswerBy at′ T′ rows s (foundRowBy at′ b T′ rows s r es key)) (l.Refused why.NotWritable)
+            → cond b (rowAnswerBy at T rows s (foundRowBy at b T rows s r es key)) (l.Refused why.NotWritable)
+            ≡ cond b (rowAnswerBy at′ T′ rows s (foundRowBy at′ b T′ rows s r es key)) (l.Refused why.NotWritable)
         go true e = rw (found-same true r es key (fits 32 e)) (row-same (foundRowBy at′ true T′ rows s r es key) (fits 32 e))
         go false e = refl
 

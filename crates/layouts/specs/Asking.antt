@@ -23,7 +23,7 @@ use Rattle.member.specs.declared.Member.{Member}
 use Rattle.lookup_answer.specs.declared.Answer as L
 use Rattle.lookup_answer.specs.declared.Answer.the-variants as l
 use Rattle.lookup_answer.specs.declared.Refusal.the-variants as why
-use Rattle.lookup_answer.specs.Answers.{look, answerAt, pick}
+use Rattle.lookup_answer.specs.Answers.{look, answerAt}
 use Rattle.placing.specs.declared.Placed.{Placed}
 use Rattle.placing.specs.Placing.{settled}
 use Rattle.seeking.specs.Seeking.{begun, searched}
@@ -79,7 +79,7 @@ module _ (at : Layout) where
 
   -- looking up, and a position
   unfoldable pub lookupBy : List ℕ → ℕ → List ℕ → ℕ → List ℕ → L.Answer
-  lookupBy T rows s r key = pick (writableBy 32 T rows s) (look (rowOf T) rows s r key) (l.Refused why.NotWritable)
+  lookupBy T rows s r key = cond (writableBy 32 T rows s) (look (rowOf T) rows s r key) (l.Refused why.NotWritable)
 
   unfoldable pub positionBy : List ℕ → ℕ → List ℕ → ℕ → Placed
   positionBy T rows s r = settled (lookupBy T rows s r (bytes "x")) (lookupBy T rows s r (bytes "y")) (lookupBy T rows s r (bytes "turn"))
@@ -96,11 +96,11 @@ module _ (at : Layout) where
       searched (relationTo (roomOf 4096 (length T)) (rowOf T) s key) (isMember (rowOf T) rows r) es (length es) (begun wanted (length es)) .value
 
   unfoldable pub rowAnswerBy : List ℕ → ℕ → List ℕ → ℕ → L.Answer
-  rowAnswerBy T rows s v = pick (ltb 0 v && ltb v rows) (answerAt (rowOf T) s v) (l.Refused why.NoMember)
+  rowAnswerBy T rows s v = cond (ltb 0 v && ltb v rows) (answerAt (rowOf T) s v) (l.Refused why.NoMember)
 
   unfoldable pub throughBy : List ℕ → ℕ → List ℕ → ℕ → List Member → List ℕ → L.Answer
   throughBy T rows s r es key =
-      pick (writableBy 32 T rows s) (rowAnswerBy T rows s (foundRowBy (writableBy 32 T rows s) T rows s r es key)) (l.Refused why.NotWritable)
+      cond (writableBy 32 T rows s) (rowAnswerBy T rows s (foundRowBy (writableBy 32 T rows s) T rows s r es key)) (l.Refused why.NotWritable)
 
   -- a text, the card's or behind it the defaults'
   unfoldable pub chosenBy : Source → Source → List ℕ → Choice

@@ -1,5 +1,5 @@
 -- What looking up a member answers, and document 02's numbers of its refusals. Defined for any table. Assumes nothing.
-use mathlib.Core.Bool.{Bool, true, false, cond}
+use mathlib.Core.Bool.{cond}
 use mathlib.Core.List.{List}
 use Prim.Native.Nat.{ℕ}
 use lib.Dec.{ltb, eqb}
@@ -75,10 +75,6 @@ module _ (row : ℕ → R.Row) where
   unfoldable pub look : ℕ → List ℕ → ℕ → List ℕ → Answer
   look rows s r key = foundAnswer s (find row s key (members row rows r))
 
-abbrev pub pick : Bool → Answer → Answer → Answer
-pick true x y = x
-pick false x y = y
-
 -- '11 first, for an unwritable table'
 unfoldable pub lookup : List ℕ → ℕ → List ℕ → ℕ → List ℕ → Answer
-lookup T rows s r key = pick (writable T rows s) (look (rowAt (roomOf 4096 (length T)) T) rows s r key) (Refused why.NotWritable)
+lookup T rows s r key = cond (writable T rows s) (look (rowAt (roomOf 4096 (length T)) T) rows s r key) (Refused why.NotWritable)

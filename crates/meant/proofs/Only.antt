@@ -18,7 +18,7 @@ use Rattle.draft.specs.Meaning.{says-holding, means}
 use Rattle.exact.proofs.Keys.{Distinct, Fresh, no-key, new-key, fresh-distinct}
 use Rattle.member.specs.declared.Member.{Member}
 use Rattle.member.specs.declared.Found.the-variants.{At}
-use Rattle.member.specs.Members.{memberOf, membersFrom, isStruct, members, keysOf, pickFound, hasKey, find, sameMember, isAmong}
+use Rattle.member.specs.Members.{memberOf, membersFrom, isStruct, members, keysOf, hasKey, find, sameMember, isAmong}
 use Rattle.member.proofs.Apart.{Apart, none-apart, and-apart, apart-from}
 use Rattle.meant.specs.Meant.{StructAt}
 use Rattle.meant.proofs.Structs.{kindAt, derived-structs}
@@ -183,7 +183,7 @@ module _ (row : ℕ → Row) (s : List ℕ) where
     found-only [] m ns d e = rw e
     found-only (x ∷ ms) m ns d e = go (hasKey row s key (x .key)) refl (found-only ms m ns (λ i j h k. d (suc i) (suc j) (omega arith) (omega arith)) e)
       where
-        go : (b : Bool) → hasKey row s key (x .key) ≡ b → find row s key (ms ++ (m ∷ ns)) ≡ At m → pickFound b (At x) (find row s key (ms ++ (m ∷ ns))) ≡ At m
+        go : (b : Bool) → hasKey row s key (x .key) ≡ b → find row s key (ms ++ (m ∷ ns)) ≡ At m → cond b (At x) (find row s key (ms ++ (m ∷ ns))) ≡ At m
         go true f g =
             let k = key-in ms m ns in
             absurd (d 0 (suc (length ms)) (omega arith) (omega arith) (has-text x f ∙ sym (has-text m e) ∙ sym (key-at ms m ns)))

@@ -1,6 +1,6 @@
 -- Rows that have a meaning answer by it: a value's row, the members of a Struct one by one, and a key looked up in a writable table. Assumes nothing.
 use mathlib.Core.Path.{_≡_, refl, ap, _∙_}
-use mathlib.Core.Bool.{Bool, true, false}
+use mathlib.Core.Bool.{Bool, true, false, cond}
 use mathlib.Core.List.{List, [], _∷_, _++_}
 use Prim.Native.Nat.{ℕ, zero, suc, _+_, _≤_, _<_}
 use native.Mathlib.Omega.{arith}
@@ -19,7 +19,7 @@ use Rattle.draft.specs.Read.{Texts}
 use Rattle.draft.specs.Grammar.{Payload, holding, Cell, cell, Sent, content-cell, struct-cell, Value, integer-value, boolean-value, double-value, datetime-value, binary-value, array-value, struct-value, string-value, other-value, array, Struct, struct, Pairs, no-pairs, more-pairs, pair, other, Derives}
 use Rattle.draft.specs.Meaning.{says-holding, says-number, says-contents, Means, means, Realises, no-more, and-then}
 use Rattle.member.specs.declared.Found.the-variants.{At}
-use Rattle.member.specs.Members.{memberOf, membersFrom, isStruct, members, pickFound, hasKey, find}
+use Rattle.member.specs.Members.{memberOf, membersFrom, isStruct, members, hasKey, find}
 use Rattle.lookup_answer.specs.declared.Refusal.the-variants as why
 use Rattle.lookup_answer.specs.declared.Answer.{Answer}
 use Rattle.lookup_answer.specs.declared.Answer.the-variants.{Refused}
@@ -99,7 +99,7 @@ module _ (row : ℕ → Row) (s : List ℕ) where
     answer n r = foundAnswer row s (find row s key (membersFrom row rows n r))
 
     one-member : (n r : ℕ) → r + 1 < rows → (b : Bool) → hasKey row s key r ≡ b
-        → answer (suc n) r ≡ foundAnswer row s (pickFound b (At (memberOf r (r + 1))) (find row s key (membersFrom row rows n (row (r + 1) .end))))
+        → answer (suc n) r ≡ foundAnswer row s (cond b (At (memberOf r (r + 1))) (find row s key (membersFrom row rows n (row (r + 1) .end))))
     unfolding membersFrom find
     one-member n r h b e = rw (lt-ltb (r + 1) rows h, e)
 

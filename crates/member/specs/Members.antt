@@ -1,6 +1,6 @@
 -- The members of a Struct, by rows, and the one that has a key. Defined for any rows: a row past the stated ones ends the members, and a row
 -- that is no Struct has none. Assumes nothing.
-use mathlib.Core.Bool.{Bool, true, false, cond, _&&_, _||_}
+use mathlib.Core.Bool.{Bool, false, cond, _&&_, _||_}
 use mathlib.Core.List.{List, [], _∷_}
 use Prim.Native.Nat.{ℕ, zero, suc, _+_}
 use lib.Dec.{ltb, eqb}
@@ -37,10 +37,6 @@ unfoldable pub isAmong : Member → List Member → Bool
 isAmong m [] = false
 isAmong m (x ∷ xs) = sameMember x m || isAmong m xs
 
-abbrev pub pickFound : Bool → Found → Found → Found
-pickFound true x y = x
-pickFound false x y = y
-
 -- the rows by their numbers, and the bytes that their texts lie in
 module _ (row : ℕ → Row) (s : List ℕ) where
   -- the text of row r has the bytes of a key
@@ -55,4 +51,4 @@ module _ (row : ℕ → Row) (s : List ℕ) where
   -- the first with a key; in a writable table it is the only one
   unfoldable pub find : List ℕ → List Member → Found
   find key [] = Absent
-  find key (m ∷ ms) = pickFound (hasKey key (m .key)) (At m) (find key ms)
+  find key (m ∷ ms) = cond (hasKey key (m .key)) (At m) (find key ms)

@@ -16,7 +16,7 @@ use Rattle.draft.specs.declared.Row.{Row}
 use Rattle.draft.specs.Read.{prefix, textOf}
 use Rattle.draft.specs.Table.{from}
 use Rattle.draft.specs.Grammar.{Sent, regular, recorded, recalled}
-use Rattle.draft.specs.Strings.{Text, isString, textsOf, kept, choose, sentOf, sents, cost}
+use Rattle.draft.specs.Strings.{Text, isString, textsOf, kept, sentOf, sents, cost}
 use Rattle.draft.specs.Written.{stringBytes, itemBytes, itemsOf, messageOf, written}
 use Rattle.extents.specs.Asked.{Ready}
 use Rattle.buckets.specs.Numbered.{textAt, Through, before}
@@ -37,7 +37,7 @@ use Rattle.sending.proofs.Collecting.{texts-string, texts-other, strings-there}
 use Rattle.sending.proofs.Sending.{string-cost}
 
 -- the most that a string takes
-cost-most : (x y : Bool) (p : ℕ) (t : Text) → cost (choose x (choose y (recalled p t) (recorded p t)) (regular t)) ≤ 6 + length t
+cost-most : (x y : Bool) (p : ℕ) (t : Text) → cost (cond x (cond y (recalled p t) (recorded p t)) (regular t)) ≤ 6 + length t
 unfolding cost
 cost-most true true p t = omega arith
 cost-most true false p t = omega arith

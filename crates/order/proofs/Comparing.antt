@@ -1,6 +1,6 @@
 -- What answers the turns and returns of the functions that compare texts. Assumes nothing.
 use mathlib.Core.Path.{_≡_, refl, sym, ap, _∙_}
-use mathlib.Core.Bool.{Bool, true, false}
+use mathlib.Core.Bool.{Bool, true, false, cond}
 use mathlib.Core.List.{List, [], _∷_}
 use Prim.Native.Nat.{ℕ, zero, suc, _+_, _*_, _-_, _≤_, _<_}
 use native.Mathlib.Omega.{arith}
@@ -11,7 +11,7 @@ use lib.Dec.{ltb}
 use borrow.Author.Tests.{lt-ltb, le-ltb, ltb-true, ltb-false}
 use Rattle.text.proofs.Walking.{Bytes, byte}
 use Rattle.order.specs.declared.Relation.the-variants.{Before, Equal, After}
-use Rattle.order.specs.ByteOrder.{pick, compared}
+use Rattle.order.specs.ByteOrder.{compared}
 use Rattle.order.specs.Alike.{Least, Alike, Ranked, rankFrom, rank}
 use Rattle.order.proofs.Ordering.{turned, compared-turned}
 
@@ -64,7 +64,7 @@ rank-before (suc m) n [] b f g h k l = absurd (omega arith)
 rank-before (suc m) n (x ∷ a) [] f g h k l = absurd (omega arith)
 rank-before (suc m) n (x ∷ a) (y ∷ b) f g h k l = go (rank-before m (n * 256 + x) a b (λ i. f (suc i)) (λ i. g (suc i)) (omega arith) (omega arith)) (ltb x y) refl (ltb y x) refl
   where
-    go : (rankFrom (n * 256 + x) (take m a) < rankFrom (n * 256 + x) (take m b) → compared a b ≡ Before) → (c : Bool) → ltb x y ≡ c → (d : Bool) → ltb y x ≡ d → pick c Before (pick d After (compared a b)) ≡ Before
+    go : (rankFrom (n * 256 + x) (take m a) < rankFrom (n * 256 + x) (take m b) → compared a b ≡ Before) → (c : Bool) → ltb x y ≡ c → (d : Bool) → ltb y x ≡ d → cond c Before (cond d After (compared a b)) ≡ Before
     go ih true t d u = refl
     go ih false t true u =
         let z = lower m (n * 256 + y) (n * 256 + x) b a (λ i. g (suc i)) (λ i. f (suc i)) (omega arith) (omega arith) (omega (arith, ltb-true y x u)) in

@@ -1,6 +1,6 @@
 -- Byte order is an order: of two texts one is before the other, or they are equal, and what is before stays so. Assumes nothing.
 use mathlib.Core.Path.{_≡_, refl, _∙_}
-use mathlib.Core.Bool.{Bool, true, false}
+use mathlib.Core.Bool.{Bool, true, false, cond}
 use mathlib.Core.List.{List, [], _∷_}
 use Prim.Native.Nat.{ℕ, _<_}
 use native.Mathlib.Omega.{arith}
@@ -8,7 +8,7 @@ use lib.Dec.{ltb}
 use borrow.Author.Tests.{lt-ltb, le-ltb, ltb-true, ltb-false}
 use Rattle.order.specs.declared.Relation.{Relation}
 use Rattle.order.specs.declared.Relation.the-variants.{Before, Equal, After}
-use Rattle.order.specs.ByteOrder.{pick, compared}
+use Rattle.order.specs.ByteOrder.{compared}
 
 -- two of the three are never the same
 pub before-equal : {X : Type 0} {r : Relation} → r ≡ Before → r ≡ Equal → X
@@ -33,7 +33,7 @@ compared-equal [] (y ∷ b) e = before-equal refl e
 compared-equal (x ∷ a) [] e = equal-after e refl
 compared-equal (x ∷ a) (y ∷ b) e = go (compared-equal a b) (ltb x y) refl (ltb y x) refl e
   where
-    go : (compared a b ≡ Equal → a ≡ b) → (p : Bool) → ltb x y ≡ p → (q : Bool) → ltb y x ≡ q → pick p Before (pick q After (compared a b)) ≡ Equal → x ∷ a ≡ y ∷ b
+    go : (compared a b ≡ Equal → a ≡ b) → (p : Bool) → ltb x y ≡ p → (q : Bool) → ltb y x ≡ q → cond p Before (cond q After (compared a b)) ≡ Equal → x ∷ a ≡ y ∷ b
     go ih true f q g e = before-equal refl e
     go ih false f true g e = equal-after e refl
     go ih false f false g e = let h : x ≡ y = omega (arith, ltb-false x y f, ltb-false y x g) in rw (h, ih e)
@@ -51,7 +51,7 @@ compared-turned [] (y ∷ b) = refl
 compared-turned (x ∷ a) [] = refl
 compared-turned (x ∷ a) (y ∷ b) = go (compared-turned a b) (ltb x y) refl (ltb y x) refl
   where
-    go : compared b a ≡ turned (compared a b) → (p : Bool) → ltb x y ≡ p → (q : Bool) → ltb y x ≡ q → pick q Before (pick p After (compared b a)) ≡ turned (pick p Before (pick q After (compared a b)))
+    go : compared b a ≡ turned (compared a b) → (p : Bool) → ltb x y ≡ p → (q : Bool) → ltb y x ≡ q → cond q Before (cond p After (compared b a)) ≡ turned (cond p Before (cond q After (compared a b)))
     go ih true f true g = absurd (omega (arith, ltb-true x y f, ltb-true y x g))
     go ih true f false g = refl
     go ih false f true g = refl
@@ -72,7 +72,7 @@ less-less (x ∷ a) (y ∷ b) [] e f = before-after f refl
 less-less (x ∷ a) (y ∷ b) (z ∷ c) e f = go (less-less a b c) (ltb x y) refl (ltb y x) refl (ltb y z) refl (ltb z y) refl e f
   where
     go : (compared a b ≡ Before → compared b c ≡ Before → compared a c ≡ Before) → (p : Bool) → ltb x y ≡ p → (q : Bool) → ltb y x ≡ q → (r : Bool) → ltb y z ≡ r → (t : Bool) → ltb z y ≡ t
-        → pick p Before (pick q After (compared a b)) ≡ Before → pick r Before (pick t After (compared b c)) ≡ Before → pick (ltb x z) Before (pick (ltb z x) After (compared a c)) ≡ Before
+        → cond p Before (cond q After (compared a b)) ≡ Before → cond r Before (cond t After (compared b c)) ≡ Before → cond (ltb x z) Before (cond (ltb z x) After (compared a c)) ≡ Before
     go ih true l q m true n t o e f = let h : x < z = omega (arith, ltb-true x y l, ltb-true y z n) in simp (lt-ltb x z h)
     go ih true l q m false n true o e f = before-after f refl
     go ih true l q m false n false o e f = let h : x < z = omega (arith, ltb-true x y l, ltb-false y z n, ltb-false z y o) in simp (lt-ltb x z h)

@@ -1,13 +1,14 @@
 -- The state of a message in pieces as six words that the caller keeps, and back. Assumes nothing.
 use mathlib.Core.Path.{_≡_}
+use mathlib.Core.Bool.{cond}
 use mathlib.Core.List.{List, [], _∷_}
 use Prim.Native.Nat.{ℕ}
 use lib.ListN.{getD}
 use lib.Dec.{eqb}
 use Rattle.pieces.specs.declared.State.{State}
 use Rattle.pieces.specs.declared.State.the-variants.{More, Accepted, Refused}
-use Rattle.pieces.specs.Pieces.{Told, more, accepted, refusal, pickTold}
-use Rattle.pieces.specs.Steps.{numberFor, refusalFor, pickState}
+use Rattle.pieces.specs.Pieces.{Told, more, accepted, refusal}
+use Rattle.pieces.specs.Steps.{numberFor, refusalFor}
 use Rattle.pieces.specs.Runs.{begun}
 
 -- the answer: 255 if more is wanted, 0 for acceptance, or the refusal's number
@@ -30,15 +31,15 @@ pub record Kept (state : State) (w : List ℕ) (n : ℕ) : Type 0 where
 -- what six words tell their caller: more is wanted, or an answer with its numbers
 abbrev pub toldBy : List ℕ → Told
 toldBy w =
-    pickTold (eqb (getD w 0 0) 255) more
-    (pickTold (eqb (getD w 0 0) 0) (accepted (getD w 1 0) (getD w 2 0)) (refusal (getD w 0 0) (getD w 3 0)))
+    cond (eqb (getD w 0 0) 255) more
+    (cond (eqb (getD w 0 0) 0) (accepted (getD w 1 0) (getD w 2 0)) (refusal (getD w 0 0) (getD w 3 0)))
 
 -- the state that some words are, which are any. No message is accepted with 0 rows: words that say so, as words of zeros do, are a message that has
 -- just begun, whatever the others are
 abbrev pub stateFor : ℕ → ℕ → ℕ → ℕ → ℕ → ℕ → State
 stateFor answer rows used place held wanted =
-    pickState (eqb answer 255) (More held wanted place)
-    (pickState (eqb answer 0) (pickState (eqb rows 0) begun (Accepted rows used)) (Refused (refusalFor answer) place))
+    cond (eqb answer 255) (More held wanted place)
+    (cond (eqb answer 0) (cond (eqb rows 0) begun (Accepted rows used)) (Refused (refusalFor answer) place))
 
 unfoldable pub stateOf : List ℕ → State
 stateOf w = stateFor (getD w 0 0) (getD w 1 0) (getD w 2 0) (getD w 3 0) (getD w 4 0) (getD w 5 0)

@@ -1,6 +1,6 @@
 -- What each call does, for any limit of nesting, state, room and table. Assumes nothing.
 use mathlib.Core.Path.{_≡_}
-use mathlib.Core.Bool.{Bool, true, false}
+use mathlib.Core.Bool.{cond}
 use mathlib.Core.List.{List}
 use Prim.Native.Nat.{ℕ, _+_, _-_, min}
 use lib.ListN.{length, take, replicate}
@@ -11,7 +11,7 @@ use Rattle.draft.specs.Limits.{allowed}
 use Rattle.draft.specs.Read.{Reading, got, refused}
 use Rattle.wanting.specs.Want.{wantOf}
 use Rattle.read_answer.specs.Answers.{reading}
-use Rattle.rereading.specs.Rereading.{pickList, tableRead}
+use Rattle.rereading.specs.Rereading.{tableRead}
 use Rattle.room.specs.Room.{taken, roomAfter}
 use Rattle.pieces.specs.declared.PieceRefusal.{PieceRefusal}
 use Rattle.pieces.specs.declared.PieceRefusal.the-variants.{Message, ShortRoom}
@@ -24,13 +24,9 @@ abbrev pub numberFor : PieceRefusal → ℕ
 numberFor (Message m) = numberOf m
 numberFor ShortRoom = 4
 
-abbrev pub pickRefusal : Bool → PieceRefusal → PieceRefusal → PieceRefusal
-pickRefusal true x y = x
-pickRefusal false x y = y
-
 -- the refusal that has a number
 abbrev pub refusalFor : ℕ → PieceRefusal
-refusalFor n = pickRefusal (eqb n 4) ShortRoom (Message (refusalOf n))
+refusalFor n = cond (eqb n 4) ShortRoom (Message (refusalOf n))
 
 -- what a state tells
 abbrev pub told : State → Told
@@ -38,14 +34,10 @@ told (More held wanted place) = more
 told (Accepted rows used) = accepted rows used
 told (Refused m place) = refusal (numberFor m) place
 
-abbrev pub pickState : Bool → State → State → State
-pickState true x y = x
-pickState false x y = y
-
 -- after n bytes more, with `held` held before: more is wanted; or 10, if there is no room for one of them
 abbrev pub stillMore : ℕ → ℕ → ℕ → ℕ → State
 stillMore held n wanted place =
-    pickState (ltb (65536 - held) n) (Refused (Message TooLong) 0) (More (held + n) wanted place)
+    cond (ltb (65536 - held) n) (Refused (Message TooLong) 0) (More (held + n) wanted place)
 
 -- how many bytes are wanted where the bytes s are refused with 1 at a place: as many as the item there has, and at most 65,537, since
 -- with that byte there is an answer
@@ -56,7 +48,7 @@ wantedOf s place = min 65537 (wantOf s place)
 abbrev pub stateOf : ℕ → ℕ → List ℕ → Reading → State
 stateOf held n s (got rows used book) = Accepted (length rows) used
 stateOf held n s (refused m place) =
-    pickState (eqb (numberOf m) 1) (stillMore held n (wantedOf s place) place) (Refused (Message m) place)
+    cond (eqb (numberOf m) 1) (stillMore held n (wantedOf s place) place) (Refused (Message m) place)
 
 -- the bytes held after a piece
 abbrev pub bytesHeld : ℕ → List ℕ → List ℕ → List ℕ
@@ -66,23 +58,23 @@ bytesHeld held p R = take (held + taken held p) (roomAfter held p R)
 -- gives, with more than 65,536 bytes held, is refused with 10
 unfoldable pub stateWent : ℕ → State → List ℕ → List ℕ → ℕ → State
 stateWent limit (More held wanted place) p R words =
-    pickState (ltb 65536 held) (Refused (Message TooLong) 0)
-    (pickState (ltb (held + taken held p) wanted) (stillMore held (length p) wanted place)
+    cond (ltb 65536 held) (Refused (Message TooLong) 0)
+    (cond (ltb (held + taken held p) wanted) (stillMore held (length p) wanted place)
     (stateOf held (length p) (bytesHeld held p R) (reading limit (bytesHeld held p R) words)))
 stateWent limit (Accepted rows used) p R words = Accepted rows used
 stateWent limit (Refused m place) p R words = Refused m place
 
 -- the room after it
 unfoldable pub roomWent : State → List ℕ → List ℕ → List ℕ
-roomWent (More held wanted place) p R = pickList (ltb 65536 held) R (roomAfter held p R)
+roomWent (More held wanted place) p R = cond (ltb 65536 held) R (roomAfter held p R)
 roomWent (Accepted rows used) p R = R
 roomWent (Refused m place) p R = R
 
 -- the table after it
 unfoldable pub tableWent : ℕ → State → List ℕ → List ℕ → List ℕ → List ℕ
 tableWent limit (More held wanted place) p R T =
-    pickList (ltb 65536 held) T
-    (pickList (ltb (held + taken held p) wanted) T (tableRead limit wanted (bytesHeld held p R) T))
+    cond (ltb 65536 held) T
+    (cond (ltb (held + taken held p) wanted) T (tableRead limit wanted (bytesHeld held p R) T))
 tableWent limit (Accepted rows used) p R T = T
 tableWent limit (Refused m place) p R T = T
 
@@ -94,11 +86,11 @@ pub record Settled (limit held n wanted : ℕ) (s T T′ : List ℕ) (state : St
 -- what is refused before all else, whatever the state: 23, then 4
 abbrev pub atFirst : ℕ → ℕ → State → State
 atFirst limit bytes state =
-    pickState (allowed limit) (pickState (ltb bytes 65536) (Refused ShortRoom 0) state) (Refused (Message NoLimit) 0)
+    cond (allowed limit) (cond (ltb bytes 65536) (Refused ShortRoom 0) state) (Refused (Message NoLimit) 0)
 
 -- what is left of lent words or bytes: where that is refused, the first
 abbrev pub thenLeft : ℕ → ℕ → List ℕ → List ℕ → List ℕ
-thenLeft limit bytes first left = pickList (allowed limit) (pickList (ltb bytes 65536) first left) first
+thenLeft limit bytes first left = cond (allowed limit) (cond (ltb bytes 65536) first left) first
 
 -- what a call with a piece p did
 pub record Went (limit : ℕ) (state : State) (p R T R′ T′ : List ℕ) (state′ : State) : Type 0 where

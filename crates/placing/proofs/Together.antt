@@ -1,6 +1,6 @@
 -- What three answers are together, said of each by itself. Assumes nothing.
 use mathlib.Core.Path.{_≡_, refl, ap, _∙_}
-use mathlib.Core.Bool.{Bool, true, false, _||_}
+use mathlib.Core.Bool.{Bool, true, false, _||_, cond}
 use Prim.Native.Nat.{ℕ}
 use native.Mathlib.Omega.{arith}
 use lib.Dec.{eqb}
@@ -15,12 +15,12 @@ use Rattle.lookup_answer.specs.Reports.{plusZero}
 use Rattle.placing.specs.declared.Outcome.the-variants as outcome
 use Rattle.placing.specs.declared.Position.{Position}
 use Rattle.placing.specs.declared.Placed.{Placed}
-use Rattle.placing.specs.Placing.{coordinateNumber, coordinateValue, at, acceptedAt, refusedWith, pick, isAny, together, settled}
+use Rattle.placing.specs.Placing.{coordinateNumber, coordinateValue, at, acceptedAt, refusedWith, isAny, together, settled}
 
 -- ---- three tests
 
 abbrev picked : Bool → Bool → Bool → Position → Placed
-picked i j k p = pick i (refusedWith NotWritable) (pick j (refusedWith NoMember) (pick k (refusedWith TooManyDigits) (acceptedAt p)))
+picked i j k p = cond i (refusedWith NotWritable) (cond j (refusedWith NoMember) (cond k (refusedWith TooManyDigits) (acceptedAt p)))
 
 not-both : {X : Type 0} (why : Why.Refusal) {q : Position} → refusedWith why ≡ acceptedAt q → X
 not-both why e = let f : outcome.Refused why ≡ outcome.Accepted = ap (λ (p : Placed). p .outcome) e in let z : _≡_ {A = ℕ} 0 1 = cc in absurd (omega arith)

@@ -1,5 +1,5 @@
 -- A position: the members x, y and turn of one Struct, looked up, and what they are together. Assumes nothing.
-use mathlib.Core.Bool.{Bool, true, false, _||_}
+use mathlib.Core.Bool.{Bool, _||_, cond}
 use mathlib.Core.List.{List}
 use Prim.Native.Nat.{ℕ}
 use lib.Dec.{eqb}
@@ -48,19 +48,15 @@ acceptedAt p = record { outcome = outcome.Accepted; position = p }
 abbrev pub refusedWith : Why.Refusal → Placed
 refusedWith why = record { outcome = outcome.Refused why; position = at plusZero plusZero plusZero }
 
-abbrev pub pick : Bool → Placed → Placed → Placed
-pick true p q = p
-pick false p q = q
-
 unfoldable pub isAny : ℕ → ℕ → ℕ → ℕ → Bool
 isAny n x y turn = eqb x n || eqb y n || eqb turn n
 
 -- 11 first; 18 'over all members asked for; then 19'
 unfoldable pub together : ℕ → ℕ → ℕ → Position → Placed
 together x y turn p =
-    pick (isAny 11 x y turn) (refusedWith NotWritable)
-    (pick (isAny 18 x y turn) (refusedWith NoMember)
-    (pick (isAny 19 x y turn) (refusedWith TooManyDigits) (acceptedAt p)))
+    cond (isAny 11 x y turn) (refusedWith NotWritable)
+    (cond (isAny 18 x y turn) (refusedWith NoMember)
+    (cond (isAny 19 x y turn) (refusedWith TooManyDigits) (acceptedAt p)))
 
 unfoldable pub settled : Answer → Answer → Answer → Placed
 settled x y turn =

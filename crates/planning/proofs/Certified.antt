@@ -1,7 +1,7 @@
 -- Prices prove what any legal sending costs at least. Assumes nothing.
 use Prim.Native.Nat.{ℕ, zero, suc, _+_, _*_, _≤_, _<_}
 use mathlib.Core.Path.{_≡_, refl}
-use mathlib.Core.Bool.{Bool, true, false}
+use mathlib.Core.Bool.{Bool, true, false, cond}
 use mathlib.Core.Option.{Option, some, none}
 use mathlib.Core.List.{List, [], _∷_}
 use native.Mathlib.Omega.{arith}
@@ -14,7 +14,7 @@ use Rattle.written.proofs.Sending.{texts}
 use Rattle.planning.proofs.Positions.{Within, within-none, within-regular, within-recorded, within-recalled}
 use Rattle.draft.specs.Strings.{Text, cost, costs}
 use Rattle.text.specs.Texts.{same}
-use Rattle.prices.specs.Prices.{pick, price, later, total, Past, worth, share, left, passed, shares, bound}
+use Rattle.prices.specs.Prices.{price, later, total, Past, worth, share, left, passed, shares, bound}
 use Rattle.text.proofs.Comparing.{same-is, same-self}
 use Rattle.planning.proofs.Sums.{sum, each, but}
 
@@ -37,7 +37,7 @@ record Turn (n w s e : ℕ) : Type 0 where
 turn : (n w : ℕ) → Turn n w (share n w) (left n w)
 turn n w = go (ltb (3 + n) w) refl
   where
-    go : (b : Bool) → ltb (3 + n) w ≡ b → Turn n w (pick b (5 + n) (2 + w)) (pick b 1 0)
+    go : (b : Bool) → ltb (3 + n) w ≡ b → Turn n w (cond b (5 + n) (2 + w)) (cond b 1 0)
     go true e = let l = ltb-true (3 + n) w e in record { anew = omega arith; record-it = omega arith; recall-it = omega arith; less = omega arith }
     go false e = let l = ltb-false (3 + n) w e in record { anew = omega arith; record-it = omega arith; recall-it = omega arith; less = omega arith }
 
@@ -51,7 +51,7 @@ module _ (hs : List Past) (y : ℕ) (t : Text) where
   grows none = omega arith
   grows (some u) = go (same u t) refl
     where
-      go : (b : Bool) → same u t ≡ b → y + pick b (left (length t) (worth hs t)) (worth hs u) ≤ y + worth hs u
+      go : (b : Bool) → same u t ≡ b → y + cond b (left (length t) (worth hs t)) (worth hs u) ≤ y + worth hs u
       go true s = rw (same-is u t s) (omega (arith, it .less))
       go false s = omega arith
 

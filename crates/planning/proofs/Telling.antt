@@ -1,6 +1,6 @@
 -- Bytes and what they mean tell how the strings were sent: a message that has one meaning sends its strings in one way. Assumes nothing.
 use mathlib.Core.Path.{_≡_, refl, sym, ap, _∙_}
-use mathlib.Core.Bool.{Bool, true, false}
+use mathlib.Core.Bool.{cond}
 use mathlib.Core.List.{List, [], _∷_, _++_, append-assoc, append-nil}
 use Prim.Native.Nat.{ℕ, suc, _+_}
 use Prim.Native.Char.{code}
@@ -13,23 +13,19 @@ use Rattle.draft.specs.Bytes.{byteAt}
 use Rattle.draft.specs.Rows.{kindOf, itemOf}
 use Rattle.draft.specs.Read.{Texts, prefix}
 use Rattle.draft.specs.Written.{lsb, counted}
-use Rattle.draft.specs.Strings.{Text, cost, choose}
+use Rattle.draft.specs.Strings.{Text, cost}
 use Rattle.draft.specs.Grammar.{Cell, cell, content-cell, Sent, regular, recorded, recalled, Message, call-message, response-message, Call, call, Response, value-response, fault-response, fault, Value, integer-value, boolean-value, double-value, datetime-value, array-value, struct-value, string-value, other-value, integer, boolean-true, boolean-false, double, datetime, binary-value, Binary, binary, Array, array, Values, no-values, more-values, Struct, struct, Pairs, no-pairs, more-pairs, Pair, pair, Other, other, String, regular-string, recorded-string, recalled-string, string-data}
 use Rattle.written.proofs.Forming.{content as contentIn, bytesFor}
 
 -- the string of the text t at the front of the bytes
 abbrev sentIn : List ℕ → Text → Sent
-sentIn xs t = choose (eqb (byteAt xs 0) (code "U")) (regular t) (choose (eqb (byteAt xs 0) (code ">")) (recorded (byteAt xs 1) t) (recalled (byteAt xs 1) t))
-
-abbrev passing : Bool → List Sent → List Sent → List Sent
-passing true x y = x
-passing false x y = y
+sentIn xs t = cond (eqb (byteAt xs 0) (code "U")) (regular t) (cond (eqb (byteAt xs 0) (code ">")) (recorded (byteAt xs 1) t) (recalled (byteAt xs 1) t))
 
 -- how the strings of the cells are sent in the bytes
 unfoldable told : List Cell → List ℕ → List Sent
 told [] xs = []
 told (cell k m p ∷ cs) xs =
-    passing (eqb k (kindOf content.Text))
+    cond (eqb k (kindOf content.Text))
     (sentIn xs (contentIn p) ∷ told cs (drop (cost (sentIn xs (contentIn p))) xs))
     (told cs (drop (length (bytesFor (itemOf k) p)) xs))
 

@@ -1,7 +1,7 @@
 -- What answers the returns and turns of the functions that judge a plan. Assumes nothing.
 use Prim.Native.Nat.{ℕ, zero, suc, _+_, _-_, _*_, _≤_, _<_}
 use mathlib.Core.Path.{_≡_, refl, sym, ap, _∙_}
-use mathlib.Core.Bool.{Bool, true, false, _&&_}
+use mathlib.Core.Bool.{Bool, true, false, _&&_, cond}
 use mathlib.Core.Option.{Option, some, none}
 use mathlib.Core.List.{List, [], _∷_}
 use native.Mathlib.Omega.{arith}
@@ -13,7 +13,7 @@ use borrow.Author.Tests.{eqb-true, eqb-false, eq-eqb, ne-eqb, lt-leb}
 use Rattle.text.specs.Texts.{same}
 use Rattle.text.proofs.Comparing.{clash, both}
 use Rattle.draft.specs.Table.{from}
-use Rattle.draft.specs.Grammar.{Recording, text-at, first, look, after}
+use Rattle.draft.specs.Grammar.{Recording, text-at, look, after}
 use Rattle.draft.specs.Strings.{Text}
 use Rattle.buckets.proofs.Numbered.{from-step, from-none}
 use Rattle.plans.specs.Plans.{formAt, positionAt, sentBy, sentAt, valued, maySend, takenFrom, taken}
@@ -48,7 +48,7 @@ module _ (t : ℕ → Text) (j p : ℕ) {book : List ℕ} (n : Named j book) whe
   recorded-at : (R : List Recording) → Spots t book R → p < 256 → (q : ℕ) → Spot t (getD (set book p (j + 1)) q 0) (look q (text-at p (t j) ∷ R))
   recorded-at R s l q = go (eqb q p) refl
     where
-      go : (b : Bool) → eqb q p ≡ b → Spot t (getD (set book p (j + 1)) q 0) (first b (some (t j)) (look q R))
+      go : (b : Bool) → eqb q p ≡ b → Spot t (getD (set book p (j + 1)) q 0) (cond b (some (t j)) (look q R))
       go true e = rw (eqb-true q p e, getD-set-same book p (j + 1) 0 (omega (arith, n .room)), add-one) (holds {k = j})
       go false e = rw (getD-set-other book p q (j + 1) 0 (eqb-false q p e)) (s .at q)
 

@@ -1,7 +1,7 @@
 -- What answers each return of the function that says how a string is sent; and that it is sent as the written form has it. Assumes nothing.
 use Prim.Native.Nat.{ℕ, _≤_, _<_}
 use mathlib.Core.Path.{_≡_, refl, sym, ap, _∙_}
-use mathlib.Core.Bool.{Bool, true, false}
+use mathlib.Core.Bool.{Bool, true, false, cond}
 use mathlib.Core.List.{List}
 use native.Mathlib.Omega.{arith}
 use lib.ListN.{length, getD}
@@ -9,7 +9,7 @@ use lib.Dec.{ltb}
 use borrow.Author.Tests.{ltb-true, lt-ltb, le-ltb}
 use Rattle.text.specs.Texts.{among}
 use Rattle.draft.specs.Grammar.{regular, recorded, recalled}
-use Rattle.draft.specs.Strings.{Text, position, choose, sentOf}
+use Rattle.draft.specs.Strings.{Text, position, sentOf}
 use Rattle.positions.specs.declared.Sending.the-variants as sending
 use Rattle.buckets.specs.Numbered.{before, First, Firsts}
 use Rattle.positions.specs.Contract.{Slot, Slots, Ready, told, SentBy}
@@ -39,12 +39,12 @@ told-is P t {n} {fs} {sp} j f o h =
     let q : Slot P (t (getD fs j 0)) (getD sp (getD fs j 0) 0) = o .at (getD fs j 0) (omega (arith, e .within)) (first-own t e) in
     go (t j) (t (getD fs j 0)) (e .equal) (getD sp (getD fs j 0) 0) (seen-first t e) q
   where
-    go : (u v : Text) → v ≡ u → (p : ℕ) → among (before t j) u ≡ ltb (getD fs j 0) j → Slot P v p → choose (ltb p 256) (choose (ltb (getD fs j 0) j) (recalled p u) (recorded p u)) (regular u) ≡ sentOf P (before t j) u
+    go : (u v : Text) → v ≡ u → (p : ℕ) → among (before t j) u ≡ ltb (getD fs j 0) j → Slot P v p → cond (ltb p 256) (cond (ltb (getD fs j 0) j) (recalled p u) (recorded p u)) (regular u) ≡ sentOf P (before t j) u
     go u v e p b s =
         let m : among P u ≡ ltb p 256 = ap (among P) (sym e) ∙ s .has in
         rw (m, b) (known (ltb p 256) refl)
       where
-        known : (x : Bool) → ltb p 256 ≡ x → choose x (choose (ltb (getD fs j 0) j) (recalled p u) (recorded p u)) (regular u) ≡ choose x (choose (ltb (getD fs j 0) j) (recalled (position P u) u) (recorded (position P u) u)) (regular u)
+        known : (x : Bool) → ltb p 256 ≡ x → cond x (cond (ltb (getD fs j 0) j) (recalled p u) (recorded p u)) (regular u) ≡ cond x (cond (ltb (getD fs j 0) j) (recalled (position P u) u) (recorded (position P u) u)) (regular u)
         known false f = refl
         known true f =
             let q : position P u ≡ p = ap (position P) (sym e) ∙ s .at (ltb-true p 256 f) in

@@ -1,13 +1,14 @@
 -- What the functions on positions ask and what they do, as against the definition of how strings are sent. Assumes nothing.
 use Prim.Native.Nat.{ℕ, _≤_, _<_}
 use mathlib.Core.Path.{_≡_}
+use mathlib.Core.Bool.{cond}
 use mathlib.Core.List.{List}
 use lib.ListN.{length, getD}
 use lib.Dec.{ltb}
 use Rattle.text.specs.Texts.{among}
 use Rattle.draft.specs.Table.{from}
 use Rattle.draft.specs.Grammar.{Sent, regular, recorded, recalled}
-use Rattle.draft.specs.Strings.{Text, kept, position, choose}
+use Rattle.draft.specs.Strings.{Text, kept, position}
 use Rattle.buckets.specs.Numbered.{First, Firsts, Marks}
 use Rattle.positions.specs.declared.Sending.{Sending}
 use Rattle.positions.specs.declared.Sending.the-variants as sending
@@ -51,8 +52,8 @@ sent (sending.Recalled p) t = recalled p t
 -- how string j is sent, of the text t, whose first string and position the words have
 unfoldable pub told : List ℕ → List ℕ → ℕ → Text → Sent
 told fs sp j t =
-    choose (ltb (getD sp (getD fs j 0) 0) 256)
-    (choose (ltb (getD fs j 0) j) (recalled (getD sp (getD fs j 0) 0) t) (recorded (getD sp (getD fs j 0) 0) t))
+    cond (ltb (getD sp (getD fs j 0) 0) 256)
+    (cond (ltb (getD fs j 0) j) (recalled (getD sp (getD fs j 0) 0) t) (recorded (getD sp (getD fs j 0) 0) t))
     (regular t)
 
 pub record SentBy (fs sp : List ℕ) (j : ℕ) (r : Sending) : Type 0 where

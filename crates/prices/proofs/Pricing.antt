@@ -1,7 +1,7 @@
 -- What answers the returns and turns of the functions that add up prices: the loop computes the bound. Assumes nothing.
 use Prim.Native.Nat.{ℕ, zero, suc, _+_, _-_, _*_, _≤_, _<_}
 use mathlib.Core.Path.{_≡_, refl, sym, ap, _∙_}
-use mathlib.Core.Bool.{Bool, true, false}
+use mathlib.Core.Bool.{Bool, true, false, cond}
 use mathlib.Core.List.{List, [], _∷_}
 use native.Mathlib.Omega.{arith}
 use borrow.Author.Needs.{needs}
@@ -19,7 +19,7 @@ use Rattle.draft.specs.Strings.{Text}
 use Rattle.buckets.specs.Numbered.{textAt, First, Firsts}
 use Rattle.buckets.proofs.Numbered.{first-own}
 use Rattle.buckets.proofs.Comparing.{text-short}
-use Rattle.prices.specs.Prices.{pick, total, Past, worth, share, left, passed, shares, bound}
+use Rattle.prices.specs.Prices.{total, Past, worth, share, left, passed, shares, bound}
 use Rattle.prices.specs.Contract.{Worth, Priced}
 
 -- the first j strings as the bound passes them, their shares, and their prices
@@ -129,7 +129,7 @@ module _ {t : ℕ → Text} {ys ms : List ℕ} {n j least paid f size w s e y : 
   unfolding history worth
   marks-on k l h = go (eqb k f) refl
     where
-      go : (b : Bool) → eqb k f ≡ b → getD (set ms f (paid - e)) k 0 + (at ys j + pick (same (t k) (t j)) (left (length (t j)) (worth (history t (at ys) j) (t j))) (worth (history t (at ys) j) (t k))) ≡ paid + y
+      go : (b : Bool) → eqb k f ≡ b → getD (set ms f (paid - e)) k 0 + (at ys j + cond (same (t k) (t j)) (left (length (t j)) (worth (history t (at ys) j) (t j))) (worth (history t (at ys) j) (t k))) ≡ paid + y
       go true g =
           let q = eqb-true k f g in
           let z = getD-set-same ms f (paid - e) 0 (c .room) in

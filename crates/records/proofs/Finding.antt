@@ -1,6 +1,6 @@
 -- Going from record to record: one step of the definition, and what looking at a record can give. Assumes nothing.
 use mathlib.Core.Path.{_≡_, refl, sym, ap, _∙_}
-use mathlib.Core.Bool.{Bool, true, false}
+use mathlib.Core.Bool.{Bool, true, false, cond}
 use mathlib.Core.List.{List, [], _∷_}
 use Prim.Native.Nat.{ℕ, zero, suc, _+_, _≤_, _<_}
 use native.Mathlib.Omega.{arith}
@@ -15,7 +15,7 @@ use Rattle.records.specs.declared.Found.{Found}
 use Rattle.records.specs.declared.Found.the-variants.{Body, Missing}
 use Rattle.records.specs.declared.Look.{Look}
 use Rattle.records.specs.declared.Look.the-variants.{Settled, Onward}
-use Rattle.records.specs.Job.{kindAt, bodyLength, recordLength, endsWith, whole, pickRefusal, pickLook, recordSays, lookAt, onward, find}
+use Rattle.records.specs.Job.{kindAt, bodyLength, recordLength, endsWith, whole, recordSays, lookAt, onward, find}
 
 pub find-ends : (n cards at skip : ℕ) → find n cards at skip [] ≡ Missing FileEnded at
 unfolding find
@@ -53,11 +53,11 @@ pub data Looked (n cards at : ℕ) (s : List ℕ) : Look → Type 0 where
   other : recordLength s ≤ length s → kindAt s ≡ Other → Looked n cards at s (Onward cards (bodyLength s))
 
 module _ (n cards at : ℕ) (s : List ℕ) where
-  looked-card : (b : Bool) → eqb cards n ≡ b → recordLength s ≤ length s → kindAt s ≡ Card → Looked n cards at s (pickLook b (Settled (Body (at + 6) (bodyLength s))) (Onward (cards + 1) (bodyLength s)))
+  looked-card : (b : Bool) → eqb cards n ≡ b → recordLength s ≤ length s → kindAt s ≡ Card → Looked n cards at s (cond b (Settled (Body (at + 6) (bodyLength s))) (Onward (cards + 1) (bodyLength s)))
   looked-card true e w k = asked w k (eqb-true _ _ e)
   looked-card false e w k = passed w k (eqb-false _ _ e)
 
-  looked-end : (b : Bool) → endsWith s cards ≡ b → recordLength s ≤ length s → kindAt s ≡ End → Looked n cards at s (Settled (Missing (pickRefusal b NoCard WrongEnd) at))
+  looked-end : (b : Bool) → endsWith s cards ≡ b → recordLength s ≤ length s → kindAt s ≡ End → Looked n cards at s (Settled (Missing (cond b NoCard WrongEnd) at))
   looked-end true e w k = ended w k e
   looked-end false e w k = wrong w k e
 
@@ -66,7 +66,7 @@ module _ (n cards at : ℕ) (s : List ℕ) where
   looked-record End k w = looked-end (endsWith s cards) refl w k
   looked-record Other k w = other w k
 
-  looked-whole : (b : Bool) → whole s ≡ b → Looked n cards at s (pickLook b (recordSays (kindAt s) n cards at s) (Settled (Missing FileEnded at)))
+  looked-whole : (b : Bool) → whole s ≡ b → Looked n cards at s (cond b (recordSays (kindAt s) n cards at s) (Settled (Missing FileEnded at)))
   looked-whole true e = looked-record (kindAt s) refl (leb-true _ _ e)
   looked-whole false e = cut (leb-false _ _ e)
 

@@ -1,5 +1,6 @@
 -- What answers each return of the functions that look at one record. Assumes nothing.
 use mathlib.Core.Path.{_≡_, _∙_}
+use mathlib.Core.Bool.{cond}
 use mathlib.Core.List.{List}
 use Prim.Native.Nat.{ℕ, _+_, _*_, _-_, _≤_, _<_}
 use native.Mathlib.Omega.{arith}
@@ -13,7 +14,7 @@ use Rattle.records.specs.declared.JobRefusal.the-variants.{FileEnded, Wr
 use Rattle.records.specs.declared.Found.the-variants.{Body, Missing}
 use Rattle.records.specs.declared.Look.{Look}
 use Rattle.records.specs.declared.Look.the-variants.{Settled, Onward}
-use Rattle.records.specs.Job.{kindAt, recordLength, endsWith, pickRefusal, lookAt}
+use Rattle.records.specs.Job.{kindAt, recordLength, endsWith, lookAt}
 
 -- the kind, from its two bytes
 module _ (s : List ℕ) {a b : ℕ} (p : a ≡ getD s 4 0) (q : b ≡ getD s 5 0) where
@@ -28,14 +29,14 @@ module _ (s : List ℕ) {a b : ℕ} (p : a ≡ getD s 4 0) (q : b ≡ getD s 5 0
 
 -- a kind 2 record
 module _ (s : List ℕ) (cards : ℕ) {size : ℕ} (e : size ≡ unsignedAt s 0) where
-  pub end-of-wrong-length : (size ≡ 4 → ⊥) → WrongEnd ≡ pickRefusal (endsWith s cards) NoCard WrongEnd
+  pub end-of-wrong-length : (size ≡ 4 → ⊥) → WrongEnd ≡ cond (endsWith s cards) NoCard WrongEnd
   end-of-wrong-length n = rw (← e, ne-eqb _ _ n)
 
   module _ {counted : ℕ} (h : size ≡ 4) (f : counted ≡ unsignedAt s 6) where
-    pub end-sound : counted ≡ cards → NoCard ≡ pickRefusal (endsWith s cards) NoCard WrongEnd
+    pub end-sound : counted ≡ cards → NoCard ≡ cond (endsWith s cards) NoCard WrongEnd
     end-sound i = rw (← e, eq-eqb _ _ h, ← f, eq-eqb _ _ i)
 
-    pub end-of-wrong-number : (counted ≡ cards → ⊥) → WrongEnd ≡ pickRefusal (endsWith s cards) NoCard WrongEnd
+    pub end-of-wrong-number : (counted ≡ cards → ⊥) → WrongEnd ≡ cond (endsWith s cards) NoCard WrongEnd
     end-of-wrong-number n = rw (← e, eq-eqb _ _ h, ← f, ne-eqb _ _ n)
 
 pub ruleset records = (kind-card, kind-end, kind-other, end-of-wrong-length, end-sound, end-of-wrong-number)
@@ -63,7 +64,7 @@ module _ (n cards at : ℕ) (s : List ℕ) where
       unfolding lookAt
       look-card c m = rw (le-leb _ _ there, ← i, c, ne-eqb _ _ m, ← e)
 
-      pub look-end : {look : Look} {m : JobRefusal} → kind ≡ End → look ≡ Settled (Missing m at) → m ≡ pickRefusal (endsWith s cards) NoCard WrongEnd → look ≡ lookAt n cards at s
+      pub look-end : {look : Look} {m : JobRefusal} → kind ≡ End → look ≡ Settled (Missing m at) → m ≡ cond (endsWith s cards) NoCard WrongEnd → look ≡ lookAt n cards at s
       unfolding lookAt
       look-end c f m = f ∙ rw (le-leb _ _ there, ← i, c, m)
 

@@ -1,7 +1,7 @@
 -- What is found in a job file is what its records say: a card, and 15, 16 and 26, each exactly where document 02 has it; and bytes behind a card or
 -- a kind 2 record change nothing. Assumes nothing.
 use mathlib.Core.Path.{_≡_, refl, sym, ap, _∙_}
-use mathlib.Core.Bool.{Bool, true, false, _&&_}
+use mathlib.Core.Bool.{Bool, true, false, _&&_, cond}
 use mathlib.Core.Logic.{_↔_}
 use mathlib.Core.List.{List, _++_}
 use Prim.Native.Nat.{ℕ, _+_, _*_, _≤_, _<_}
@@ -17,7 +17,7 @@ use Rattle.records.specs.declared.JobRefusal.{JobRefusal}
 use Rattle.records.specs.declared.JobRefusal.the-variants.{FileEnded, WrongEnd, NoCard}
 use Rattle.records.specs.declared.Found.{Found}
 use Rattle.records.specs.declared.Found.the-variants.{Body, Missing}
-use Rattle.records.specs.Job.{refusalNumber, pickKind, kindAt, bodyLength, recordLength, endsWith, find, bodyOf}
+use Rattle.records.specs.Job.{refusalNumber, kindAt, bodyLength, recordLength, endsWith, find, bodyOf}
 use Rattle.records.specs.Records.{kindNumber, Stands, Due, first, past-card, past-other, CardAt, EndAt, Counts}
 use Rattle.records.proofs.Trails.{Trail, cut, asked, ended, wrong, passed, other, trail, step-cut, step-asked, step-passed, step-other, step-ended, step-wrong}
 
@@ -40,7 +40,7 @@ module _ (r : List ℕ) where
   numbered : Numbered (kindAt r)
   numbered = go (eqb (kindNumber r) 1) (eqb (kindNumber r) 2) refl refl
     where
-      go : (b c : Bool) → eqb (kindNumber r) 1 ≡ b → eqb (kindNumber r) 2 ≡ c → Numbered (pickKind b Card (pickKind c End Other))
+      go : (b c : Bool) → eqb (kindNumber r) 1 ≡ b → eqb (kindNumber r) 2 ≡ c → Numbered (cond b Card (cond c End Other))
       go true c e f = is-card (eqb-true _ _ e)
       go false true e f = is-end (eqb-true _ _ f)
       go false false e f = is-other (eqb-false _ _ e) (eqb-false _ _ f)

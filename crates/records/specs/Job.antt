@@ -1,7 +1,7 @@
 -- A job file: records, one after the other, each a four-byte body length, a two-byte kind and the body; and where a card's message lies in it.
 -- Card numbers count from 0; the file, the body lengths and the card numbers have no limit here. Assumes nothing.
 use Prim.Native.Nat.{ℕ, zero, suc, _+_, _*_}
-use mathlib.Core.Bool.{Bool, true, false, _&&_}
+use mathlib.Core.Bool.{Bool, _&&_, cond}
 use mathlib.Core.List.{List, [], _∷_}
 use lib.ListN.{length}
 use lib.Dec.{leb, eqb}
@@ -23,13 +23,9 @@ refusalNumber WrongEnd = 16
 -- a sound job ends before the card asked for
 refusalNumber NoCard = 26
 
-abbrev pub pickKind : Bool → Kind → Kind → Kind
-pickKind true x y = x
-pickKind false x y = y
-
 -- 1 is a card message, 2 ends the job, others are stepped over
 abbrev pub kindOf : ℕ → Kind
-kindOf n = pickKind (eqb n 1) Card (pickKind (eqb n 2) End Other)
+kindOf n = cond (eqb n 1) Card (cond (eqb n 2) End Other)
 
 -- of the record that some bytes begin with: its body's length, its kind, and its whole length
 abbrev pub bodyLength : List ℕ → ℕ
@@ -49,23 +45,15 @@ whole s = leb (recordLength s) (length s)
 abbrev pub endsWith : List ℕ → ℕ → Bool
 endsWith s cards = eqb (bodyLength s) 4 && eqb (unsignedAt s 6) cards
 
-abbrev pub pickRefusal : Bool → JobRefusal → JobRefusal → JobRefusal
-pickRefusal true x y = x
-pickRefusal false x y = y
-
-abbrev pub pickLook : Bool → Look → Look → Look
-pickLook true x y = x
-pickLook false x y = y
-
 -- what a whole record of a kind says to one who asks for card n: it stands at `at`, with so many cards before it, and s begins with it
 abbrev pub recordSays : Kind → ℕ → ℕ → ℕ → List ℕ → Look
-recordSays Card n cards at s = pickLook (eqb cards n) (Settled (Body (at + 6) (bodyLength s))) (Onward (cards + 1) (bodyLength s))
-recordSays End n cards at s = Settled (Missing (pickRefusal (endsWith s cards) NoCard WrongEnd) at)
+recordSays Card n cards at s = cond (eqb cards n) (Settled (Body (at + 6) (bodyLength s))) (Onward (cards + 1) (bodyLength s))
+recordSays End n cards at s = Settled (Missing (cond (endsWith s cards) NoCard WrongEnd) at)
 recordSays Other n cards at s = Onward cards (bodyLength s)
 
 -- the same, where the record may not stand whole
 unfoldable pub lookAt : ℕ → ℕ → ℕ → List ℕ → Look
-lookAt n cards at s = pickLook (whole s) (recordSays (kindAt s) n cards at s) (Settled (Missing FileEnded at))
+lookAt n cards at s = cond (whole s) (recordSays (kindAt s) n cards at s) (Settled (Missing FileEnded at))
 
 -- settled, or on to what is behind a record, with so many cards before it and so long a body
 abbrev pub onward : Look → (ℕ → ℕ → Found) → Found

@@ -1,8 +1,9 @@
 // The records of a job file, and what one of them says to one who asks for a card.
 ghost use mathlib.Core.Path.{_≡_};
+ghost use mathlib.Core.Bool.{cond};
 ghost use Prim.Native.Nat.{_+_, _≤_, _<_};
 ghost use lib.ListN.{length};
-ghost use Rattle.records.specs.Job.{refusalNumber, kindAt, recordLength, endsWith, pickRefusal, lookAt};
+ghost use Rattle.records.specs.Job.{refusalNumber, kindAt, recordLength, endsWith, lookAt};
 
 // The kinds of records.
 pub enum Kind {
@@ -66,7 +67,7 @@ fn kind_at(s: &[u8]) -> Kind
 // What a whole kind 2 record says when the card asked for has not come.
 fn end_says(s: &[u8], cards: usize) -> JobRefusal
     requires { ⌜ recordLength (now s) ≤ length (now s) ⌝ }
-    ensures { λ r. ⌜ r ≡ pickRefusal (endsWith (now (s .entry)) cards) JobRefusal.NoCard JobRefusal.WrongEnd ⌝ }
+    ensures { λ r. ⌜ r ≡ cond (endsWith (now (s .entry)) cards) JobRefusal.NoCard JobRefusal.WrongEnd ⌝ }
 {
     if item::unsigned(s, 0) == 4 {
         let counted = item::unsigned(s, HEAD);

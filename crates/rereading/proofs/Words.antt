@@ -1,6 +1,6 @@
 -- The words of a table: a message refused with 1 is so with more of them, and reading leaves as many as there were. Assumes nothing.
 use mathlib.Core.Path.{_≡_, refl, _∙_, ap}
-use mathlib.Core.Bool.{Bool, true, false}
+use mathlib.Core.Bool.{Bool, true, false, cond}
 use mathlib.Core.List.{List}
 use Prim.Native.Nat.{ℕ, _≤_}
 use native.Mathlib.Omega.{arith}
@@ -11,7 +11,7 @@ use Rattle.draft.specs.declared.Refusal.the-variants.{TooLong, TooDeep, NoRow, 
 use Rattle.draft.specs.Refusals.{numberOf}
 use Rattle.draft.specs.Limits.{allowed}
 use Rattle.draft.specs.Table.{roomOf}
-use Rattle.draft.specs.Read.{Reading, got, refused, pick, message, messageWithin}
+use Rattle.draft.specs.Read.{Reading, got, refused, message, messageWithin}
 use Rattle.table.proofs.Rows.{length-putRows}
 use Rattle.read_answer.specs.Answers.{reading, tableOf}
 use Rattle.exact.proofs.Growing.{no-longer, message-stays}
@@ -33,15 +33,15 @@ more-words limit s k words h {m} {q} e i = stated (allowed limit) e
     not-full f p g = let j : m ≡ NoRow = cc in omega (arith, i, ap numberOf j)
 
     by :
-        (b : Bool) → pick b (message s (roomOf 4096 k) limit) (refused TooLong 0) ≡ refused m q
-        → pick b (message s (roomOf 4096 words) limit) (refused TooLong 0) ≡ refused m q
+        (b : Bool) → cond b (message s (roomOf 4096 k) limit) (refused TooLong 0) ≡ refused m q
+        → cond b (message s (roomOf 4096 words) limit) (refused TooLong 0) ≡ refused m q
     by true f =
         stays-but (message-stays s s (roomOf 4096 k) (roomOf 4096 words) (no-longer s) (omega arith) limit limit (omega arith)) (λ z. clash z refl) (not-deep f) (not-full f)
         ∙ f
     by false f = f
 
     stated :
-        (a : Bool) → pick a (pick (leb (length s) 65536) (message s (roomOf 4096 k) limit) (refused TooLong 0)) (refused NoLimit 0) ≡ refused m q
-        → pick a (pick (leb (length s) 65536) (message s (roomOf 4096 words) limit) (refused TooLong 0)) (refused NoLimit 0) ≡ refused m q
+        (a : Bool) → cond a (cond (leb (length s) 65536) (message s (roomOf 4096 k) limit) (refused TooLong 0)) (refused NoLimit 0) ≡ refused m q
+        → cond a (cond (leb (length s) 65536) (message s (roomOf 4096 words) limit) (refused TooLong 0)) (refused NoLimit 0) ≡ refused m q
     stated true f = by (leb (length s) 65536) f
     stated false f = f

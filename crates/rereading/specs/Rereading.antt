@@ -1,7 +1,7 @@
 -- Reading the bytes of a message again that was refused with 1 when there were fewer, with the same limit of nesting: the table after it. Assumes
 -- nothing.
 use mathlib.Core.Path.{_≡_}
-use mathlib.Core.Bool.{Bool, true, false, _&&_}
+use mathlib.Core.Bool.{Bool, false, _&&_, cond}
 use mathlib.Core.List.{List, _++_}
 use Prim.Native.Nat.{ℕ, _*_, _/_}
 use lib.ListN.{length, drop, replicate}
@@ -16,18 +16,14 @@ abbrev pub refusedWithOne : Reading → Bool
 refusedWithOne (got rows used book) = false
 refusedWithOne (refused m place) = eqb (numberOf m) 1
 
-abbrev pub pickList : Bool → List ℕ → List ℕ → List ℕ
-pickList true x y = x
-pickList false x y = y
-
 -- the table after the bytes s were read, first with k words of it: refused with 1, the other words are left as they were
 abbrev pub tableTried : ℕ → ℕ → List ℕ → List ℕ → List ℕ
-tableTried limit k s T = pickList (refusedWithOne (reading limit s k)) (replicate k 0 ++ drop k T) (tableOf (length T) (reading limit s (length T)))
+tableTried limit k s T = cond (refusedWithOne (reading limit s k)) (replicate k 0 ++ drop k T) (tableOf (length T) (reading limit s (length T)))
 
 -- at first with all words; then, if there is room for more rows than there are bytes, with four words for each
 abbrev pub tableRead : ℕ → ℕ → List ℕ → List ℕ → List ℕ
 tableRead limit wanted s T =
-    pickList (ltb 0 wanted && ltb (length s) (length T / 4)) (tableTried limit (4 * length s) s T) (tableOf (length T) (reading limit s (length T)))
+    cond (ltb 0 wanted && ltb (length s) (length T / 4)) (tableTried limit (4 * length s) s T) (tableOf (length T) (reading limit s (length T)))
 
 -- what reading the bytes s into the first k words of the table did
 pub record PartRead (limit : ℕ) (s : List ℕ) (k : ℕ) (T T′ : List ℕ) (a : Answer) : Type 0 where

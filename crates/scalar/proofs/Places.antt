@@ -1,6 +1,6 @@
 -- Where the reading of a Value that nests nothing ends, or is refused, is in the message. Assumes nothing.
 use mathlib.Core.Path.{_≡_, refl, sym, ap, _∙_}
-use mathlib.Core.Bool.{Bool, true, false}
+use mathlib.Core.Bool.{Bool, true, false, cond}
 use mathlib.Core.List.{List}
 use Prim.Native.Nat.{ℕ, _+_, _≤_, _<_}
 use native.Mathlib.Omega.{arith}
@@ -22,14 +22,14 @@ use Rattle.draft.specs.declared.Row.{Row}
 use Rattle.draft.specs.Bytes.{byteAt}
 use Rattle.draft.specs.Codebook.{Book}
 use Rattle.draft.specs.Content.{verdict, allThere, contentRule, nameRule}
-use Rattle.draft.specs.Read.{Reading, got, refused, Reader, pick, then, judged, behind, pair, over, opened, present, contents, longItem, recalled, ifString, string, firstText, stringBy, name, only, floor, item, tagOf}
+use Rattle.draft.specs.Read.{Reading, got, refused, Reader, then, judged, behind, pair, over, opened, present, contents, longItem, recalled, ifString, string, firstText, stringBy, name, only, floor, item, tagOf}
 
 -- where a reading ends, or is refused
 abbrev pub In : List ℕ → Reading → Type 0
 In s (refused m p) = p ≤ length s
 In s (got rows to book) = to ≤ length s
 
-pick-in : (s : List ℕ) (b : Bool) (x y : Reading) → (b ≡ true → In s x) → In s y → In s (pick b x y)
+pick-in : (s : List ℕ) (b : Bool) (x y : Reading) → (b ≡ true → In s x) → In s y → In s (cond b x y)
 pick-in s true x y f g = f refl
 pick-in s false x y f g = g
 
@@ -59,7 +59,7 @@ module _ (s : List ℕ) (room : ℕ) where
 
   opened-in : (size at r : ℕ) (o : Reading) → at ≤ length s → (at + size ≤ length s → In s o) → In s (opened s room size at r o)
   opened-in size at r o h f =
-      pick-in s (ltb r room) (pick (leb (at + size) (length s)) o (refused Ended at)) (refused NoRow at) (λ _. pick-in s (leb (at + size) (length s)) o (refused Ended at) (λ e. f (leb-true (at + size) (length s) e)) h) h
+      pick-in s (ltb r room) (cond (leb (at + size) (length s)) o (refused Ended at)) (refused NoRow at) (λ _. pick-in s (leb (at + size) (length s)) o (refused Ended at) (λ e. f (leb-true (at + size) (length s) e)) h) h
 
   contents-in : (c : Content) (o n at r : ℕ) (book : Book) → at ≤ length s → In s (contents s room c o n at r book)
   unfolding contents verdict

@@ -1,6 +1,6 @@
 -- What answers each return of the functions that read a Value by its byte; and that what may nest plays no part in it. Assumes nothing.
 use mathlib.Core.Path.{_≡_, refl, sym, ap, _∙_}
-use mathlib.Core.Bool.{Bool, true, false, _||_}
+use mathlib.Core.Bool.{Bool, true, false, _||_, cond}
 use mathlib.Core.List.{List}
 use Prim.Native.Nat.{ℕ}
 use native.Mathlib.Omega.{arith}
@@ -14,7 +14,7 @@ use Rattle.draft.specs.declared.Plain.the-variants.{Integer, True, False, Doubl
 use Rattle.draft.specs.declared.Form.the-variants.{Regular, Recorded, Recalled}
 use Rattle.draft.specs.declared.Content.the-variants as content
 use Rattle.draft.specs.Codebook.{Book}
-use Rattle.draft.specs.Read.{Nest, floor, pickTag, tagOf, integerItem, booleanItem, shortItem, longItem, recordedItem, recalledItem, otherItem, item}
+use Rattle.draft.specs.Read.{Nest, floor, tagOf, integerItem, booleanItem, shortItem, longItem, recordedItem, recalledItem, otherItem, item}
 use Rattle.codebook.specs.Words.{bookOf}
 use Rattle.item.proofs.Tags.{tag-integer, tag-true, tag-false, tag-double, tag-date, tag-binary, tag-other, tag-regular, tag-recorded, tag-recalled, tag-unknown}
 use Rattle.item.specs.declared.Step.{Step}
@@ -128,7 +128,7 @@ unfolding tagOf
 flat-tag b m n =
     chosen (eqb b 73) (Plain Integer) _ tt (chosen (eqb b 116) (Plain True) _ tt (chosen (eqb b 102) (Plain False) _ tt (chosen (eqb b 68) (Plain Double) _ tt (chosen (eqb b 56) (Plain DateTime) _ tt (chosen (eqb b 66) (Plain Binary) _ tt (rw (ne-eqb b 65 m, ne-eqb b 83 n) (chosen (eqb b 79) (Plain Other) _ tt (chosen (eqb b 85) (String Regular) _ tt (chosen (eqb b 62) (String Recorded) _ tt (chosen (eqb b 60) (String Recalled) Unknown tt tt))))))))))
   where
-    chosen : (x : Bool) (t u : Tag) → Flat t → Flat u → Flat (pickTag x t u)
+    chosen : (x : Bool) (t u : Tag) → Flat t → Flat u → Flat (cond x t u)
     chosen true t u f g = f
     chosen false t u f g = g
 

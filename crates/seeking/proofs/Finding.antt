@@ -1,7 +1,7 @@
 -- What a search finds. Of any list: nothing, or the value of an entry that stands equal and whose rows are a member's. Of a list in order, all of
 -- whose entries that stand equal are members': one of these, if there is one. Assumes nothing.
 use mathlib.Core.Path.{_≡_, refl, ap, _∙_}
-use mathlib.Core.Bool.{Bool, true, false}
+use mathlib.Core.Bool.{Bool, true, false, cond}
 use mathlib.Core.List.{List}
 use Prim.Native.Nat.{ℕ, zero, suc, _+_, _-_, _/_, _≤_, _<_}
 use native.Mathlib.Omega.{arith}
@@ -13,7 +13,7 @@ use Rattle.order.specs.declared.Relation.{Relation}
 use Rattle.order.specs.declared.Relation.the-variants.{Before, Equal, After}
 use Rattle.order.proofs.Ordering.{before-equal, equal-after}
 use Rattle.seeking.specs.declared.Search.{Search}
-use Rattle.seeking.specs.Seeking.{over, search as searchAt, middle, between, ended, pick, begun, turned, unused, stepped, searched}
+use Rattle.seeking.specs.Seeking.{over, search as searchAt, middle, between, ended, begun, turned, unused, stepped, searched}
 
 module _ (relation : Member → Relation) (named : Member → Bool) (es : List Member) where
   abbrev entry : ℕ → Member
@@ -44,7 +44,7 @@ module _ (relation : Member → Relation) (named : Member → Bool) (es : List M
       turn h After e b f = nothing refl
 
       go : ((s : Search) → Outcome s → Outcome (searched relation named es left s)) → (b : Bool) → ltb (st .at) (length es) ≡ b
-          → Outcome (pick b (searched relation named es left (stepped relation named st (entry (st .at)))) st)
+          → Outcome (cond b (searched relation named es left (stepped relation named st (entry (st .at)))) st)
       go ih true e = ih (stepped relation named st (entry (st .at))) (turn (ltb-true (st .at) (length es) e) (relation (entry (st .at))) refl (named (entry (st .at))) refl)
       go ih false e = o
 

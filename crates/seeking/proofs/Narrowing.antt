@@ -11,7 +11,7 @@ use Rattle.member.specs.declared.Member.{Member}
 use Rattle.order.specs.declared.Relation.{Relation}
 use Rattle.order.specs.declared.Relation.the-variants.{Before, Equal, After}
 use Rattle.seeking.specs.declared.Search.{Search}
-use Rattle.seeking.specs.Seeking.{over, search as searchAt, middle, between, ended, pick, begun, turned, unused, stepped, searched}
+use Rattle.seeking.specs.Seeking.{over, search as searchAt, middle, between, ended, begun, turned, unused, stepped, searched}
 
 -- ---- the functions' returns
 
@@ -55,7 +55,7 @@ pub fine-ended : (value : ℕ) → Fine (ended value)
 fine-ended value = record { inside = λ h. absurd (omega arith) }
 
 -- what holds of both holds of whichever is picked
-pub either : (P : Search → Type 0) (b : Bool) {x y : Search} → P x → P y → P (pick b x y)
+pub either : (P : Search → Type 0) (b : Bool) {x y : Search} → P x → P y → P (cond b x y)
 either P true p q = p
 either P false p q = q
 

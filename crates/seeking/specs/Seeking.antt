@@ -1,6 +1,6 @@
 -- A search by halves through a list of entries that may hold anything. How an entry stands to what is looked for, and whether its two rows are a
 -- member's, are parameters. Assumes nothing.
-use mathlib.Core.Bool.{Bool, true, false, cond}
+use mathlib.Core.Bool.{Bool, cond}
 use mathlib.Core.List.{List}
 use Prim.Native.Nat.{ℕ, zero, suc, _+_, _-_, _/_}
 use lib.Dec.{ltb}
@@ -29,18 +29,14 @@ between low high = search (middle low high) low high 0
 abbrev pub ended : ℕ → Search
 ended value = search over 0 0 value
 
-abbrev pub pick : Bool → Search → Search → Search
-pick true x y = x
-pick false x y = y
-
 -- through n entries, if there is anything to look for
 unfoldable pub begun : Bool → ℕ → Search
-begun wanted n = pick wanted (between 0 n) (ended 0)
+begun wanted n = cond wanted (between 0 n) (ended 0)
 
 -- an entry that stands so, with its rows a member's or not, leads on behind it, to the end, or on before it
 abbrev pub turned : Relation → Bool → Search → Member → Search
 turned Before named st e = between (st .at + 1) (st .high)
-turned Equal named st e = pick named (ended (e .value)) (ended 0)
+turned Equal named st e = cond named (ended (e .value)) (ended 0)
 turned After named st e = between (st .low) (st .at)
 
 -- an entry that is not used
@@ -55,4 +51,4 @@ module _ (relation : Member → Relation) (named : Member → Bool) where
   -- at most n steps
   unfoldable pub searched : List Member → ℕ → Search → Search
   searched es zero st = st
-  searched es (suc n) st = pick (ltb (st .at) (length es)) (searched es n (stepped st (getD es (st .at) unused))) st
+  searched es (suc n) st = cond (ltb (st .at) (length es)) (searched es n (stepped st (getD es (st .at) unused))) st

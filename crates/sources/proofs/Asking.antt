@@ -1,6 +1,6 @@
 -- What a Struct has under a key is what E5's lookup answers there, and what a choice comes from. Assumes nothing.
 use mathlib.Core.Path.{_≡_, refl}
-use mathlib.Core.Bool.{Bool, true, false}
+use mathlib.Core.Bool.{Bool, true, false, cond}
 use mathlib.Core.List.{List}
 use Prim.Native.Nat.{ℕ}
 use native.Mathlib.Omega.{arith}
@@ -12,7 +12,7 @@ use Rattle.decimal.specs.Decimal.{decimalOf}
 use Rattle.draft.specs.declared.Row.{Row}
 use Rattle.draft.specs.declared.Content.the-variants as content
 use Rattle.draft.specs.declared.Item.the-variants as item
-use Rattle.draft.specs.Rows.{pickItem, itemOf}
+use Rattle.draft.specs.Rows.{itemOf}
 use Rattle.draft.specs.Read.{textOf}
 use Rattle.member.specs.declared.Member.{Member}
 use Rattle.member.specs.declared.Found.{Found}
@@ -41,18 +41,18 @@ decimal-other TooManyDigits e = let z : _≡_ {A = ℕ} 0 1 = cc in omega arith
 other-kind :
     {o n : ℕ} (s : List ℕ) (x : Row) (r : ℕ) (call response fault integer boolean double date binary array struct other : Bool)
     → itemAnswer
-    (pickItem call item.Call
-    (pickItem response item.Response
-    (pickItem fault item.Fault
-    (pickItem integer item.Integer
-    (pickItem boolean item.Boolean
-    (pickItem double (item.Content content.Double)
-    (pickItem date (item.Content content.DateTime)
-    (pickItem binary (item.Content content.Binary)
-    (pickItem array item.Array
-    (pickItem struct item.Struct
-    (pickItem false (item.Content content.Text)
-    (pickItem other item.Other item.Unknown))))))))))))
+    (cond call item.Call
+    (cond response item.Response
+    (cond fault item.Fault
+    (cond integer item.Integer
+    (cond boolean item.Boolean
+    (cond double (item.Content content.Double)
+    (cond date (item.Content content.DateTime)
+    (cond binary (item.Content content.Binary)
+    (cond array item.Array
+    (cond struct item.Struct
+    (cond false (item.Content content.Text)
+    (cond other item.Other item.Unknown))))))))))))
     s x r
     ≡ answer.Text o n
     → ⊥

@@ -1,6 +1,6 @@
 -- Every call keeps the length of the share that it is lent. Assumes nothing.
 use mathlib.Core.Path.{_≡_, refl, _∙_}
-use mathlib.Core.Bool.{Bool, true, false, _&&_}
+use mathlib.Core.Bool.{Bool, true, false, _&&_, cond}
 use mathlib.Core.List.{List}
 use Prim.Native.Nat.{ℕ, _*_, _/_, _<_}
 use native.Mathlib.Omega.{arith}
@@ -11,7 +11,7 @@ use Rattle.text.proofs.Comparing.{both}
 use Rattle.draft.specs.Bytes.{part}
 use Rattle.draft.specs.Limits.{allowed}
 use Rattle.read_answer.specs.Answers.{reading}
-use Rattle.rereading.specs.Rereading.{refusedWithOne, pickList, tableTried, tableRead}
+use Rattle.rereading.specs.Rereading.{refusedWithOne, tableTried, tableRead}
 use Rattle.rereading.proofs.Words.{length-table}
 use Rattle.records.specs.declared.Found.{Found}
 use Rattle.records.specs.declared.Found.the-variants.{Body, Missing}
@@ -35,7 +35,7 @@ card-keeps s n W = go (bodyOf s n)
     go (Body start size) = length-table (length W) (reading 32 (part s start size) (length W))
     go (Missing m p) = length-replicate (length W) 0
 
-pick-keeps : (b : Bool) (xs ys : List ℕ) (n : ℕ) → (b ≡ true → length xs ≡ n) → length ys ≡ n → length (pickList b xs ys) ≡ n
+pick-keeps : (b : Bool) (xs ys : List ℕ) (n : ℕ) → (b ≡ true → length xs ≡ n) → length ys ≡ n → length (cond b xs ys) ≡ n
 pick-keeps true xs ys n p q = p refl
 pick-keeps false xs ys n p q = q
 

@@ -1,6 +1,6 @@
 -- Each row that a reading gives takes a byte at least, of a Value that is no Array and no Struct. Assumes nothing.
 use mathlib.Core.Path.{_≡_}
-use mathlib.Core.Bool.{Bool, true, false}
+use mathlib.Core.Bool.{Bool, true, false, cond}
 use mathlib.Core.List.{List, _++_}
 use Prim.Native.Nat.{ℕ, _+_, _≤_}
 use native.Mathlib.Omega.{arith}
@@ -23,13 +23,13 @@ use Rattle.draft.specs.declared.Form.the-variants.{Regular, Recorded, Recalled}
 use Rattle.draft.specs.declared.Row.{Row}
 use Rattle.draft.specs.Content.{verdict, nameRule}
 use Rattle.draft.specs.Codebook.{Book}
-use Rattle.draft.specs.Read.{Reading, got, refused, Reader, pick, opened, pair, then, behind, over, judged, contents, longItem, recalled, stringItem, ifString, string, only, firstText, stringBy, name, plainItem, item, floor, tagOf}
+use Rattle.draft.specs.Read.{Reading, got, refused, Reader, opened, pair, then, behind, over, judged, contents, longItem, recalled, stringItem, ifString, string, only, firstText, stringBy, name, plainItem, item, floor, tagOf}
 
 abbrev Takes : ℕ → Reading → Type 0
 Takes at (refused m q) = Unit {0}
 Takes at (got rows to book) = at + length rows ≤ to
 
-pick-takes : (at : ℕ) (b : Bool) (o : Reading) (m : Refusal) (q : ℕ) → Takes at o → Takes at (pick b o (refused m q))
+pick-takes : (at : ℕ) (b : Bool) (o : Reading) (m : Refusal) (q : ℕ) → Takes at o → Takes at (cond b o (refused m q))
 pick-takes at true o m q i = i
 pick-takes at false o m q i = tt
 

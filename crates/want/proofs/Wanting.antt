@@ -1,6 +1,6 @@
 -- How many bytes are wanted, by the byte at the place: a law for each return. Assumes nothing.
 use mathlib.Core.Path.{_≡_, refl, sym, _∙_}
-use mathlib.Core.Bool.{Bool, true, false}
+use mathlib.Core.Bool.{Bool, true, false, cond}
 use mathlib.Core.List.{List}
 use Prim.Native.Nat.{ℕ, _+_, _≤_, _<_}
 use native.Mathlib.Omega.{arith}
@@ -12,8 +12,8 @@ use Rattle.draft.specs.declared.Tag.the-variants as tag
 use Rattle.draft.specs.declared.Plain.the-variants as plain
 use Rattle.draft.specs.declared.Form.the-variants.{Regular, Recorded, Recalled}
 use Rattle.draft.specs.Bytes.{byteAt, unsignedAt}
-use Rattle.draft.specs.Read.{tagOf, pickTag}
-use Rattle.wanting.specs.Want.{fieldsOf, announced, pickNumber, wantOf}
+use Rattle.draft.specs.Read.{tagOf}
+use Rattle.wanting.specs.Want.{fieldsOf, announced, wantOf}
 use Rattle.wanting.proofs.Wanting.{want-none, want-there}
 use Rattle.want.specs.Ends.{shortEnd, longEnd}
 
@@ -41,7 +41,7 @@ module _ (s : List ℕ) (at : ℕ) where
   no-content : (t : Tag) → announced s at t ≡ 0 → tagOf (byteAt s at) ≡ t → at < length s → at + fieldsOf t ≡ wantOf s at
   no-content t z e h = sym (want-there s at t e h ∙ either (leb (at + fieldsOf t) (length s)))
     where
-      either : (b : Bool) → pickNumber b (at + fieldsOf t + announced s at t) (at + fieldsOf t) ≡ at + fieldsOf t
+      either : (b : Bool) → cond b (at + fieldsOf t + announced s at t) (at + fieldsOf t) ≡ at + fieldsOf t
       either true = omega (arith, z)
       either false = refl
 
@@ -89,7 +89,7 @@ module _ (s : List ℕ) (at : ℕ) where
     else-there a b c d e f g i j = by (eqb (getD s at 0) 116) refl (eqb (getD s at 0) 102) refl (eqb (getD s at 0) 79) refl
       where
         tag-is : (t : Tag)
-            → pickTag (eqb (getD s at 0) 116) (tag.Plain plain.True) (pickTag (eqb (getD s at 0) 102) (tag.Plain plain.False) (pickTag (eqb (getD s at 0) 79) (tag.Plain plain.Other) tag.Unknown)) ≡ t
+            → cond (eqb (getD s at 0) 116) (tag.Plain plain.True) (cond (eqb (getD s at 0) 102) (tag.Plain plain.False) (cond (eqb (getD s at 0) 79) (tag.Plain plain.Other) tag.Unknown)) ≡ t
             → tagOf (byteAt s at) ≡ t
         tag-is t k = simp (ne-eqb _ _ a, ne-eqb _ _ b, ne-eqb _ _ c, ne-eqb _ _ d, ne-eqb _ _ e, ne-eqb _ _ f, ne-eqb _ _ g, ne-eqb _ _ i, ne-eqb _ _ j) k
 

@@ -1,6 +1,6 @@
 -- How many bytes a message that was refused with 1 wants, by the tag at the refusal's place. Assumes nothing.
 use Prim.Native.Nat.{ℕ, _+_}
-use mathlib.Core.Bool.{Bool, true, false}
+use mathlib.Core.Bool.{cond}
 use mathlib.Core.List.{List}
 use lib.ListN.{length}
 use lib.Dec.{leb}
@@ -44,15 +44,11 @@ announced s at tag.Array = 0
 announced s at tag.Struct = 0
 announced s at tag.Unknown = 0
 
-abbrev pub pickNumber : Bool → ℕ → ℕ → ℕ
-pickNumber true x y = x
-pickNumber false x y = y
-
 -- how many bytes there are at least when anything changes of a message that was refused with 1 at a place: the end of the fields, or of
 -- the content, that was cut
 unfoldable pub wantOf : List ℕ → ℕ → ℕ
 wantOf s at =
-    pickNumber (leb (length s) at) (length s + 1)
-    (pickNumber (leb (at + fieldsOf (tagOf (byteAt s at))) (length s))
+    cond (leb (length s) at) (length s + 1)
+    (cond (leb (at + fieldsOf (tagOf (byteAt s at))) (length s))
     (at + fieldsOf (tagOf (byteAt s at)) + announced s at (tagOf (byteAt s at)))
     (at + fieldsOf (tagOf (byteAt s at))))

@@ -1,7 +1,7 @@
 -- The written form is bytes: each is below 256 where the text bytes are. Assumes nothing.
 use Prim.Native.Nat.{ℕ, _/_, _%_, _≤_, _<_}
 use mathlib.Core.Path.{_≡_, refl}
-use mathlib.Core.Bool.{Bool, true, false}
+use mathlib.Core.Bool.{Bool, true, false, cond}
 use mathlib.Core.List.{List, [], _∷_}
 use native.Mathlib.Omega.{arith}
 use lib.Dec.{eqb, ltb, lit<}
@@ -20,7 +20,7 @@ use Rattle.draft.specs.Rows.{itemOf}
 use Rattle.draft.specs.Read.{prefix}
 use Rattle.draft.specs.Grammar.{Payload, Cell, cell, Sent, regular, recorded, recalled}
 use Rattle.draft.specs.Meaning.{says-holding, says-number, says-contents, means, Realises, no-more, and-then}
-use Rattle.draft.specs.Strings.{Text, keep, repeated, kept, position, choose, sents, plan}
+use Rattle.draft.specs.Strings.{Text, keep, repeated, kept, position, sents, plan}
 use Rattle.draft.specs.Written.{lsb, counted, stringBytes, letter, contentBytes, next}
 use Rattle.written.proofs.Sending.{position-below}
 use Rattle.written.proofs.Limiting.{below-append, below-take, below-drop}
@@ -68,11 +68,11 @@ counted-below {t} b = below-append (lsb-below (length t)) b
 -- positions are below 256
 sent-below :
     (P : List Text) (t : Text) → length P ≤ 256 → Below 256 t → (b c : Bool) → among P t ≡ b
-    → Below 256 (stringBytes (choose b (choose c (recalled (position P t) t) (recorded (position P t) t)) (regular t)))
+    → Below 256 (stringBytes (cond b (cond c (recalled (position P t) t) (recorded (position P t) t)) (regular t)))
 unfolding stringBytes
 sent-below P t l h true c e = go c (omega (arith, position-below P t e))
   where
-    go : (c : Bool) → position P t < 256 → Below 256 (stringBytes (choose c (recalled (position P t) t) (recorded (position P t) t)))
+    go : (c : Bool) → position P t < 256 → Below 256 (stringBytes (cond c (recalled (position P t) t) (recorded (position P t) t)))
     go true i = and-below (lit< tt) (and-below i none-below)
     go false i = and-below (lit< tt) (and-below i (counted-below h))
 sent-below P t l h false c e = and-below (lit< tt) (counted-below h)

@@ -1,7 +1,7 @@
 -- The written form over cells: what a table's rows are written as is settled by the cells that they realise; appending; and the length.
 -- Assumes nothing.
 use mathlib.Core.Path.{_≡_, refl, sym, ap, ap₂, _∙_}
-use mathlib.Core.Bool.{Bool, true, false}
+use mathlib.Core.Bool.{Bool, true, false, cond}
 use mathlib.Core.List.{List, [], _∷_, _++_, append-assoc}
 use Prim.Native.Nat.{ℕ, _+_}
 use Prim.Native.Char.{code}
@@ -15,7 +15,7 @@ use Rattle.draft.specs.declared.Content.the-variants.{Double, DateTime, Binary,
 use Rattle.draft.specs.declared.Item.{Item}
 use Rattle.draft.specs.declared.Item.the-variants.{Call, Response, Fault, Integer, Boolean, Content, Array, Struct, Other, Unknown}
 use Rattle.draft.specs.Bytes.{part}
-use Rattle.draft.specs.Rows.{kindOf, pickItem, itemOf}
+use Rattle.draft.specs.Rows.{kindOf, itemOf}
 use Rattle.draft.specs.Read.{prefix}
 use Rattle.draft.specs.Grammar.{Payload, holding, number, contents, Cell, cell, Sent, regular, recorded, recalled}
 use Rattle.draft.specs.Meaning.{hasNumber, hasContent, Says, says-holding, says-number, says-contents, means, Realises, no-more, and-then}
@@ -75,10 +75,10 @@ HasKind Struct k = k ≡ 10
 HasKind Other k = k ≡ 12
 HasKind Unknown k = Unit {0}
 
-item-or : (k n : ℕ) (x y : Item) → (k ≡ n → HasKind x k) → HasKind y k → HasKind (pickItem (eqb k n) x y) k
+item-or : (k n : ℕ) (x y : Item) → (k ≡ n → HasKind x k) → HasKind y k → HasKind (cond (eqb k n) x y) k
 item-or k n x y h i = go (eqb k n) refl
   where
-    go : (b : Bool) → eqb k n ≡ b → HasKind (pickItem b x y) k
+    go : (b : Bool) → eqb k n ≡ b → HasKind (cond b x y) k
     go true e = h (eqb-true k n e)
     go false e = i
 

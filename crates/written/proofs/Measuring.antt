@@ -1,7 +1,7 @@
 -- What a derivation settles besides its meaning: which texts its strings stand for, how many bytes it takes, and that legal strings keep the
 -- rule for text. Assumes nothing.
 use mathlib.Core.Path.{_≡_, refl, sym, ap, _∙_}
-use mathlib.Core.Bool.{Bool, true, false}
+use mathlib.Core.Bool.{Bool, true, false, cond}
 use mathlib.Core.Option.{some}
 use mathlib.Core.List.{List, [], _∷_, _++_}
 use Prim.Native.Nat.{ℕ, _+_}
@@ -13,7 +13,7 @@ use Rattle.draft.specs.Rows.{itemOf}
 use Rattle.draft.specs.Read.{Texts, prefix}
 use Rattle.draft.specs.Written.{lsb, counted, stringBytes}
 use Rattle.draft.specs.Strings.{costs}
-use Rattle.draft.specs.Grammar.{Cell, content-cell, Sent, regular, recorded, recalled, Keeps, Message, call-message, response-message, Call, call, Response, value-response, fault-response, fault, Value, integer-value, boolean-value, double-value, datetime-value, array-value, struct-value, string-value, other-value, integer, boolean-true, boolean-false, double, datetime, binary-value, Binary, binary, Array, array, Values, no-values, more-values, Struct, struct, Pairs, no-pairs, more-pairs, Pair, pair, Other, other, String, regular-string, recorded-string, recalled-string, string-data, Recording, text-at, first, look, Legal, legal-none, legal-regular, legal-recorded, legal-recalled}
+use Rattle.draft.specs.Grammar.{Cell, content-cell, Sent, regular, recorded, recalled, Keeps, Message, call-message, response-message, Call, call, Response, value-response, fault-response, fault, Value, integer-value, boolean-value, double-value, datetime-value, array-value, struct-value, string-value, other-value, integer, boolean-true, boolean-false, double, datetime, binary-value, Binary, binary, Array, array, Values, no-values, more-values, Struct, struct, Pairs, no-pairs, more-pairs, Pair, pair, Other, other, String, regular-string, recorded-string, recalled-string, string-data, Recording, text-at, look, Legal, legal-none, legal-regular, legal-recorded, legal-recalled}
 use Rattle.written.proofs.Sending.{textIn, texts, texts-append}
 use Rattle.written.proofs.Forming.{strings, form, strings-append, form-append, fixed, form-length}
 
@@ -50,7 +50,7 @@ record Good (R : List Recording) : Type 0 where
 good-recorded : {R : List Recording} {p : ℕ} {t : List ℕ} → Keeps content.Text t → Good R → Good (text-at p t ∷ R)
 good-recorded {R} {p} {t} k g = record { each = λ q u e. go q u (eqb q p) e }
   where
-    go : (q : ℕ) (u : List ℕ) (b : Bool) → first b (some t) (look q R) ≡ some u → Keeps content.Text u
+    go : (q : ℕ) (u : List ℕ) (b : Bool) → cond b (some t) (look q R) ≡ some u → Keeps content.Text u
     go q u true e = let i : t ≡ u = cc in rw i at k
     go q u false e = g .each q u e
 

@@ -1,7 +1,7 @@
 -- How the written form sends its strings: with at most 256 repeated texts at the least cost, and always in bytes. Assumes nothing.
 use Prim.Native.Nat.{ℕ, _+_, _≤_}
 use mathlib.Core.Path.{_≡_, refl, sym, ap, _∙_}
-use mathlib.Core.Bool.{Bool, true, false, _||_}
+use mathlib.Core.Bool.{Bool, true, false, _||_, cond}
 use mathlib.Core.List.{List, [], _∷_}
 use native.Mathlib.Omega.{arith}
 use native.Mathlib.Nat.{zero-add}
@@ -12,7 +12,7 @@ use borrow.Author.Tests.{ltb-true, ltb-false, lt-leb, le-leb}
 use Rattle.text.specs.Texts.{same, among}
 use Rattle.text.proofs.Comparing.{clash, same-is, same-self}
 use Rattle.draft.specs.Grammar.{Sent, regular, recorded, Legal}
-use Rattle.draft.specs.Strings.{Text, repeated, kept, choose, sentOf, sents, plan, cost, costs}
+use Rattle.draft.specs.Strings.{Text, repeated, kept, sentOf, sents, plan, cost, costs}
 use Rattle.occurring.specs.Occurring.{bit, times}
 use Rattle.written.proofs.Sending.{texts}
 use Rattle.occurring.proofs.Repeating.{repeated-once}
@@ -35,7 +35,7 @@ again t u seen e = go (same u t) refl
     go false f = refl
 
 -- what a text costs that was not seen: it is recorded if it comes again
-fresh-cost : (t : Text) (m n : Bool) (p : ℕ) → m ≡ n → cost (choose m (recorded p t) (regular t)) ≡ 5 + bit n + length t
+fresh-cost : (t : Text) (m n : Bool) (p : ℕ) → m ≡ n → cost (cond m (recorded p t) (regular t)) ≡ 5 + bit n + length t
 unfolding cost
 fresh-cost t true true p e = refl
 fresh-cost t false false p e = refl

@@ -1,7 +1,7 @@
 -- The least that strings can cost, and that whatever is sent legally costs at least that. Assumes nothing.
 use Prim.Native.Nat.{ℕ, _+_, _≤_}
 use mathlib.Core.Path.{_≡_, refl, sym, ap, _∙_}
-use mathlib.Core.Bool.{Bool, true, false, _||_}
+use mathlib.Core.Bool.{Bool, true, false, _||_, cond}
 use mathlib.Core.Option.{some}
 use mathlib.Core.List.{List, [], _∷_}
 use native.Mathlib.Omega.{arith}
@@ -9,7 +9,7 @@ use lib.Dec.{eqb}
 use lib.ListN.{length}
 use Rattle.text.specs.Texts.{same, among}
 use Rattle.text.proofs.Comparing.{same-is, same-self}
-use Rattle.draft.specs.Grammar.{Sent, Recording, text-at, first, look, Legal, legal-none, legal-regular, legal-recorded, legal-recalled}
+use Rattle.draft.specs.Grammar.{Sent, Recording, text-at, look, Legal, legal-none, legal-regular, legal-recorded, legal-recalled}
 use Rattle.draft.specs.Strings.{Text, cost, costs}
 use Rattle.occurring.specs.Occurring.{bit}
 use Rattle.written.proofs.Sending.{texts}
@@ -19,14 +19,10 @@ use Rattle.occurring.proofs.Among.{same-swap}
 abbrev pub also : Text → (Text → Bool) → Text → Bool
 also t R u = same u t || R u
 
-abbrev pub either : Bool → ℕ → ℕ → ℕ
-either true x y = x
-either false x y = y
-
 -- a text that can be recalled is; any other is sent with its bytes, and recorded if it comes again
 abbrev pub least : (Text → Bool) → List Text → ℕ
 least R [] = 0
-least R (t ∷ ts) = either (R t) (2 + least R ts) (5 + bit (among ts t) + length t + least (also t R) ts)
+least R (t ∷ ts) = cond (R t) (2 + least R ts) (5 + bit (among ts t) + length t + least (also t R) ts)
 
 or-swap : (x y z : Bool) → (x || (y || z)) ≡ (y || (x || z))
 or-swap true true z = refl
@@ -51,8 +47,8 @@ saves R S t (u ∷ us) n h = go (saves R S t us n h) (λ m k. saves (also u R) (
         least S us + bit (among us t) ≤ least R us
         → (also u R t ≡ false → ((v : Text) → also u S v ≡ also t (also u R) v) → least (also u S) us + bit (among us t) ≤ least (also u R) us)
         → same t u ≡ false → (r : Bool) → R u ≡ r
-        → either r (2 + least S us) (5 + bit (among us u) + length u + least (also u S) us) + bit (among us t)
-        ≤ either r (2 + least R us) (5 + bit (among us u) + length u + least (also u R) us)
+        → cond r (2 + least S us) (5 + bit (among us u) + length u + least (also u S) us) + bit (among us t)
+        ≤ cond r (2 + least R us) (5 + bit (among us u) + length u + least (also u R) us)
     rest i j e true f = omega (arith, i)
     rest i j e false f =
         omega (arith, j (rw e n) (λ v. ap (λ (b : Bool). same v u || b) (h v) ∙ or-swap (same v u) (same v t) (R v)))
@@ -61,8 +57,8 @@ saves R S t (u ∷ us) n h = go (saves R S t us n h) (λ m k. saves (also u R) (
         least S us + bit (among us t) ≤ least R us
         → (also u R t ≡ false → ((v : Text) → also u S v ≡ also t (also u R) v) → least (also u S) us + bit (among us t) ≤ least (also u R) us)
         → (b : Bool) → same t u ≡ b
-        → either (S u) (2 + least S us) (5 + bit (among us u) + length u + least (also u S) us) + bit (b || among us t)
-        ≤ either (R u) (2 + least R us) (5 + bit (among us u) + length u + least (also u R) us)
+        → cond (S u) (2 + least S us) (5 + bit (among us u) + length u + least (also u S) us) + bit (b || among us t)
+        ≤ cond (R u) (2 + least R us) (5 + bit (among us u) + length u + least (also u R) us)
     go i j true e =
         let q : t ≡ u = same-is t u e in
         let k = least-same S (also u R) us (λ v. h v ∙ ap (λ (w : Text). same v w || R v) q) in
@@ -84,7 +80,7 @@ has-recalled : (R : List Recording) (p : ℕ) (t : Text) → look p R ≡ some t
 has-recalled [] p t e = let z : _≡_ {A = ℕ} 0 1 = cc in absurd (omega arith)
 has-recalled (text-at q u ∷ R) p t e = go (eqb p q) e (has-recalled R p t)
   where
-    go : (b : Bool) → first b (some u) (look p R) ≡ some t → (look p R ≡ some t → has R t ≡ true) → (same t u || has R t) ≡ true
+    go : (b : Bool) → cond b (some u) (look p R) ≡ some t → (look p R ≡ some t → has R t ≡ true) → (same t u || has R t) ≡ true
     go true f rest = let i : u ≡ t = cc in rw (i, same-self t)
     go false f rest = rw (rest f) (or-true (same t u))
 
@@ -96,14 +92,14 @@ bound (legal-regular {R} {t} {fs} l) = go (bound l) (has R t) refl
   where
     go :
         least (has R) (texts fs) ≤ costs fs → (b : Bool) → has R t ≡ b
-        → either b (2 + least (has R) (texts fs)) (5 + bit (among (texts fs) t) + length t + least (also t (has R)) (texts fs)) ≤ 5 + length t + costs fs
+        → cond b (2 + least (has R) (texts fs)) (5 + bit (among (texts fs) t) + length t + least (also t (has R)) (texts fs)) ≤ 5 + length t + costs fs
     go i true e = omega (arith, i)
     go i false e = omega (arith, i, saves (has R) (also t (has R)) t (texts fs) e (λ u. refl))
 bound (legal-recorded {R} {p} {t} {fs} l) = go (bound l) (has R t) refl
   where
     go :
         least (also t (has R)) (texts fs) ≤ costs fs → (b : Bool) → has R t ≡ b
-        → either b (2 + least (has R) (texts fs)) (5 + bit (among (texts fs) t) + length t + least (also t (has R)) (texts fs)) ≤ 6 + length t + costs fs
+        → cond b (2 + least (has R) (texts fs)) (5 + bit (among (texts fs) t) + length t + least (also t (has R)) (texts fs)) ≤ 6 + length t + costs fs
     go i true e = omega (arith, i, least-same (also t (has R)) (has R) (texts fs) (λ u. again u (same u t) refl))
       where
         again : (u : Text) (b : Bool) → same u t ≡ b → (b || has R u) ≡ has R u

@@ -1,6 +1,6 @@
 -- Strings as sent: the texts that they stand for, taken apart, and that the written form sends legally what it is to send. Assumes nothing.
 use mathlib.Core.Path.{_≡_, refl, sym, ap, ap₂, _∙_}
-use mathlib.Core.Bool.{Bool, true, false, _||_}
+use mathlib.Core.Bool.{Bool, true, false, _||_, cond}
 use mathlib.Core.Option.{some}
 use mathlib.Core.List.{List, [], _∷_, _++_}
 use Prim.Native.Nat.{ℕ, suc, _+_, _<_}
@@ -10,8 +10,8 @@ use lib.ListN.{length}
 use borrow.Author.Tests.{eqb-true, eq-eqb}
 use Rattle.text.specs.Texts.{same, among}
 use Rattle.text.proofs.Comparing.{clash, same-is}
-use Rattle.draft.specs.Grammar.{Sent, regular, recorded, recalled, Recording, text-at, first, look, Legal, legal-none, legal-regular, legal-recorded, legal-recalled}
-use Rattle.draft.specs.Strings.{Text, onward, position, choose, sentOf, sents, kept, plan}
+use Rattle.draft.specs.Grammar.{Sent, regular, recorded, recalled, Recording, text-at, look, Legal, legal-none, legal-regular, legal-recorded, legal-recalled}
+use Rattle.draft.specs.Strings.{Text, onward, position, sentOf, sents, kept, plan}
 
 -- the text that a string stands for, and those of several
 abbrev pub textIn : Sent → Text
@@ -45,11 +45,11 @@ pub record Split (gs : List Sent) (us vs : List Text) : Type 0 where
   pub front : List Sent
   pub back : List Sent
   pub is : gs ≡ front ++ back
-  pub first : texts front ≡ us
+  pub cond : texts front ≡ us
   pub second : texts back ≡ vs
 
 pub split : (us vs : List Text) (gs : List Sent) → texts gs ≡ us ++ vs → Split gs us vs
-split [] vs gs e = record { front = []; back = gs; is = refl; first = refl; second = e }
+split [] vs gs e = record { front = []; back = gs; is = refl; cond = refl; second = e }
 split (u ∷ us) vs gs e =
     let f = first-sent gs e in
     let h = split us vs (f .left) (f .rest) in
@@ -57,7 +57,7 @@ split (u ∷ us) vs gs e =
       front = f .sent ∷ h .front;
       back = h .back;
       is = f .is ∙ ap (λ (l : List Sent). f .sent ∷ l) (h .is);
-      first = ap₂ (λ (t : Text) (l : List Text). t ∷ l) (f .stands) (h .first);
+      cond = ap₂ (λ (t : Text) (l : List Text). t ∷ l) (f .stands) (h .first);
       second = h .second;
     }
 
@@ -69,7 +69,7 @@ texts-append (f ∷ fs) gs = ap (λ (l : List Text). textIn f ∷ l) (texts-appe
 sent-text : (P seen : List Text) (t : Text) → textIn (sentOf P seen t) ≡ t
 sent-text P seen t = go (among P t) (among seen t)
   where
-    go : (b c : Bool) → textIn (choose b (choose c (recalled (position P t) t) (recorded (position P t) t)) (regular t)) ≡ t
+    go : (b c : Bool) → textIn (cond b (cond c (recalled (position P t) t) (recorded (position P t) t)) (regular t)) ≡ t
     go true true = refl
     go true false = refl
     go false c = refl
@@ -123,7 +123,7 @@ found-recorded P seen R t f h = record { there = λ u a b. go u a (eqb (position
   where
     go :
         (u : Text) → among P u ≡ true → (y : Bool) → eqb (position P u) (position P t) ≡ y → (x : Bool) → same u t ≡ x → (x || among seen u) ≡ true
-        → first y (some t) (look (position P u) R) ≡ some u
+        → cond y (some t) (look (position P u) R) ≡ some u
     go u a true j x i b = ap some (sym (position-of P u t a h (eqb-true _ _ j)))
     go u a false j true i b = let e : u ≡ t = same-is u t i in clash (eq-eqb (position P u) (position P t) (ap (position P) e)) j
     go u a false j false i b = f .there u a b
@@ -135,7 +135,7 @@ legal-sents P seen (t ∷ ts) R f = go (among P t) refl (among seen t) refl (leg
   where
     go :
         (b : Bool) → among P t ≡ b → (c : Bool) → among seen t ≡ c → ((R : List Recording) → Found P (t ∷ seen) R → Legal R (sents P (t ∷ seen) ts))
-        → Legal R (choose b (choose c (recalled (position P t) t) (recorded (position P t) t)) (regular t) ∷ sents P (t ∷ seen) ts)
+        → Legal R (cond b (cond c (recalled (position P t) t) (recorded (position P t) t)) (regular t) ∷ sents P (t ∷ seen) ts)
     go true i true j rest = legal-recalled (f .there t i j) (rest R (found-skip P seen R t f (λ a. j)))
     go true i false j rest = legal-recorded (rest (text-at (position P t) t ∷ R) (found-recorded P seen R t f i))
     go false i c j rest = legal-regular (rest R (found-skip P seen R t f (λ a. clash a i)))
