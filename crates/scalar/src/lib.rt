@@ -1,5 +1,6 @@
-// Reading a Value that is no Array and no Struct, by its byte. The loops over values and pairs read those of a fixed size in place, which
-// needs a small function, and the others by a call, which answers in one word: an answer of three lies in memory.
+// Reading a Value that is no Array and no Struct, by its byte. Items of a fixed size are read by a function that is small enough to become
+// part of each loop, all others by a call, which answers in one word: an answer of three lies in memory. Where `s` is lent on, it is a copy
+// (`let t = s;`), as in `value`.
 // Assumes that such a byte stands there, the rows fit the table and the codebook has its 256 words.
 use draft::Content;
 use draft::Refusal;

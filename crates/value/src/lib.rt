@@ -1,7 +1,8 @@
 // Reading a Value. An Array's items may be Arrays or Structs, and a Struct's values likewise: `read_value` reads a Value, `read_values` the
 // values of an Array and `read_pairs` the pairs of a Struct; they call one another in a cycle, in which `deep`, the nesting left, falls at
 // each Array and Struct, and the bytes left at each item. The keys of all Structs are noted in the lent words `notes`.
-// Items that hold no others are read in the loops, without a call of the cycle.
+// Items that hold no others are read in the loops, without a call of the cycle, by `scalar::read_scalar`, which the compiler makes part of
+// them while it is small; so `read_value` calls what that calls: `read_sized`, called once, would become part of it.
 // Before a call in the cycle the slice is copied, `let t = s;`: `s` itself came in as two words stored singly,
 // and to lend it on from where it lies loads both at once, which waits for the stores; the copy is made of registers.
 use draft::Refusal;
