@@ -1,12 +1,11 @@
 -- Document 01's sentences hold, by the laws of demands_reading and demands_writing. Assumes nothing.
-use mathlib.Core.Path.{_≡_, refl, ap, _∙_}
-use mathlib.Core.List.{List}
-use Prim.Native.Nat.{ℕ}
+use mathlib.Core.Path.{refl, ap, _∙_}
 use native.Mathlib.Omega.{arith}
 use Rattle.read_answer.specs.Answers.{reportOf, answerOf}
 use Rattle.demands_reading.proofs.Settled as settled
 use Rattle.demands_reading.proofs.Reading as reading-laws
 use Rattle.demands_reading.proofs.Answering as answering
+use Rattle.demands_reading.proofs.Ordered.{ordered}
 use Rattle.demands_reading.proofs.Cases.{cases-read}
 use Rattle.demands_writing.proofs.Accepting as accepting
 use Rattle.demands_writing.proofs.Writing as writing-laws
@@ -44,6 +43,8 @@ of-refusals = record {
   order-two = λ limit s words l d h e. ap reportOf (d .says ∙ ap answerOf (answering.first-two limit s words l h e));
   order-one = λ limit s words l d h e k. ap reportOf (d .says ∙ ap answerOf (answering.first-one limit s words l h e k));
   first-decides = answering.follows;
+  placed = answering.refused-stands;
+  within-item = ordered;
   writer-ten = accepting.says-ten;
   writer-eleven = accepting.says-eleven;
   writer-twelve = accepting.says-twelve;

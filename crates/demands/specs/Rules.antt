@@ -13,20 +13,21 @@ use Rattle.text.specs.Texts.{among}
 use Rattle.draft.specs.declared.Refusal.{Refusal}
 use Rattle.draft.specs.declared.Content.the-variants as content
 use Rattle.draft.specs.declared.Row.{Row}
+use Rattle.draft.specs.declared.Tag.{Tag}
 use Rattle.draft.specs.Bytes.{Below}
 use Rattle.draft.specs.Refusals.{numberOf}
 use Rattle.draft.specs.Codebook.{Book}
 use Rattle.draft.specs.Table.{roomOf, place}
 use Rattle.draft.specs.Limits.{allowed}
 use Rattle.draft.specs.Read.{got, prefix, agree, message}
-use Rattle.draft.specs.Grammar.{Cell, Keeps, Derives, Begins}
+use Rattle.draft.specs.Grammar.{Cell, Keeps, Begins}
 use Rattle.draft.specs.Meaning.{MeanSame, Realises}
 use Rattle.draft.specs.Strings.{Text, repeated, kept, position, textsOf}
 use Rattle.draft.specs.Writable.{writableTo}
 use Rattle.draft.specs.Written.{written, rowsOf}
 use Rattle.read_answer.specs.declared.Answer.{Answer as Read}
 use Rattle.read_answer.specs.declared.Answer.the-variants as read
-use Rattle.read_answer.specs.Answers.{reading, Answers, Report, reportOf}
+use Rattle.read_answer.specs.Answers.{reading, Answers, reportOf}
 use Rattle.write_answer.specs.declared.Answer.{Answer as Write}
 use Rattle.write_answer.specs.declared.Answer.the-variants as write
 use Rattle.write_answer.specs.Answers.{Did}
@@ -34,6 +35,8 @@ use Rattle.write_answer.specs.Answers as writer
 use Rattle.occurring.specs.Occurring.{bit, times}
 use Rattle.written.specs.Derivable.{DerivesRows, Within, HoldAlike}
 use Rattle.demands_reading.specs.Refusing.{Underived, Deeper, Fuller}
+use Rattle.demands_reading.specs.Placed.{Begun, Stands}
+use Rattle.demands_reading.specs.Ordered.{Ordered}
 use Rattle.demands_reading.specs.Cases.{cases, given, expected}
 
 -- 'The message', 'Rows' and 'Numbers that bound the work'
@@ -124,7 +127,15 @@ pub record Refusals : Type 0 where
   pub first-decides :
       (limit : ℕ) (s more : List ℕ) (words : ℕ) {T T′ : List ℕ} {a a′ : Read} → length (s ++ more) ≤ 65536 → reportOf a .number ≢ 1
       → Answers (reading limit s words) words T a → Answers (reading limit (s ++ more) words) words T′ a′ → (a ≡ a′) × (T ≡ T′)
-  -- 'and its place is the first byte of that item ..', 'Within an item: 1 if no byte is there; 3; 8; 9; ..': draft's Read, in this order, and the cases below
+  -- 'and its place is the first byte of that item (the end of the bytes, if nothing stands there).': what its number says stands there (23 and 10, which
+  -- come before all items, apart); 'The Call or Response is the first item, at 12. .. after `F`, the Struct at 14.'
+  pub placed :
+      (limit : ℕ) (s : List ℕ) (words : ℕ) {T : List ℕ} {m : Refusal} {place : ℕ} → Answers (reading limit s words) words T (read.Refused m place)
+      → numberOf m ≢ 10 → numberOf m ≢ 23 → Stands s (numberOf m) place
+  -- 'Within an item: 1 if no byte is there; 3; 8; 9; 1 for its fixed fields; 1 for its content; then 5 or 6.': wherever a Value is looked for,
+  -- by the tag of its first byte; that 5 and 6 come last is `placed`: the fields and the content of their items do not end behind the bytes
+  pub within-item :
+      (s : List ℕ) (room deep at r : ℕ) (book : Book) (t : Tag) → Begun s at t → Ordered s room deep at r book t
   -- 'Writer's order: 10, 11, 12, 13.' (02, E11: 23 before them)
   pub writer-ten :
       (limit : ℕ) (T : List ℕ) (rows : ℕ) (s out₀ out : List ℕ) {a : Write} → Did limit T rows s out₀ out a
