@@ -4,25 +4,27 @@
 use mathlib.Core.Path.{_≡_}
 use mathlib.Core.Bool.{true, false}
 use mathlib.Core.Logic.{_↔_, _≢_}
-use mathlib.Core.List.{List, _++_}
+use mathlib.Core.List.{List, [], _∷_, _++_}
 use Prim.Native.Nat.{ℕ, _-_, _≤_, _<_}
 use lib.Dec.{leb}
 use lib.ListN.{length, take, getD, replicate}
 use Rattle.text.specs.Rfc3629.{UTF8-octets}
 use Rattle.text.specs.Texts.{among}
 use Rattle.draft.specs.declared.Refusal.{Refusal}
+use Rattle.draft.specs.declared.Verdict.the-variants.{Fine}
 use Rattle.draft.specs.declared.Content.the-variants as content
 use Rattle.draft.specs.declared.Row.{Row}
 use Rattle.draft.specs.declared.Tag.{Tag}
-use Rattle.draft.specs.Bytes.{Below}
+use Rattle.draft.specs.Bytes.{bytes, Below}
+use Rattle.draft.specs.Content.{nameRule}
 use Rattle.draft.specs.Refusals.{numberOf}
 use Rattle.draft.specs.Codebook.{Book}
 use Rattle.draft.specs.Table.{roomOf, place}
 use Rattle.draft.specs.Limits.{allowed}
 use Rattle.draft.specs.Read.{got, prefix, agree, message}
-use Rattle.draft.specs.Grammar.{Cell, Keeps, Begins}
+use Rattle.draft.specs.Grammar.{Cell, Sent, regular, recorded, recalled, Keeps, Begins}
 use Rattle.draft.specs.Meaning.{MeanSame, Realises}
-use Rattle.draft.specs.Strings.{Text, repeated, kept, position, textsOf}
+use Rattle.draft.specs.Strings.{Text, repeated, kept, position, plan, textsOf}
 use Rattle.draft.specs.Writable.{writableTo}
 use Rattle.draft.specs.Written.{written, rowsOf}
 use Rattle.read_answer.specs.declared.Answer.{Answer as Read}
@@ -48,6 +50,11 @@ pub record Reading : Type 0 where
       → (read.Accepted n used ≡ a) × (T ≡ T′)
   -- 'Text is well-formed UTF-8: no surplus length, no surrogates, nothing above U+10FFFF.' ('UTF-8 is RFC 3629')
   pub text-utf8 : (t : List ℕ) → Keeps content.Text t ↔ UTF8-octets t
+  -- 'The name in an Other may not be one of: `i4`, `int`, `boolean`, ..'
+  pub other-name :
+      (t : List ℕ) → (nameRule t ≡ Fine)
+      ↔ (among (bytes "i4" ∷ bytes "int" ∷ bytes "boolean" ∷ bytes "string" ∷ bytes "double" ∷ bytes "dateTime.iso8601" ∷ bytes "base64" ∷ bytes "struct"
+      ∷ bytes "array" ∷ []) t ≡ false)
   -- 'Two tables, each with its own bytes, mean the same if ..': they do exactly if they mean the same cells
   pub mean-same : {s t : List ℕ} {xs ys : List Row} {cs ds : List Cell} → Realises s 0 xs cs → Realises t 0 ys ds → MeanSame s t xs ys ↔ (cs ≡ ds)
   -- and the rules leave a message no second meaning
@@ -158,11 +165,24 @@ pub record Refusals : Type 0 where
       (limit : ℕ) (T : List ℕ) (rows : ℕ) (s : List ℕ) → Below 4294967296 T → Below 256 s
       → (writableTo limit T rows s ≡ true) ↔ (Within 65536 4096 T rows s × ((xs : List ℕ) × Below 256 xs × DerivesRows limit xs s (rowsOf 4096 T rows)))
 
+-- the string behind so many others, as the written form of these strings sends it
+abbrev pub sentIn : List Text → ℕ → Sent
+sentIn ts i = getD (plan ts) i (regular [])
+
+-- how it sends t, which stands behind the strings `before`
+pub record Forms (before : List Text) (t : Text) (ts : List Text) : Type 0 where
+  pub first-time : among (kept ts) t ≡ true → among before t ≡ false → sentIn ts (length before) ≡ recorded (position (kept ts) t) t
+  pub from-then-on : among (kept ts) t ≡ true → among before t ≡ true → sentIn ts (length before) ≡ recalled (position (kept ts) t) t
+  pub every-other : among (kept ts) t ≡ false → sentIn ts (length before) ≡ regular t
+
 -- 'The written form' and 'Messages to check against'
 pub record Writing : Type 0 where
   -- 'The texts that occur at least twice get positions 0, 1, 2 .. in order of first occurrence, 256 at most.'
   pub repeated-twice : (u : Text) (ts : List Text) → times u (repeated ts) ≡ bit (leb 2 (times u ts))
   pub positions : (ts : List Text) → (length (kept ts) ≤ 256) × ((t : Text) → among (kept ts) t ≡ true → position (kept ts) t < 256)
+  -- 'Each of them is `>` the first time and `<` from then on. Every other string is `U` each time.': the string t, in row order behind others, as the written
+  -- form sends it (`written` is the message that sends its strings as `plan` says)
+  pub forms : (before : List Text) (t : Text) (after : List Text) → Forms before t (before ++ (t ∷ after))
   -- 'Nothing follows the message.': the draft derives all the bytes written
   pub nothing-follows :
       (limit : ℕ) (T : List ℕ) (rows : ℕ) (s out₀ out : List ℕ) {n : ℕ} → Below 4294967296 T → Did limit T rows s out₀ out (write.Written n)
