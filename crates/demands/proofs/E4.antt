@@ -55,7 +55,8 @@ module _
     (short : (s : List ℕ) (room deep : ℕ) → item s room (tagOf x) (nested s room deep) 13 1 clear ≡ shortItem s room c 13 1 clear)
     (f : eqb x (code "F") ≡ false) (z : Plain)
     (there : (s : List ℕ) (room deep at r : ℕ) (book : Book) → Begun s at (tag.Plain z) → r < room → at + 2 + byteAt s (at + 1) ≤ length s
-    → value s room deep at r book ≡ judged (contentRule c (shortText s at)) at (leaf (kindOf c) (at + 2) (byteAt s (at + 1)) r (at + 2 + byteAt s (at + 1)) book))
+    → value s room deep at r book
+    ≡ judged (contentRule c (shortText s at)) at (leaf (kindOf c) (at + 2) (byteAt s (at + 1)) r (at + 2 + byteAt s (at + 1)) book))
   where
     -- the report of a message whose text has this verdict
     abbrev told : List ℕ → Verdict → Report

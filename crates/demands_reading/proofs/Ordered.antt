@@ -1,13 +1,10 @@
 -- The tests within an item come in their order: each item opens with its fixed fields, and its content is looked at behind them. Assumes nothing.
-use mathlib.Core.Path.{_≡_, refl, sym, ap, _∙_}
-use mathlib.Core.Bool.{Bool, true, false, cond}
+use mathlib.Core.Path.{_≡_, refl, _∙_}
 use mathlib.Core.List.{List}
 use Prim.Native.Nat.{ℕ, zero, suc, _+_, _≤_, _<_}
 use native.Mathlib.Omega.{arith}
-use lib.Dec.{ltb, leb}
 use lib.ListN.{length}
 use borrow.Author.Tests.{lt-ltb, le-ltb, le-leb, lt-leb}
-use Rattle.draft.specs.declared.Refusal.{Refusal}
 use Rattle.draft.specs.declared.Refusal.the-variants.{Ended, UnexpectedByte, TooDeep, NoRow}
 use Rattle.draft.specs.declared.Content.{Content}
 use Rattle.draft.specs.declared.Content.the-variants as content
@@ -19,11 +16,11 @@ use Rattle.draft.specs.Bytes.{byteAt, unsignedAt, part}
 use Rattle.draft.specs.Rows.{kindOf}
 use Rattle.draft.specs.Content.{contentRule, verdict}
 use Rattle.draft.specs.Codebook.{Book}
-use Rattle.draft.specs.Read.{Reading, refused, judged, leaf, tagOf, opened, contents as read-contents, item, value, nested}
+use Rattle.draft.specs.Read.{Reading, refused, judged, leaf, opened, contents as read-contents, item, value, nested}
 use Rattle.wanting.specs.Want.{fieldsOf, announced}
 use Rattle.exact.proofs.Completing.{value-is}
 use Rattle.demands_reading.specs.Placed.{Begun, shortText}
-use Rattle.demands_reading.specs.Ordered.{Refuses, Nesting, Allowed, Ordered}
+use Rattle.demands_reading.specs.Ordered.{Nesting, Allowed, Ordered}
 
 -- a message's bytes, and the rows that there is room for
 module _ (s : List ℕ) (room : ℕ) where
