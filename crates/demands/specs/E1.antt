@@ -52,7 +52,7 @@ pub record E1 : Type 0 where
       → length (bytes "binmode-rpc:RF" ++ (xs ++ more)) ≤ 65536 → Struct limit xs cells sents → Legal [] sents → 1 + length cells ≤ roomOf 4096 words
       → (TwoMembers (heldCells (below cells)) → ⊥) → Answers (reading limit (bytes "binmode-rpc:RF" ++ (xs ++ more)) words) words T a
       → reportOf a ≡ record { number = 14; rows = 0; used = 0; place = 14 }
-  -- and 14 comes for a fault's Struct alone, behind `R` and `F`
+  -- and 14 comes for such a Struct alone: behind `R` and `F`, all of it derived, without the two members
   pub fourteen-only :
       (limit : ℕ) (s : List ℕ) (words : ℕ) {T : List ℕ} {m : Refusal} {place : ℕ} → Answers (reading limit s words) words T (read.Refused m place)
       → numberOf m ≡ 14 → Stands s 14 place

@@ -40,8 +40,13 @@ use Rattle.draft.specs.Codebook.{Book, clear, recorded as record-text}
 use Rattle.draft.specs.Read.{Reading, got, refused, then, judged, Reader, behind, over, leaf, pair as read-pair, Texts, items, alike, nothing as kept-nothing, tagOf, Nest, floor, under, present, opened, contents as read-contents, longItem, recalled as recalledEntry, stringItem, ifString, string as read-string, only, firstText, stringBy, name, key, member, keeping, counted, arrayItem, structItem, plainItem, item, value, nested, callItem, heldRows, faultStruct, responseItem, callOrResponse, prefix, agree, message}
 use Rattle.wanting.specs.Want.{fieldsOf, announced, wantOf}
 use Rattle.wanting.proofs.Wanting.{want-fields, want-content}
-use Rattle.exact.proofs.Deriving.{refused-got}
+use Rattle.exact.proofs.Standing.{part-here}
+use Rattle.exact.proofs.Replaying.{agrees-clear}
+use Rattle.exact.proofs.Realising.{held-below}
+use Rattle.exact.proofs.Deriving.{refused-got, struct-sound}
+use Rattle.demands_reading.specs.Members.{TwoMembers}
 use Rattle.demands_reading.specs.Placed.{Begun, Whole, shortText, longText, recordedText, Stands, short, nothing, cut, differs, unexpected, regular-bad, recorded-bad, double-bad, datetime-bad, unset, standard, deep-array, deep-struct, no-row, bad-fault, no-double, no-datetime, repeated-key}
+use Rattle.demands_reading.proofs.Reading.{two-members}
 
 -- a reading that ends within the bytes, or that is refused where what its number says stands
 data Tells (s : List ℕ) : Reading → Type 0 where
@@ -73,6 +78,9 @@ fault-is : (held : List Held) {m : Refusal} → faultRule held ≡ Bad m → Bad
 unfolding faultRule
 fault-is held e = fine-is (isFault held) BadFault e .1
 
+not-two : (held : List Held) {m : Refusal} → faultRule held ≡ Bad m → TwoMembers held → ⊥
+not-two held e two = let f = two-members held .1 two in let z : _≡_ {A = ℕ} 0 1 = cc in omega (arith, z)
+
 tag-binary : tagOf (code "B") ≡ tag.Plain plain.Binary
 unfolding tagOf
 tag-binary = refl
@@ -89,8 +97,8 @@ tag-struct = refl
 module _ (s : List ℕ) where
   then-tells :
       {o : Reading} {k : List Row → ℕ → Book → Reading} → Tells s o
-      → ((rows : List Row) (to : ℕ) (book : Book) → to ≤ length s → Tells s (k rows to book)) → Tells s (then o k)
-  then-tells (ends {rows} {to} {book} h) f = f rows to book h
+      → ((rows : List Row) (to : ℕ) (book : Book) → o ≡ got rows to book → to ≤ length s → Tells s (k rows to book)) → Tells s (then o k)
+  then-tells (ends {rows} {to} {book} h) f = f rows to book refl h
   then-tells (says {m = m} e) f = says {m = m} e
 
   behind-tells : (rows : List Row) {o : Reading} → Tells s o → Tells s (behind rows o)
@@ -222,7 +230,7 @@ module _ (s : List ℕ) where
         go false e t i = says {m = Ended} (nothing {at = at} (omega (arith, h, ltb-false at (length s) e)))
         go true e (tag.String form) i =
             then-tells (string-item-tells form at r book i (ltb-true at (length s) e))
-            (λ rows to book′ k. judged-tells (rule (firstText s room rows)) o (ends k) (f (firstText s room rows) form i))
+            (λ rows to book′ g k. judged-tells (rule (firstText s room rows)) o (ends k) (f (firstText s room rows) form i))
         go true e (tag.Plain x) i = says {m = UnexpectedByte} (unexpected (ltb-true at (length s) e))
         go true e tag.Array i = says {m = UnexpectedByte} (unexpected (ltb-true at (length s) e))
         go true e tag.Struct i = says {m = UnexpectedByte} (unexpected (ltb-true at (length s) e))
@@ -240,7 +248,7 @@ module _ (s : List ℕ) where
         (f g : Reader) (at r : ℕ) (book : Book) → Tells s (f at r book)
         → ((at r : ℕ) (book : Book) → at ≤ length s → Tells s (g at r book)) → Tells s (read-pair f g at r book)
     unfolding read-pair
-    pair-tells f g at r book p q = then-tells p (λ rows to book′ k. behind-tells rows (q to (r + length rows) book′ k))
+    pair-tells f g at r book p q = then-tells p (λ rows to book′ g k. behind-tells rows (q to (r + length rows) book′ k))
 
     items-tells :
         (f : Texts → Reader) (more : Texts → List Row → Texts)
@@ -250,7 +258,7 @@ module _ (s : List ℕ) where
     items-tells f more h zero seen acc at r book k = ends k
     items-tells f more h (suc n) seen acc at r book k =
         then-tells (h seen at (r + length acc) book k)
-        (λ rows to book′ j. items-tells f more h n (more seen rows) (acc ++ rows) to r book′ j)
+        (λ rows to book′ g j. items-tells f more h n (more seen rows) (acc ++ rows) to r book′ j)
 
     counted-tells :
         (kind : ℕ) (f : Texts → Reader) (more : Texts → List Row → Texts) (at r : ℕ) (book : Book) → at < length s
@@ -354,8 +362,12 @@ module _ (s : List ℕ) where
         go true e true i =
             let c = eqb-true (byteAt s 14) (code "S") i in
             then-tells (struct-tells (nests deep) 14 1 clear (ap tagOf c ∙ tag-struct) (ltb-true 14 (length s) e))
-            (λ rows to book k. judged-tells (faultRule (heldRows s (below rows))) 14 (ends k)
-            (λ m z. let l = fault-is (heldRows s (below rows)) z in rw (← l) (bad-fault a b c)))
+            (λ rows to book f k. judged-tells (faultRule (heldRows s (below rows))) 14 (ends k)
+            (λ m z.
+            let l = fault-is (heldRows s (below rows)) z in
+            let g = struct-sound s room deep .derived 14 1 clear [] rows to book c f agrees-clear in
+            rw (← l) (bad-fault a b (part-here (g .here) refl) (g .derives) (g .legal)
+            (λ two. not-two (heldRows s (below rows)) z (rw (held-below (g .realises)) two)))))
 
     response-tells : (deep : ℕ) → 12 < length s → byteAt s 12 ≡ code "R" → Tells s (responseItem s room deep 12 0 clear)
     response-tells deep h a =

@@ -1,7 +1,7 @@
 -- What stands at the place of a refusal, by its number: the first byte of the item that fails, or the end of the bytes. Assumes nothing.
 use mathlib.Core.Path.{_≡_}
 use mathlib.Core.Bool.{true, false}
-use mathlib.Core.List.{List}
+use mathlib.Core.List.{List, []}
 use Prim.Native.Nat.{ℕ, _+_, _≤_, _<_}
 use Prim.Native.Char.{code}
 use lib.ListN.{length}
@@ -14,8 +14,11 @@ use Rattle.draft.specs.declared.Plain.the-variants as plain
 use Rattle.draft.specs.declared.Form.{Form}
 use Rattle.draft.specs.declared.Form.the-variants.{Regular, Recorded, Recalled}
 use Rattle.draft.specs.Bytes.{byteAt, unsignedAt, part}
+use Rattle.draft.specs.Rows.{below}
+use Rattle.draft.specs.Grammar.{Cell, heldCells, Sent, Struct, Legal}
 use Rattle.draft.specs.Read.{tagOf, prefix, agree}
 use Rattle.wanting.specs.Want.{wantOf}
+use Rattle.demands_reading.specs.Members.{TwoMembers}
 
 -- the item that begins at a place, by its first byte
 abbrev pub Begun : List ℕ → ℕ → Tag → Type 0
@@ -58,8 +61,10 @@ pub data Stands (s : List ℕ) : ℕ → ℕ → Type 0 where
   deep-struct : {at : ℕ} → Begun s at tag.Struct → Stands s 8 at
   -- 9: a byte
   no-row : {at : ℕ} → at < length s → Stands s 9 at
-  -- 14: a fault's Struct, behind `R` and `F`
-  bad-fault : byteAt s 12 ≡ code "R" → byteAt s 13 ≡ code "F" → byteAt s 14 ≡ code "S" → Stands s 14 14
+  -- 14: a fault's Struct, behind `R` and `F`, all of which is derived, and which does not hold the two members
+  bad-fault :
+      {limit : ℕ} {xs : List ℕ} {cells : List Cell} {sents : List Sent} → byteAt s 12 ≡ code "R" → byteAt s 13 ≡ code "F" → part s 14 (length xs) ≡ xs
+      → Struct limit xs cells sents → Legal [] sents → (TwoMembers (heldCells (below cells)) → ⊥) → Stands s 14 14
   -- 17: an ASCII Double or DateTime that is no such text
   no-double : {at : ℕ} → Whole s at (tag.Plain plain.Double) → ascii (shortText s at) ≡ true → (Double (shortText s at) → ⊥) → Stands s 17 at
   no-datetime : {at : ℕ} → Whole s at (tag.Plain plain.DateTime) → ascii (shortText s at) ≡ true → (DateTime (shortText s at) → ⊥) → Stands s 17 at
