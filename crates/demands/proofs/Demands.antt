@@ -1,6 +1,5 @@
 -- The three demands hold: a value of each record, by the laws of demands_reading and demands_writing. Assumes nothing.
-use mathlib.Core.Path.{_≡_, refl, sym, ap, _∙_}
-use mathlib.Core.List.{List}
+use mathlib.Core.Path.{refl, sym, ap, _∙_}
 use Prim.Native.Nat.{ℕ}
 use native.Mathlib.Omega.{arith}
 use lib.ListN.{length}
@@ -8,7 +7,6 @@ use Rattle.draft.specs.Table.{roomOf}
 use Rattle.read_answer.specs.declared.Answer.the-variants as read
 use Rattle.read_answer.specs.Answers as reader-says
 use Rattle.read_answer.proofs.Limited.{reading-got, got-within}
-use Rattle.write_answer.specs.Answers as writer-says
 use Rattle.exact.proofs.Realising.{counts}
 use Rattle.demands_reading.proofs.Settled as reader
 use Rattle.demands_reading.proofs.Reading as reading-laws

@@ -1,5 +1,5 @@
 -- E3 holds: both checks promise `wellFormed`, which is RFC 3629's syntax. Assumes nothing.
-use mathlib.Core.Path.{_≡_, sym, _∙_}
+use mathlib.Core.Path.{sym, _∙_}
 use Rattle.text.proofs.Grammar.{accepted, derived}
 use Rattle.demands.specs.E3.{E3}
 

@@ -1,10 +1,11 @@
 -- E4 holds, by the laws of what rows of kinds 6 and 7 mean and of what a message with such an item says. Assumes nothing.
-use mathlib.Core.Path.{_≡_, refl, sym, ap, _∙_}
+use mathlib.Core.Path.{_≡_, refl, ap, _∙_}
 use mathlib.Core.Bool.{Bool, true, false}
 use mathlib.Core.Logic.{_↔_}
 use mathlib.Core.List.{List}
 use Prim.Native.Nat.{ℕ, _+_, _≤_, _<_}
 use Prim.Native.Char.{code}
+use native.Mathlib.Omega.{arith}
 use lib.Dec.{eqb}
 use lib.ListN.{length}
 use Rattle.text.specs.Texts.{ascii}
@@ -16,20 +17,25 @@ use Rattle.draft.specs.declared.Verdict.{Verdict}
 use Rattle.draft.specs.declared.Verdict.the-variants.{Fine, Bad}
 use Rattle.draft.specs.declared.Content.{Content}
 use Rattle.draft.specs.declared.Content.the-variants as content
-use Rattle.draft.specs.declared.Row.{Row}
+use Rattle.draft.specs.declared.Tag.the-variants as tag
+use Rattle.draft.specs.declared.Plain.{Plain}
+use Rattle.draft.specs.declared.Plain.the-variants as plain
+use Rattle.draft.specs.Bytes.{byteAt}
 use Rattle.draft.specs.Rows.{kindOf}
 use Rattle.draft.specs.Content.{contentRule, asciiThen}
-use Rattle.draft.specs.Codebook.{clear}
+use Rattle.draft.specs.Codebook.{Book, clear}
 use Rattle.draft.specs.Table.{roomOf, rowAt}
 use Rattle.draft.specs.Limits.{allowed}
-use Rattle.draft.specs.Read.{judged, over, leaf, textOf, tagOf, item, shortItem, nested}
+use Rattle.draft.specs.Read.{judged, over, leaf, textOf, tagOf, item, shortItem, value, nested}
 use Rattle.draft.specs.Written.{rowsOf}
 use Rattle.draft.specs.Grammar.{Keeps}
 use Rattle.read_answer.specs.declared.Answer.{Answer}
 use Rattle.read_answer.specs.Answers.{reading, Answers, Report, reportOf, answerOf}
 use Rattle.written.specs.Derivable.{DerivesRows}
+use Rattle.demands_reading.specs.Placed.{Begun, shortText}
 use Rattle.demands_reading.proofs.Reading.{text-is-double, text-is-datetime}
-use Rattle.demands_reading.proofs.Answering.{answered}
+use Rattle.demands_reading.proofs.Answering.{answered, refused-stands}
+use Rattle.demands_reading.proofs.Ordered.{double-there, datetime-there}
 use Rattle.demands_reading.proofs.Values.{derived-values, value-said}
 use Rattle.demands_writing.proofs.Writing.{form-derived}
 use Rattle.demands_writing.proofs.Accepting.{read-derives, eleven}
@@ -47,7 +53,10 @@ module _
     (c : Content) (x : ℕ) (Good : List ℕ → Type 0) (test : List ℕ → Bool) (rule : (t : List ℕ) → contentRule c t ≡ asciiThen (ascii t) (test t))
     (good : (t : List ℕ) → Keeps c t ↔ Good t)
     (short : (s : List ℕ) (room deep : ℕ) → item s room (tagOf x) (nested s room deep) 13 1 clear ≡ shortItem s room c 13 1 clear)
-    (f : eqb x (code "F") ≡ false)
+    (f : eqb x (code "F") ≡ false) (z : Plain)
+    (there : (s : List ℕ) (room deep at r : ℕ) (book : Book) → Begun s at (tag.Plain z) → r < room → at + 2 + byteAt s (at + 1) ≤ length s
+    → value s room deep at r book
+    ≡ judged (contentRule c (shortText s at)) at (leaf (kindOf c) (at + 2) (byteAt s (at + 1)) r (at + 2 + byteAt s (at + 1)) book))
   where
     -- the report of a message whose text has this verdict
     abbrev told : List ℕ → Verdict → Report
@@ -68,11 +77,15 @@ module _
         go false e = refl
         go true e = absurd (g (good t .0 (rule t ∙ rw (a, e))))
 
-    judges : Judged x Good
+    judges : Judged x z Good
     judges = record {
       five = λ t a. by t (Bad BadText) (rule t ∙ rw a);
       seventeen = λ t a g. by t (Bad BadValue) (bad t a g);
       taken = λ t g. by t Fine (good t .1 g);
+      five-anywhere = λ s room deep at r book b k j a.
+          record { why = BadText; is = there s room deep at r book b k j ∙ rw (rule (shortText s at), a); numbered = refl };
+      seventeen-anywhere = λ s room deep at r book b k j a.
+          record { why = BadValue; is = there s room deep at r book b k j ∙ rw (bad (shortText s at) (a .0) (a .1)); numbered = refl };
     }
 
 double-rule : (t : List ℕ) → contentRule content.Double t ≡ asciiThen (ascii t) (isDouble t)
@@ -97,8 +110,9 @@ holds = record {
   read-double = λ limit s words T n used d r h e. meant T n s (read-derives limit s words d) r h .0 e;
   datetime = text-is-datetime;
   read-datetime = λ limit s words T n used d r h e. meant T n s (read-derives limit s words d) r h .1 e;
-  double-judged = judges content.Double (code "D") Double isDouble double-rule text-is-double double-short refl;
-  datetime-judged = judges content.DateTime (code "8") DateTime isDateTime datetime-rule text-is-datetime datetime-short refl;
+  double-judged = judges content.Double (code "D") Double isDouble double-rule text-is-double double-short refl plain.Double double-there;
+  datetime-judged = judges content.DateTime (code "8") DateTime isDateTime datetime-rule text-is-datetime datetime-short refl plain.DateTime datetime-there;
+  seventeen-only = λ limit s words d e. rw e at (refused-stands limit s words d (λ f. omega (arith, e, f)) (λ f. omega (arith, e, f)));
   double-eleven = λ limit T rows s out₀ out a l h w d r k e f.
       eleven limit T rows s out₀ out d l h (λ v. f (meant T rows s (form-derived limit T rows s v w) r k .0 e));
   datetime-eleven = λ limit T rows s out₀ out a l h w d r k e f.

@@ -3,6 +3,7 @@ use mathlib.Core.Path.{_≡_, sym, ap, _∙_}
 use mathlib.Core.List.{List}
 use Prim.Native.Nat.{ℕ, suc}
 use Prim.Native.Char.{code}
+use native.Mathlib.Omega.{arith}
 use lib.ListN.{length}
 use Rattle.draft.specs.declared.Refusal.{Refusal}
 use Rattle.draft.specs.Codebook.{Book}
@@ -16,7 +17,7 @@ use Rattle.written.proofs.Concluding.{rows-length}
 use Rattle.meant.proofs.Saying.{standing}
 use Rattle.meant.proofs.Only.{members-distinct}
 use Rattle.demands_reading.proofs.Reading as reading-laws
-use Rattle.demands_reading.proofs.Answering.{answered}
+use Rattle.demands_reading.proofs.Answering.{answered, refused-stands}
 use Rattle.demands_reading.proofs.Keys.{key-said}
 use Rattle.demands_writing.proofs.Writing.{form-derived}
 use Rattle.demands_writing.proofs.Accepting.{read-derives, eleven}
@@ -48,6 +49,7 @@ holds = record {
   demand-three = third;
   twenty = λ d i j k l {n} {keys} {xs} {ys} more words v h r e p u x m o q z.
       ap reportOf (answered (suc d) (structSent i j k l xs ys more) words v h z ∙ ap answerOf (key-said d (roomOf 4096 words) i j k l more e p u x m o q r));
+  twenty-only = λ limit s words d e. rw e at (refused-stands limit s words d (λ f. omega (arith, e, f)) (λ f. omega (arith, e, f)));
   key-repeated = λ s room value seen at r book e h. reading-laws.key-repeated s room value seen at r book e h;
   key-new = λ s room value seen at r book e h. reading-laws.key-new s room value seen at r book e h;
   key-refused = λ s room value seen at r book e. reading-laws.key-refused s room value seen at r book e;

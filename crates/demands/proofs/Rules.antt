@@ -1,12 +1,13 @@
 -- Document 01's sentences hold, by the laws of demands_reading and demands_writing. Assumes nothing.
-use mathlib.Core.Path.{_≡_, refl, ap, _∙_}
-use mathlib.Core.List.{List}
-use Prim.Native.Nat.{ℕ}
+use mathlib.Core.Path.{refl, ap, _∙_}
+use mathlib.Core.List.{[]}
 use native.Mathlib.Omega.{arith}
+use Rattle.draft.specs.Grammar.{regular}
 use Rattle.read_answer.specs.Answers.{reportOf, answerOf}
 use Rattle.demands_reading.proofs.Settled as settled
 use Rattle.demands_reading.proofs.Reading as reading-laws
 use Rattle.demands_reading.proofs.Answering as answering
+use Rattle.demands_reading.proofs.Ordered.{ordered}
 use Rattle.demands_reading.proofs.Cases.{cases-read}
 use Rattle.demands_writing.proofs.Accepting as accepting
 use Rattle.demands_writing.proofs.Writing as writing-laws
@@ -17,6 +18,7 @@ of-reading : Reading
 of-reading = record {
   trailing-ignored = λ limit s more words h d d′. answering.follows limit s more words h (λ e. omega (arith, e)) d d′;
   text-utf8 = reading-laws.text-is-utf8;
+  other-name = reading-laws.other-name;
   mean-same = reading-laws.mean-same;
   one-meaning = reading-laws.one-meaning;
   put-aside = λ s used cells. (
@@ -44,6 +46,8 @@ of-refusals = record {
   order-two = λ limit s words l d h e. ap reportOf (d .says ∙ ap answerOf (answering.first-two limit s words l h e));
   order-one = λ limit s words l d h e k. ap reportOf (d .says ∙ ap answerOf (answering.first-one limit s words l h e k));
   first-decides = answering.follows;
+  placed = answering.refused-stands;
+  within-item = ordered;
   writer-ten = accepting.says-ten;
   writer-eleven = accepting.says-eleven;
   writer-twelve = accepting.says-twelve;
@@ -55,6 +59,11 @@ of-writing : Writing
 of-writing = record {
   repeated-twice = writing-laws.repeated-texts;
   positions = writing-laws.positions;
+  forms = λ before t after. record {
+    first-time = λ e f. writing-laws.sent-in before t after (regular []) ∙ rw (e, f);
+    from-then-on = λ e f. writing-laws.sent-in before t after (regular []) ∙ rw (e, f);
+    every-other = λ e. writing-laws.sent-in before t after (regular []) ∙ rw e;
+  };
   nothing-follows = λ limit T rows s out₀ out w d.
       rw (output.first-bytes limit T rows s out₀ out d) (accepting.written-derives limit T rows s out₀ out d w);
   same-bytes = output.same-bytes;

@@ -6,9 +6,11 @@ use mathlib.Core.Logic.{_↔_}
 use mathlib.Core.List.{List, [], _++_}
 use Prim.Native.Nat.{ℕ, _+_, _-_, _≤_}
 use lib.ListN.{length}
+use Rattle.draft.specs.declared.Refusal.{Refusal}
 use Rattle.draft.specs.declared.Verdict.the-variants.{Fine}
 use Rattle.draft.specs.Bytes.{bytes, Below}
 use Rattle.draft.specs.Rows.{below}
+use Rattle.draft.specs.Refusals.{numberOf}
 use Rattle.draft.specs.Content.{Held, faultRule}
 use Rattle.draft.specs.Table.{roomOf, rowAt, rowsAt}
 use Rattle.draft.specs.Limits.{allowed}
@@ -22,6 +24,7 @@ use Rattle.write_answer.specs.declared.Answer.the-variants as write
 use Rattle.write_answer.specs.Answers.{Did}
 use Rattle.write_answer.specs.Answers as writer
 use Rattle.demands_reading.specs.Members.{TwoMembers}
+use Rattle.demands_reading.specs.Placed.{Stands}
 
 -- row 0 of a table is a fault's
 abbrev pub IsFault : List ℕ → Type 0
@@ -49,6 +52,10 @@ pub record E1 : Type 0 where
       → length (bytes "binmode-rpc:RF" ++ (xs ++ more)) ≤ 65536 → Struct limit xs cells sents → Legal [] sents → 1 + length cells ≤ roomOf 4096 words
       → (TwoMembers (heldCells (below cells)) → ⊥) → Answers (reading limit (bytes "binmode-rpc:RF" ++ (xs ++ more)) words) words T a
       → reportOf a ≡ record { number = 14; rows = 0; used = 0; place = 14 }
+  -- and 14 comes for such a Struct alone: behind `R` and `F`, all of it derived, without the two members
+  pub fourteen-only :
+      (limit : ℕ) (s : List ℕ) (words : ℕ) {T : List ℕ} {m : Refusal} {place : ℕ} → Answers (reading limit s words) words T (read.Refused m place)
+      → numberOf m ≡ 14 → Stands s 14 place
   -- 'the writer says 11'
   pub writer-eleven :
       (limit : ℕ) (T : List ℕ) (rows : ℕ) (s out₀ out : List ℕ) {a : Write} → allowed limit ≡ true → length s ≤ 65536 → Below 4294967296 T

@@ -63,6 +63,6 @@ pub record E2 : Type 0 where
   pub cards : Cards
   pub refusals : (s : List ℕ) (n words : ℕ) {T : List ℕ} {a : Answer} → Reads s words (bodyOf s n) T a → (place : ℕ) → Refusals s n a place
   pub told : (s : List ℕ) (n words : ℕ) {T : List ℕ} {a : Answer} → Reads s words (bodyOf s n) T a → Told s n words T a
-  -- Ours: going from card to card. From the end of card n `card_search::find_next` answers for the next as `find` does from the start of the file.
+  -- 'Cards are asked for by number': also the next one, from the end of card n, for which `card_search::find_next` answers as `find` does from the start
   pub next-card :
       (s : List ℕ) (n : ℕ) {start size : ℕ} → CardAt s n start size → find (n + 1) (n + 1) (start + size) 0 (drop (start + size) s) ≡ bodyOf s (n + 1)

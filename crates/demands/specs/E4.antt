@@ -9,12 +9,18 @@ use Prim.Native.Char.{code}
 use lib.ListN.{length}
 use Rattle.text.specs.Texts.{ascii}
 use Rattle.lexical.specs.Grammar.{Double, DateTime}
+use Rattle.draft.specs.declared.Refusal.{Refusal}
 use Rattle.draft.specs.declared.Row.{Row}
 use Rattle.draft.specs.declared.Content.the-variants as content
-use Rattle.draft.specs.Bytes.{bytes, Below}
+use Rattle.draft.specs.declared.Tag.the-variants.{Plain}
+use Rattle.draft.specs.declared.Plain.{Plain as PlainItem}
+use Rattle.draft.specs.declared.Plain.the-variants as plain
+use Rattle.draft.specs.Bytes.{bytes, byteAt, Below}
+use Rattle.draft.specs.Refusals.{numberOf}
 use Rattle.draft.specs.Table.{roomOf, rowAt}
+use Rattle.draft.specs.Codebook.{Book}
 use Rattle.draft.specs.Limits.{allowed}
-use Rattle.draft.specs.Read.{textOf}
+use Rattle.draft.specs.Read.{textOf, value}
 use Rattle.draft.specs.Grammar.{Keeps}
 use Rattle.read_answer.specs.declared.Answer.{Answer as Read}
 use Rattle.read_answer.specs.declared.Answer.the-variants as read
@@ -22,6 +28,8 @@ use Rattle.read_answer.specs.Answers.{reading, Answers, reportOf}
 use Rattle.write_answer.specs.declared.Answer.{Answer as Write}
 use Rattle.write_answer.specs.Answers.{Did}
 use Rattle.write_answer.specs.Answers as writer
+use Rattle.demands_reading.specs.Placed.{Begun, shortText, Stands}
+use Rattle.demands_reading.specs.Ordered.{Refuses}
 
 -- row r of a table
 abbrev pub rowIn : List ℕ → ℕ → Row
@@ -43,11 +51,19 @@ Says tag t number rows used place =
     (limit : ℕ) (more : List ℕ) (words : ℕ) (T : List ℕ) (a : Read) → allowed limit ≡ true → length (sent tag t more) ≤ 65536 → 2 ≤ roomOf 4096 words
     → Answers (reading limit (sent tag t more) words) words T a → reportOf a ≡ record { number = number; rows = rows; used = used; place = place }
 
+-- wherever a Value is looked for, and such an item stands there whole, with a row left: reading it is refused with this number, at its place, if its text is so
+abbrev pub SaysAnywhere : PlainItem → ℕ → (List ℕ → Type 0) → Type 0
+SaysAnywhere x number Bad =
+    (s : List ℕ) (room deep at r : ℕ) (book : Book) → Begun s at (Plain x) → r < room → at + 2 + byteAt s (at + 1) ≤ length s → Bad (shortText s at)
+    → Refuses (value s room deep at r book) number at
+
 -- so is the text of the item judged on arrival, at the item's place: 5 first, then 17, and else it is taken
-pub record Judged (tag : ℕ) (Good : List ℕ → Type 0) : Type 0 where
+pub record Judged (tag : ℕ) (x : PlainItem) (Good : List ℕ → Type 0) : Type 0 where
   pub five : (t : List ℕ) → ascii t ≡ false → Says tag t 5 0 0 13
   pub seventeen : (t : List ℕ) → ascii t ≡ true → (Good t → ⊥) → Says tag t 17 0 0 13
   pub taken : (t : List ℕ) → Good t → Says tag t 0 2 (15 + length t) 0
+  pub five-anywhere : SaysAnywhere x 5 (λ t. ascii t ≡ false)
+  pub seventeen-anywhere : SaysAnywhere x 17 (λ t. (ascii t ≡ true) × (Good t → ⊥))
 
 -- the writer says 11 for a stated row of this kind whose text is not a good one
 abbrev pub WriterEleven : ℕ → (List ℕ → Type 0) → Type 0
@@ -64,8 +80,12 @@ pub record E4 : Type 0 where
   pub datetime : (t : List ℕ) → Keeps content.DateTime t ↔ DateTime t
   pub read-datetime : ReadGood 7 DateTime
   -- 'This replaces 01's any ASCII. Refusals: 17, after 5 in the same item'
-  pub double-judged : Judged (code "D") Double
-  pub datetime-judged : Judged (code "8") DateTime
+  pub double-judged : Judged (code "D") plain.Double Double
+  pub datetime-judged : Judged (code "8") plain.DateTime DateTime
+  -- and 17 comes for these alone, wherever they stand: for ASCII that is no such text, at the item's place
+  pub seventeen-only :
+      (limit : ℕ) (s : List ℕ) (words : ℕ) {T : List ℕ} {m : Refusal} {place : ℕ} → Answers (reading limit s words) words T (read.Refused m place)
+      → numberOf m ≡ 17 → Stands s 17 place
   -- 'the writer says 11'
   pub double-eleven : WriterEleven 6 Double
   pub datetime-eleven : WriterEleven 7 DateTime

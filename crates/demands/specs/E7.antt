@@ -12,6 +12,7 @@ use Rattle.draft.specs.declared.Refusal.{Refusal}
 use Rattle.draft.specs.declared.Refusal.the-variants.{RepeatedKey}
 use Rattle.draft.specs.declared.Row.{Row}
 use Rattle.draft.specs.Bytes.{bytes, Below}
+use Rattle.draft.specs.Refusals.{numberOf}
 use Rattle.draft.specs.Codebook.{Book}
 use Rattle.draft.specs.Table.{roomOf, rowAt}
 use Rattle.draft.specs.Limits.{allowed}
@@ -28,6 +29,7 @@ use Rattle.write_answer.specs.Answers.{Did}
 use Rattle.write_answer.specs.Answers as writer
 use Rattle.defaults.specs.Defaults.{Source, isWritable}
 use Rattle.demands_reading.specs.Members.{PairsWith, Distinct}
+use Rattle.demands_reading.specs.Placed.{Stands}
 use Rattle.demands_lookups.specs.Asked.{Has}
 use Rattle.demands.specs.Demands.{Demand3}
 
@@ -60,13 +62,17 @@ pub record E7 : Type 0 where
   -- 'Demand 3 stands for the tables that remain.'
   pub demand-three : Demand3
   -- 'Refusals: 20, as soon as the second key is read, .. at that key's place': so answers `reader::read` to a Struct that announces n members, with distinct
-  -- keys as far as they go, and then a key ys that is one of those, whatever follows; wherever a member stands, its key is judged so before its value is read
+  -- keys as far as they go, and then a key ys that is one of those, whatever follows; 20 comes at a String alone; and wherever a
+  -- member stands, its key is judged so before its value is read
   pub twenty :
       (d i j k l : ℕ) {n : ℕ} {keys : List (List ℕ)} {xs ys t : List ℕ} {cs : List Cell} {fs : List Sent} {f : Sent} (more : List ℕ) (words : ℕ) {T : List ℕ}
       {a : Read} → allowed (suc d) ≡ true → length (structSent i j k l xs ys more) ≤ 65536 → 2 + length cs < roomOf 4096 words → LSB n i j k l
       → PairsWith d keys xs cs fs → Distinct keys → String ys t f → length keys < n → among keys t ≡ true → Legal [] (fs ++ (f ∷ []))
       → Answers (reading (suc d) (structSent i j k l xs ys more) words) words T a
       → reportOf a ≡ record { number = 20; rows = 0; used = 0; place = 18 + length xs }
+  pub twenty-only :
+      (limit : ℕ) (s : List ℕ) (words : ℕ) {T : List ℕ} {m : Refusal} {place : ℕ} → Answers (reading limit s words) words T (read.Refused m place)
+      → numberOf m ≡ 20 → Stands s 20 place
   pub key-repeated :
       (s : List ℕ) (room : ℕ) (value : Reader) (seen : List (List ℕ)) (at r : ℕ) (book : Book) {rows : List Row} {to : ℕ} {book′ : Book}
       → string s room at r book ≡ got rows to book′ → among seen (firstText s room rows) ≡ true

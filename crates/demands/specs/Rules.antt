@@ -4,29 +4,32 @@
 use mathlib.Core.Path.{_≡_}
 use mathlib.Core.Bool.{true, false}
 use mathlib.Core.Logic.{_↔_, _≢_}
-use mathlib.Core.List.{List, _++_}
+use mathlib.Core.List.{List, [], _∷_, _++_}
 use Prim.Native.Nat.{ℕ, _-_, _≤_, _<_}
 use lib.Dec.{leb}
 use lib.ListN.{length, take, getD, replicate}
 use Rattle.text.specs.Rfc3629.{UTF8-octets}
 use Rattle.text.specs.Texts.{among}
 use Rattle.draft.specs.declared.Refusal.{Refusal}
+use Rattle.draft.specs.declared.Verdict.the-variants.{Fine}
 use Rattle.draft.specs.declared.Content.the-variants as content
 use Rattle.draft.specs.declared.Row.{Row}
-use Rattle.draft.specs.Bytes.{Below}
+use Rattle.draft.specs.declared.Tag.{Tag}
+use Rattle.draft.specs.Bytes.{bytes, Below}
+use Rattle.draft.specs.Content.{nameRule}
 use Rattle.draft.specs.Refusals.{numberOf}
 use Rattle.draft.specs.Codebook.{Book}
 use Rattle.draft.specs.Table.{roomOf, place}
 use Rattle.draft.specs.Limits.{allowed}
 use Rattle.draft.specs.Read.{got, prefix, agree, message}
-use Rattle.draft.specs.Grammar.{Cell, Keeps, Derives, Begins}
+use Rattle.draft.specs.Grammar.{Cell, Sent, regular, recorded, recalled, Keeps, Begins}
 use Rattle.draft.specs.Meaning.{MeanSame, Realises}
-use Rattle.draft.specs.Strings.{Text, repeated, kept, position, textsOf}
+use Rattle.draft.specs.Strings.{Text, repeated, kept, position, plan, textsOf}
 use Rattle.draft.specs.Writable.{writableTo}
 use Rattle.draft.specs.Written.{written, rowsOf}
 use Rattle.read_answer.specs.declared.Answer.{Answer as Read}
 use Rattle.read_answer.specs.declared.Answer.the-variants as read
-use Rattle.read_answer.specs.Answers.{reading, Answers, Report, reportOf}
+use Rattle.read_answer.specs.Answers.{reading, Answers, reportOf}
 use Rattle.write_answer.specs.declared.Answer.{Answer as Write}
 use Rattle.write_answer.specs.declared.Answer.the-variants as write
 use Rattle.write_answer.specs.Answers.{Did}
@@ -34,6 +37,8 @@ use Rattle.write_answer.specs.Answers as writer
 use Rattle.occurring.specs.Occurring.{bit, times}
 use Rattle.written.specs.Derivable.{DerivesRows, Within, HoldAlike}
 use Rattle.demands_reading.specs.Refusing.{Underived, Deeper, Fuller}
+use Rattle.demands_reading.specs.Placed.{Begun, Stands}
+use Rattle.demands_reading.specs.Ordered.{Ordered}
 use Rattle.demands_reading.specs.Cases.{cases, given, expected}
 
 -- 'The message', 'Rows' and 'Numbers that bound the work'
@@ -45,6 +50,11 @@ pub record Reading : Type 0 where
       → (read.Accepted n used ≡ a) × (T ≡ T′)
   -- 'Text is well-formed UTF-8: no surplus length, no surrogates, nothing above U+10FFFF.' ('UTF-8 is RFC 3629')
   pub text-utf8 : (t : List ℕ) → Keeps content.Text t ↔ UTF8-octets t
+  -- 'The name in an Other may not be one of: `i4`, `int`, `boolean`, ..'
+  pub other-name :
+      (t : List ℕ) → (nameRule t ≡ Fine)
+      ↔ (among (bytes "i4" ∷ bytes "int" ∷ bytes "boolean" ∷ bytes "string" ∷ bytes "double" ∷ bytes "dateTime.iso8601" ∷ bytes "base64" ∷ bytes "struct"
+      ∷ bytes "array" ∷ []) t ≡ false)
   -- 'Two tables, each with its own bytes, mean the same if ..': they do exactly if they mean the same cells
   pub mean-same : {s t : List ℕ} {xs ys : List Row} {cs ds : List Cell} → Realises s 0 xs cs → Realises t 0 ys ds → MeanSame s t xs ys ↔ (cs ≡ ds)
   -- and the rules leave a message no second meaning
@@ -124,7 +134,15 @@ pub record Refusals : Type 0 where
   pub first-decides :
       (limit : ℕ) (s more : List ℕ) (words : ℕ) {T T′ : List ℕ} {a a′ : Read} → length (s ++ more) ≤ 65536 → reportOf a .number ≢ 1
       → Answers (reading limit s words) words T a → Answers (reading limit (s ++ more) words) words T′ a′ → (a ≡ a′) × (T ≡ T′)
-  -- 'and its place is the first byte of that item ..', 'Within an item: 1 if no byte is there; 3; 8; 9; ..': draft's Read, in this order, and the cases below
+  -- 'and its place is the first byte of that item (the end of the bytes, if nothing stands there).': what its number says stands there (23 and 10, which
+  -- come before all items, apart); 'The Call or Response is the first item, at 12. .. after `F`, the Struct at 14.'
+  pub placed :
+      (limit : ℕ) (s : List ℕ) (words : ℕ) {T : List ℕ} {m : Refusal} {place : ℕ} → Answers (reading limit s words) words T (read.Refused m place)
+      → numberOf m ≢ 10 → numberOf m ≢ 23 → Stands s (numberOf m) place
+  -- 'Within an item: 1 if no byte is there; 3; 8; 9; 1 for its fixed fields; 1 for its content; then 5 or 6.': wherever a Value is looked for,
+  -- by the tag of its first byte; that 5 and 6 come last is `placed`: the fields and the content of their items do not end behind the bytes
+  pub within-item :
+      (s : List ℕ) (room deep at r : ℕ) (book : Book) (t : Tag) → Begun s at t → Ordered s room deep at r book t
   -- 'Writer's order: 10, 11, 12, 13.' (02, E11: 23 before them)
   pub writer-ten :
       (limit : ℕ) (T : List ℕ) (rows : ℕ) (s out₀ out : List ℕ) {a : Write} → Did limit T rows s out₀ out a
@@ -147,11 +165,24 @@ pub record Refusals : Type 0 where
       (limit : ℕ) (T : List ℕ) (rows : ℕ) (s : List ℕ) → Below 4294967296 T → Below 256 s
       → (writableTo limit T rows s ≡ true) ↔ (Within 65536 4096 T rows s × ((xs : List ℕ) × Below 256 xs × DerivesRows limit xs s (rowsOf 4096 T rows)))
 
+-- the string behind so many others, as the written form of these strings sends it
+abbrev pub sentIn : List Text → ℕ → Sent
+sentIn ts i = getD (plan ts) i (regular [])
+
+-- how it sends t, which stands behind the strings `before`
+pub record Forms (before : List Text) (t : Text) (ts : List Text) : Type 0 where
+  pub first-time : among (kept ts) t ≡ true → among before t ≡ false → sentIn ts (length before) ≡ recorded (position (kept ts) t) t
+  pub from-then-on : among (kept ts) t ≡ true → among before t ≡ true → sentIn ts (length before) ≡ recalled (position (kept ts) t) t
+  pub every-other : among (kept ts) t ≡ false → sentIn ts (length before) ≡ regular t
+
 -- 'The written form' and 'Messages to check against'
 pub record Writing : Type 0 where
   -- 'The texts that occur at least twice get positions 0, 1, 2 .. in order of first occurrence, 256 at most.'
   pub repeated-twice : (u : Text) (ts : List Text) → times u (repeated ts) ≡ bit (leb 2 (times u ts))
   pub positions : (ts : List Text) → (length (kept ts) ≤ 256) × ((t : Text) → among (kept ts) t ≡ true → position (kept ts) t < 256)
+  -- 'Each of them is `>` the first time and `<` from then on. Every other string is `U` each time.': the string t, in row order behind others, as the written
+  -- form sends it (`written` is the message that sends its strings as `plan` says)
+  pub forms : (before : List Text) (t : Text) (after : List Text) → Forms before t (before ++ (t ∷ after))
   -- 'Nothing follows the message.': the draft derives all the bytes written
   pub nothing-follows :
       (limit : ℕ) (T : List ℕ) (rows : ℕ) (s out₀ out : List ℕ) {n : ℕ} → Below 4294967296 T → Did limit T rows s out₀ out (write.Written n)

@@ -26,7 +26,9 @@ use Rattle.exact.proofs.Realising.{counts}
 use Rattle.exact.proofs.Growing.{OfReading, decided}
 use Rattle.exact.proofs.Concluding.{of-reading, underived, too-deep, too-many, within-is, WithinRefused, of-bytes, of-message, within-refused}
 use Rattle.demands_reading.specs.Refusing.{Underived, Deeper, Fuller, oneOf}
+use Rattle.demands_reading.specs.Placed.{Stands}
 use Rattle.demands_reading.proofs.Reading.{sound, one-meaning}
+use Rattle.demands_reading.proofs.Placed.{stands}
 
 -- the numbers of what reading a message says
 number-in : (m : Refusal) → OfReading m → oneOf (1 ∷ 2 ∷ 3 ∷ 5 ∷ 6 ∷ 7 ∷ 8 ∷ 9 ∷ 10 ∷ 14 ∷ 17 ∷ 20 ∷ 23 ∷ []) (numberOf m) ≡ true
@@ -113,6 +115,10 @@ module _ (limit : ℕ) (s : List ℕ) (words : ℕ) {T : List ℕ} {m : Refusal}
   refused-unlimited f =
       by _ (λ e i. i) (λ e i. absurd (omega (arith, f, ap numberOf e)))
       (λ e. let g : m ≡ NoLimit = sym (number-own m) ∙ ap refusalOf f ∙ of-23 in absurd (rw g at (of-reading s (roomOf 4096 words) limit e)))
+
+  -- PLACES. At the place of a refusal, 10 and 23 apart, stands what its number says.
+  pub refused-stands : numberOf m ≢ 10 → numberOf m ≢ 23 → Stands s (numberOf m) p
+  refused-stands f g = by _ (λ e i. absurd (g (ap numberOf e))) (λ e i. absurd (f (ap numberOf e))) (λ e. stands s (roomOf 4096 words) limit e)
 
 -- 8 and 9 the other way: what is derived, and is over one limit alone, is refused for that one.
 module _

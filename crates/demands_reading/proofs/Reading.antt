@@ -9,7 +9,7 @@ use native.Mathlib.Omega.{arith}
 use lib.ListN.{length, getD}
 use Rattle.text.specs.Rfc3629.{UTF8-octets}
 use Rattle.text.specs.Utf8.{wellFormed}
-use Rattle.text.specs.Texts.{ascii, same, among}
+use Rattle.text.specs.Texts.{ascii, same, among, standardName}
 use Rattle.text.proofs.Comparing.{clash}
 use Rattle.text.proofs.Grammar.{accepted, derived}
 use Rattle.lexical.specs.Double.{isDouble}
@@ -18,12 +18,12 @@ use Rattle.lexical.specs.Grammar.{Double, DateTime}
 use Rattle.lexical.proofs.Doubles.{double-exactly, double-ascii}
 use Rattle.lexical.proofs.DateTimes.{datetime-exactly, datetime-ascii}
 use Rattle.draft.specs.declared.Refusal.{Refusal}
-use Rattle.draft.specs.declared.Refusal.the-variants.{Ended, BadText, TooDeep, NoRow, BadFault, BadValue, RepeatedKey}
+use Rattle.draft.specs.declared.Refusal.the-variants.{Ended, BadText, StandardName, TooDeep, NoRow, BadFault, BadValue, RepeatedKey}
 use Rattle.draft.specs.declared.Verdict.the-variants.{Fine}
 use Rattle.draft.specs.declared.Content.the-variants as content
 use Rattle.draft.specs.declared.Row.{Row}
 use Rattle.draft.specs.Bytes.{bytes}
-use Rattle.draft.specs.Content.{contentRule, asciiThen, keyRule, Held, string, integer, isCode, isMessage, isFault, faultRule}
+use Rattle.draft.specs.Content.{contentRule, asciiThen, badIf, nameRule, keyRule, Held, string, integer, isCode, isMessage, isFault, faultRule}
 use Rattle.draft.specs.Codebook.{Book}
 use Rattle.draft.specs.Table.{roomOf}
 use Rattle.draft.specs.Read.{Reading, got, refused, Reader, behind, pair, string as readString, firstText, stringBy, key, member, message, messageWithin}
@@ -151,6 +151,19 @@ mean-same a b = same-meaning a b
 pub text-is-utf8 : (t : List ℕ) → Keeps content.Text t ↔ UTF8-octets t
 unfolding contentRule
 text-is-utf8 t = (λ h. derived t (fine-by (wellFormed t) BadText h), λ h. rw (accepted h))
+
+-- NAMES. An Other's name is none of the nine.
+bad-fine : (b : Bool) (m : Refusal) → (badIf b m ≡ Fine) ↔ (b ≡ false)
+bad-fine true m = (λ e. let z : _≡_ {A = ℕ} 0 1 = cc in absurd (omega arith), λ e. clash refl e)
+bad-fine false m = (λ e. refl, λ e. refl)
+
+pub other-name :
+    (t : List ℕ)
+    → (nameRule t ≡ Fine)
+    ↔ (among (bytes "i4" ∷ bytes "int" ∷ bytes "boolean" ∷ bytes "string" ∷ bytes "double" ∷ bytes "dateTime.iso8601" ∷ bytes "base64" ∷ bytes "struct"
+    ∷ bytes "array" ∷ []) t ≡ false)
+unfolding nameRule standardName
+other-name t = bad-fine (standardName t) StandardName
 
 -- DOUBLES AND DATES. What the grammar asks of a Double's text and of a DateTime's are document 02's productions (crate lexical's Grammar): a sign or
 -- none, digits, a point, digits; and 17 bytes, as in `19980717T14:08:55`, of a day that there is.

@@ -2,21 +2,22 @@
 -- with the same meaning, settled by it, and shortest. Writable tables and the written form are crate draft's Writable and Written; the long
 -- arguments are in crate written. Assumes nothing.
 use mathlib.Core.Path.{_≡_, refl, sym, _∙_}
-use mathlib.Core.Bool.{true}
+use mathlib.Core.Bool.{Bool, true, false, _||_, cond}
 use mathlib.Core.Logic.{_↔_}
-use mathlib.Core.List.{List, _++_}
+use mathlib.Core.List.{List, [], _∷_, _++_}
 use Prim.Native.Nat.{ℕ, _≤_, _<_}
 use native.Mathlib.Omega.{arith}
 use lib.Dec.{leb}
-use lib.ListN.{length, length-take}
-use Rattle.text.specs.Texts.{among}
+use lib.ListN.{length, getD, length-take}
+use Rattle.text.specs.Texts.{same, among}
 use Rattle.draft.specs.declared.Row.{Row}
 use Rattle.draft.specs.Bytes.{Below}
 use Rattle.draft.specs.Table.{roomOf}
 use Rattle.draft.specs.Codebook.{Book}
 use Rattle.draft.specs.Read.{Reading, got, message}
 use Rattle.draft.specs.Meaning.{MeanSame}
-use Rattle.draft.specs.Strings.{Text, repeated, kept, position, textsOf}
+use Rattle.draft.specs.Grammar.{Sent, regular, recorded, recalled}
+use Rattle.draft.specs.Strings.{Text, repeated, kept, position, sents, plan, textsOf}
 use Rattle.draft.specs.Limits.{allowed}
 use Rattle.draft.specs.Writable.{writableWithin, writableTo, writable}
 use Rattle.draft.specs.Written.{written, rowsOf}
@@ -116,6 +117,33 @@ pub positions : (ts : List Text) → (length (kept ts) ≤ 256) × ((t : Text) �
 positions ts =
     let h : length (kept ts) ≤ 256 = omega (arith, length-take 256 (repeated ts)) in
     (h, λ t a. omega (arith, h, position-below (kept ts) t a))
+
+-- FORMS. A string behind those before it: if it has a position, recorded the first time and recalled from then on; else regular.
+turned : (a b c : Bool) → b || (a || c) ≡ (a || b) || c
+turned true true c = refl
+turned true false c = refl
+turned false true c = refl
+turned false false c = refl
+
+or-false : (a : Bool) → a || false ≡ a
+or-false true = refl
+or-false false = refl
+
+sent-behind :
+    (P seen before : List Text) (t : Text) (after : List Text) (d : Sent)
+    → getD (sents P seen (before ++ (t ∷ after))) (length before) d
+    ≡ cond (among P t) (cond (among before t || among seen t) (recalled (position P t) t) (recorded (position P t) t)) (regular t)
+unfolding sents among
+sent-behind P seen [] t after d = refl
+sent-behind P seen (x ∷ before) t after d = sent-behind P (x ∷ seen) before t after d ∙ rw (turned (same t x) (among before t) (among seen t))
+
+pub sent-in :
+    (before : List Text) (t : Text) (after : List Text) (d : Sent)
+    → getD (plan (before ++ (t ∷ after))) (length before) d
+    ≡ cond (among (kept (before ++ (t ∷ after))) t)
+    (cond (among before t) (recalled (position (kept (before ++ (t ∷ after))) t) t) (recorded (position (kept (before ++ (t ∷ after))) t) t)) (regular t)
+unfolding among
+sent-in before t after d = sent-behind (kept (before ++ (t ∷ after))) [] before t after d ∙ rw (or-false (among before t))
 
 -- ONE FORM. Two writable tables, each with its text bytes, have the same written form exactly if they mean the same: with any number of repeated
 -- texts, a form of any length, and whatever limit each was judged by.
