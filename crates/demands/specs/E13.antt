@@ -101,8 +101,9 @@ pub record E13 : Type 0 where
       (limit : ℕ) (s : List ℕ) (words later : ℕ) {T : List ℕ} {n used : ℕ} (p out₀ out : List ℕ) {a : Answer} → Below 256 s → Below 4294967296 T
       → limit ≤ later → Answers (reading limit s words) words T (Accepted n used) → Did later T n s p out₀ out a
       → (reportOf a .number ≡ 11 → ⊥) × (length (repeated (textsOf s (rowsOf 4096 T n))) ≤ 256 → reportOf a .number ≡ 12 → ⊥)
-  -- Ours, beyond the request: what a yes of `certificate::proves`, which is `certified T rows s p prices`, means for any number of repeated texts. The
-  -- plan is taken, and no byte string that the draft reads with the table's meaning has fewer bytes than its message, nor than what is written with it.
+  -- Demand 3's reason: 'I want to know the message can't be cut further, not that somebody tried.' Beyond 256 texts that is a yes of `certificate::proves`,
+  -- which is `certified T rows s p prices`, and is ours: the plan is taken, and no byte string that the draft reads with the table's meaning has fewer
+  -- bytes than its message, nor than what is written with it.
   pub certified-plan :
       (T : List ℕ) (rows : ℕ) (s p prices : List ℕ) → Below 4294967296 T → certified T rows s p prices ≡ true → Taken s (rowsOf 4096 T rows) p
   pub certified-shortest :
