@@ -24,7 +24,7 @@ use Rattle.plan_writer.specs.declared.Answer.{Answer}
 use Rattle.plan_writer.specs.declared.Answer.the-variants.{Written}
 use Rattle.plan_writer.specs.Answers.{Did, reportOf}
 use Rattle.certificate.specs.Certificate.{certified}
-use Rattle.written.specs.Derivable.{HoldAlike}
+use Rattle.written.specs.Derivable.{DerivesRows, HoldAlike}
 use Rattle.demands_plans.specs.Plans.{ReadAs, Taken, Chosen, Ready, AcceptedFor, RefusedFor}
 
 -- 'Past 256 repeated texts, 01 writes the rest in full.' Document 01's form is `written`, of the page of demand 3.
@@ -77,6 +77,11 @@ pub record Alike (T T′ : List ℕ) (rows : ℕ) (a a′ : Answer) (out out′ 
 
 pub record E13 : Type 0 where
   pub sending : Sending
+  -- that message is one: of a plan that is taken, the draft derives it with the table's meaning, its strings sent so
+  pub sent-so :
+      (limit : ℕ) (T : List ℕ) (rows : ℕ) (s p : List ℕ) → Below 4294967296 T → Ready limit T rows s → Taken s (rowsOf 4096 T rows) p
+      → (g : DerivesRows limit (planned s (rowsOf 4096 T rows) p) s (rowsOf 4096 T rows))
+      × (g .derived .sents ≡ sentsFrom p 0 (textsOf s (rowsOf 4096 T rows)))
   -- 'A plan is taken exactly if it has that length and those values, and its message reads, 8, 9 and 10 put aside, with the table's meaning.' (`Taken`)
   pub taken :
       (limit : ℕ) (T : List ℕ) (rows : ℕ) (s p out₀ out : List ℕ) {a : Answer} → Below 4294967296 T → Did limit T rows s p out₀ out a
