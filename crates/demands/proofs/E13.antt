@@ -6,6 +6,7 @@ use Rattle.demands.specs.E13.{E13}
 pub holds : E13
 holds = record {
   sending = record { by-form = plans.by-form; in-row-order = plans.in-row-order; plan-message = plans.plan-message };
+  sent-so = λ limit T rows s p w r t. plans.sent-so limit T rows s (r .2) w p t;
   taken = λ limit T rows s p out₀ out w d r. plans.taken-unless limit T rows s p out₀ out w d r;
   writes = λ limit T rows s p out₀ out w d. record {
     which = plans.which limit T rows s p out₀ out d;

@@ -21,7 +21,7 @@ functions = record {
   brought = λ r h. by-state.brought _ (r .limited) _ _ (r .long) _ _ (r .calls) h;
   later-pieces = λ r h c. by-state.later-calls _ (r .limited) _ _ (r .long) _ (r .calls) h c;
   settled = λ r o l. by-state.settled _ (r .limited) _ _ (r .long) _ _ (o .long) l _ _ (r .calls) (o .calls);
-  room-holds = λ r. by-state.room-holds _ (r .limited) _ _ (r .long) _ (r .calls);
+  room-holds = λ r h c. by-state.room-next _ (r .limited) _ _ (r .long) _ (r .calls) h c;
   ten-only = λ r t. by-state.ten-told _ (r .limited) _ _ (r .long) _ (r .calls) t;
   ten-given = λ r h k. by-state.ten-given _ (r .limited) _ _ (r .long) _ (r .calls) h k;
   short-room = λ ok h c. by-state.short-call _ ok h c;
@@ -38,7 +38,7 @@ exports = record {
   brought = λ r h. by-words.brought _ (r .limited) _ _ (r .long) _ _ (r .calls) h;
   later-pieces = λ r h c. by-words.later-pieces _ (r .limited) _ _ (r .long) _ (r .calls) h c;
   settled = λ r o l. by-words.settled _ (r .limited) _ _ (r .long) _ _ (o .long) l _ _ (r .calls) (o .calls);
-  room-holds = λ r. by-words.room-holds _ (r .limited) _ _ (r .long) _ (r .calls);
+  room-holds = λ r h c. by-words.room-next _ (r .limited) _ _ (r .long) _ (r .calls) h c;
   ten-only = λ r t. by-words.ten-told _ (r .limited) _ _ (r .long) _ (r .calls) t;
   ten-given = λ r h k. by-words.ten-given _ (r .limited) _ _ (r .long) _ (r .calls) h k;
   short-room = λ ok h c. by-words.short-room _ ok h c;
@@ -46,4 +46,10 @@ exports = record {
 }
 
 pub holds : E6
-holds = record { functions = functions; exports = exports; next-returns = λ r. returned (r .kept); end-returns = λ r. returned (r .kept) }
+holds = record {
+  with-one = by-state.with-one;
+  functions = functions;
+  exports = exports;
+  next-returns = λ r. returned (r .kept);
+  end-returns = λ r. returned (r .kept);
+}

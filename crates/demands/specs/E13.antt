@@ -24,7 +24,7 @@ use Rattle.plan_writer.specs.declared.Answer.{Answer}
 use Rattle.plan_writer.specs.declared.Answer.the-variants.{Written}
 use Rattle.plan_writer.specs.Answers.{Did, reportOf}
 use Rattle.certificate.specs.Certificate.{certified}
-use Rattle.written.specs.Derivable.{HoldAlike}
+use Rattle.written.specs.Derivable.{DerivesRows, HoldAlike}
 use Rattle.demands_plans.specs.Plans.{ReadAs, Taken, Chosen, Ready, AcceptedFor, RefusedFor}
 
 -- 'Past 256 repeated texts, 01 writes the rest in full.' Document 01's form is `written`, of the page of demand 3.
@@ -77,6 +77,11 @@ pub record Alike (T T′ : List ℕ) (rows : ℕ) (a a′ : Answer) (out out′ 
 
 pub record E13 : Type 0 where
   pub sending : Sending
+  -- that message is one: of a plan that is taken, the draft derives it with the table's meaning, its strings sent so
+  pub sent-so :
+      (limit : ℕ) (T : List ℕ) (rows : ℕ) (s p : List ℕ) → Below 4294967296 T → Ready limit T rows s → Taken s (rowsOf 4096 T rows) p
+      → (g : DerivesRows limit (planned s (rowsOf 4096 T rows) p) s (rowsOf 4096 T rows))
+      × (g .derived .sents ≡ sentsFrom p 0 (textsOf s (rowsOf 4096 T rows)))
   -- 'A plan is taken exactly if it has that length and those values, and its message reads, 8, 9 and 10 put aside, with the table's meaning.' (`Taken`)
   pub taken :
       (limit : ℕ) (T : List ℕ) (rows : ℕ) (s p out₀ out : List ℕ) {a : Answer} → Below 4294967296 T → Did limit T rows s p out₀ out a
@@ -101,8 +106,9 @@ pub record E13 : Type 0 where
       (limit : ℕ) (s : List ℕ) (words later : ℕ) {T : List ℕ} {n used : ℕ} (p out₀ out : List ℕ) {a : Answer} → Below 256 s → Below 4294967296 T
       → limit ≤ later → Answers (reading limit s words) words T (Accepted n used) → Did later T n s p out₀ out a
       → (reportOf a .number ≡ 11 → ⊥) × (length (repeated (textsOf s (rowsOf 4096 T n))) ≤ 256 → reportOf a .number ≡ 12 → ⊥)
-  -- Ours, beyond the request: what a yes of `certificate::proves`, which is `certified T rows s p prices`, means for any number of repeated texts. The
-  -- plan is taken, and no byte string that the draft reads with the table's meaning has fewer bytes than its message, nor than what is written with it.
+  -- Demand 3's reason: 'I want to know the message can't be cut further, not that somebody tried.' Beyond 256 texts that is a yes of `certificate::proves`,
+  -- which is `certified T rows s p prices`, and is ours: the plan is taken, and no byte string that the draft reads with the table's meaning has fewer
+  -- bytes than its message, nor than what is written with it.
   pub certified-plan :
       (T : List ℕ) (rows : ℕ) (s p prices : List ℕ) → Below 4294967296 T → certified T rows s p prices ≡ true → Taken s (rowsOf 4096 T rows) p
   pub certified-shortest :

@@ -6,31 +6,30 @@ use mathlib.Core.Path.{_≡_}
 use mathlib.Core.Bool.{true, false}
 use mathlib.Core.Logic.{_↔_}
 use mathlib.Core.List.{List, [], _∷_, _++_}
-use Prim.Native.Nat.{ℕ, _^_, _≤_}
+use Prim.Native.Nat.{ℕ, _^_, _≤_, _<_}
 use Prim.Native.Char.{code}
-use lib.IntN.{pos}
+use lib.IntN.{ℤ, pos, _-ℤ_}
 use lib.ListN.{length}
-use lib.Ieee.{Float, binary64, ofInt, div}
+use lib.Ieee.{Float, binary64, ofInt, div, neg}
 use lib.Ieee.Exact.{HasValue}
-use Rattle.text.specs.Texts.{same}
 use Rattle.lexical.specs.Grammar.{Sign, Digits}
 use Rattle.decimal.specs.declared.Decimal.the-variants.{Value}
-use Rattle.decimal.specs.Digits.{significant, whole}
-use Rattle.decimal.specs.Decimal.{power, signed, held, decimalOf}
-use Rattle.draft.specs.declared.Row.{Row}
+use Rattle.decimal.specs.Decimal.{power, held, decimalOf}
+use Rattle.draft.specs.declared.Row.{Row as TableRow}
 use Rattle.draft.specs.Bytes.{Below, bytes}
 use Rattle.draft.specs.Codebook.{Book}
 use Rattle.draft.specs.Read.{got}
 use Rattle.draft.specs.Grammar.{Cell, Begins}
 use Rattle.read_answer.specs.Answers.{reading, tableOf}
 use Rattle.member.specs.declared.Member.{Member}
-use Rattle.lookup_answer.specs.Answers.{lookup}
+use Rattle.lookup_answer.specs.declared.Answer.the-variants.{Whole, Decimal, Truth, Text, Row}
+use Rattle.lookup_answer.specs.Answers.{signed, lookup}
 use Rattle.lookup_answer.specs.Reports.{plusZero, reported, reportOf}
 use Rattle.placing.specs.Placing.{at, acceptedAt}
 use Rattle.defaults.specs.Defaults.{Source, isWritable}
 use Rattle.meant.specs.Meant.{Answered}
-use Rattle.meant.specs.Parts.{values}
 use Rattle.demands_lookups.specs.Asked.{looked, told, placed, placedNumber, Has, Yields, Missing, NoDouble, IsDouble, LongDouble, DoubleOf, OneOf, AllOf}
+use Rattle.demands_lookups.specs.Spelled.{ZerosDropped, WholeNumber}
 
 -- what a Double's text is: a sign or none, digits, a point, digits
 pub record Written (sign before fraction t : List ℕ) : Type 0 where
@@ -39,9 +38,9 @@ pub record Written (sign before fraction t : List ℕ) : Type 0 where
   pub places : Digits fraction
   pub is : t ≡ sign ++ (before ++ (code "." ∷ fraction))
 
--- its digits after leading zeros are dropped
-abbrev pub counted : List ℕ → List ℕ → List ℕ
-counted before fraction = significant (values (before ++ fraction))
+-- 'divided once by the power of ten'
+abbrev pub divided : ℕ → ℕ → Float
+divided n places = div binary64 (ofInt binary64 (pos n)) (power places)
 
 pub record E5 : Type 0 where
   -- 'The laser takes members x, y and turn of one Struct, named by its row.'
@@ -55,21 +54,33 @@ pub record E5 : Type 0 where
   pub yields :
       (c : Source) → isWritable c ≡ true → Below 4294967296 (c .table) → (key : List ℕ) (m : Member) → Has c key m → Yields c m (looked c key)
   pub message-says :
-      (limit : ℕ) (s : List ℕ) (words : ℕ) (rows : List Row) (used : ℕ) (book : Book) → reading limit s words ≡ got rows used book → Below 256 s
+      (limit : ℕ) (s : List ℕ) (words : ℕ) (rows : List TableRow) (used : ℕ) (book : Book) → reading limit s words ≡ got rows used book → Below 256 s
       → (to nesting : ℕ) (cells : List Cell) → Begins s to nesting cells → (r : ℕ) (key : List ℕ)
       → Answered s cells r key (lookup (tableOf words (got rows used book)) (length rows) s r key)
+  -- A whole number is 01's Integer, 'signed two's complement'; and an answer as it is reported: 0, its sort, and its own numbers.
+  pub whole-number : (n : ℕ) → (n < 2147483648 → signed n ≡ pos n) × (2147483648 ≤ n → signed n ≡ pos n -ℤ pos 4294967296)
+  pub reports :
+      (z : ℤ) (x : Float) (o n r : ℕ)
+      → (reportOf (Whole z) ≡ reported 0 1 z plusZero 0 0)
+      × (reportOf (Decimal x) ≡ reported 0 2 (pos 0) x 0 0)
+      × (reportOf (Truth true) ≡ reported 0 3 (pos 1) plusZero 0 0)
+      × (reportOf (Truth false) ≡ reported 0 3 (pos 0) plusZero 0 0)
+      × (reportOf (Text o n) ≡ reported 0 4 (pos 0) plusZero o n)
+      × (reportOf (Row r) ≡ reported 0 5 (pos r) plusZero 0 0)
   -- 'with repeated keys the first wins': E7 leaves none, so of a writable table the member with a key is the only one.
   pub only-one :
       (c : Source) → isWritable c ≡ true → Below 4294967296 (c .table) → (key : List ℕ) (m m′ : Member) → Has c key m → Has c key m′ → m ≡ m′
   -- 'A decimal holds at most 15 digits after leading zeros are dropped and at most 22 after the point.'
   pub decimal-holds :
-      (sign before fraction t : List ℕ) → Written sign before fraction t
-      → (held t ≡ true) ↔ ((length (counted before fraction) ≤ 15) × (length fraction ≤ 22))
+      (sign before fraction t ds : List ℕ) → Written sign before fraction t → ZerosDropped (before ++ fraction) ds
+      → (held t ≡ true) ↔ ((length ds ≤ 15) × (length fraction ≤ 22))
   -- 'Its f64 is the digits as a whole number divided once by the power of ten, then negated if the sign is minus.'
   pub decimal-value :
-      (sign before fraction t : List ℕ) → Written sign before fraction t → held t ≡ true
-      → decimalOf t
-      ≡ Value (signed (same sign (code "-" ∷ [])) (div binary64 (ofInt binary64 (pos (whole 0 (counted before fraction)))) (power (length fraction))))
+      (sign before fraction t : List ℕ) (n : ℕ) → Written sign before fraction t → WholeNumber (before ++ fraction) n → held t ≡ true
+      → (sign ≡ code "-" ∷ [] → ⊥) → decimalOf t ≡ Value (divided n (length fraction))
+  pub decimal-minus :
+      (before fraction t : List ℕ) (n : ℕ) → Written (code "-" ∷ []) before fraction t → WholeNumber (before ++ fraction) n → held t ≡ true
+      → decimalOf t ≡ Value (neg (divided n (length fraction)))
   -- 'Powers come from a table of the powers of ten up to 22.' The table is `decimal`'s POWERS, whose entry k `decimal::power` equates with `power k`.
   pub powers : (k : ℕ) → k ≤ 22 → HasValue (power k) false (10 ^ k) 1
   -- 'A position keeps x, y and turn together as decimals, each from a Double.' This is position-taken. 'A refused one is three plus zeros.'

@@ -4,14 +4,15 @@
 use mathlib.Core.Path.{_≡_}
 use mathlib.Core.Bool.{true, false}
 use mathlib.Core.Logic.{_↔_}
-use mathlib.Core.List.{List, [], _∷_}
+use mathlib.Core.List.{List, [], _∷_, _++_}
 use Prim.Native.Nat.{ℕ, _≤_, _<_}
 use lib.ListN.{length, take, drop, replicate, getD}
 use Rattle.draft.specs.Limits.{allowed}
+use Rattle.draft.specs.Read.{Reading}
 use Rattle.read_answer.specs.Answers.{reading, tableOf}
 use Rattle.rereading.specs.Rereading.{refusedWithOne}
 use Rattle.pieces.specs.declared.State.{State}
-use Rattle.pieces.specs.Pieces.{Told, more, refusal, joined, outcome, through, roomWith, toldOf, soFar}
+use Rattle.pieces.specs.Pieces.{Told, more, refusal, joined, outcome, toldOf, soFar}
 use Rattle.pieces.specs.Steps.{told, Closed}
 use Rattle.pieces.specs.Runs.{begun, Runs}
 use Rattle.piece_reports.specs.Words.{wordsOf, toldBy}
@@ -65,9 +66,11 @@ module _ (S : Type 0) (start : S) (tells : S → Told) (Runs : RunsOver S) (End 
     pub settled :
         {limit : ℕ} {R₀ T₀ R T Q₀ U₀ Q U p : List ℕ} {ps : List (List ℕ)} {s s′ : S} → Run limit R₀ T₀ (p ∷ ps) s R T → Run limit Q₀ U₀ (p ∷ ps) s′ Q U
         → length T₀ ≡ length U₀ → (tells s ≡ tells s′) × (T ≡ U)
-    -- 'The room begins with the pieces' bytes through the deciding piece, cut at 65,536; its rest never changes.'
+    -- 'The room begins with the pieces' bytes through the deciding piece, cut at 65,536; its rest never changes.' A piece that comes while more is wanted
+    -- is the deciding one, or more is wanted still; of a later one, later-pieces.
     pub room-holds :
-        {limit : ℕ} {R₀ T₀ R T : List ℕ} {ps : List (List ℕ)} {s : S} → Run limit R₀ T₀ ps s R T → R ≡ roomWith (through limit (length T₀) [] ps) R₀
+        {limit : ℕ} {R₀ T₀ R T R′ T′ p : List ℕ} {ps : List (List ℕ)} {s s′ : S} → Run limit R₀ T₀ ps s R T → tells s ≡ more
+        → Runs limit (p ∷ []) s R T s′ R′ T′ → R′ ≡ take 65536 (joined ps ++ p) ++ drop (length (take 65536 (joined ps ++ p))) R₀
     -- 'Refusals: 10 here only if no answer is reached within 65,536 bytes and another byte comes;' at place 0, since none is given
     pub ten-only :
         {limit : ℕ} {R₀ T₀ R T : List ℕ} {ps : List (List ℕ)} {s : S} {place : ℕ} → Run limit R₀ T₀ ps s R T → tells s ≡ refusal 10 place
@@ -86,6 +89,8 @@ module _ (S : Type 0) (start : S) (tells : S → Told) (Runs : RunsOver S) (End 
 -- `pieces::start`, `next` and `end`; and the exported calls: `binmode_pieces_start` leaves `wordsOf begun`, and what `toldBy` reads in the words (the
 -- answer, the rows, the bytes used, the place) is what the caller reads there. `binmode_pieces_next` and `_end` have the limit 8, `_within` any
 pub record E6 : Type 0 where
+  -- 'would be refused with 1': what `refusedWithOne` tests
+  pub with-one : (o : Reading) → (refusedWithOne o ≡ true) ↔ ((place : ℕ) × (toldOf o ≡ refusal 1 place))
   pub functions : InPieces State begun told Runs Closed
   pub exports : InPieces (List ℕ) (wordsOf begun) toldBy Calls EndCall
   -- 'and says after each': the number that an exported call returns is the first word

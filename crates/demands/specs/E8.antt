@@ -12,13 +12,12 @@ use Rattle.draft.specs.Bytes.{Below}
 use Rattle.draft.specs.Read.{textOf}
 use Rattle.member.specs.declared.Member.{Member}
 use Rattle.member.specs.Members.{memberOf, isStruct, isAmong}
-use Rattle.order.specs.ByteOrder.{compared}
-use Rattle.order.specs.declared.Relation.the-variants.{Before}
 use Rattle.lookup_answer.specs.declared.Report.{Report}
 use Rattle.lookup_answer.specs.Reports.{reportOf}
-use Rattle.index_search.specs.Through.{keyAt, reportsOf}
+use Rattle.index_search.specs.Through.{keyAt, reportsOf, judgement}
 use Rattle.defaults.specs.Defaults.{Source, rowIn, isWritable}
 use Rattle.demands_lookups.specs.Asked.{looked, told, itsMembers, NoStruct}
+use Rattle.demands_lookups.specs.Spelled.{BytesBefore}
 use Rattle.demands_lookups.specs.Through.{Fills, lookedThrough, entry, Names, Free}
 
 -- what a list is that filling made with 0
@@ -32,7 +31,7 @@ pub record Index (c : Source) (n : ℕ) (es : List Member) : Type 0 where
   -- 'in byte order of the keys, each naming its key row and value row.' An entry is a member, which is those two rows.
   pub sorted :
       (i j : ℕ) → i < j → j < length (itsMembers c)
-      → compared (textOf (c .text) (rowIn c (entry es i .key))) (textOf (c .text) (rowIn c (entry es j .key))) ≡ Before
+      → BytesBefore (textOf (c .text) (rowIn c (entry es i .key))) (textOf (c .text) (rowIn c (entry es j .key)))
   -- 'Looking up through it gives what the search from the front gives, for every key.'
   pub finds : n < 2 ^ 64 → (key : List ℕ) → lookedThrough c es key ≡ looked c key
   -- 'Unused entries are zero.'
@@ -41,6 +40,10 @@ pub record Index (c : Source) (n : ℕ) (es : List Member) : Type 0 where
 pub record E8 : Type 0 where
   -- 'Transit cards carry some 300 members. I want a lent list of index entries [..]'
   pub filled : (c : Source) → Below 4294967296 (c .table) → isWritable c ≡ true → (n : ℕ) (es : List Member) → Fills c n 0 es → Index c n es
+  -- which is filled exactly if none of the refusals below is given
+  pub accepted :
+      (c : Source) → Below 4294967296 (c .table) → (n answer : ℕ) (es : List Member) → Fills c n answer es
+      → (answer ≡ 0) ↔ ((isWritable c ≡ true) × (isStruct (rowIn c) (c .rows) (c .row) ≡ true) × (length (itsMembers c) ≤ n))
   -- every key of a call has the report of one lookup
   pub each-key :
       (c : Source) (es : List Member) (keys ends : List ℕ) (n i : ℕ) (d : Report) → i < n
@@ -53,11 +56,16 @@ pub record E8 : Type 0 where
       → told (lookedThrough c es key) ≡ 18
   pub eleven-apart :
       (c : Source) → Below 4294967296 (c .table) → (es : List Member) (key : List ℕ) → (told (lookedThrough c es key) ≡ 11) ↔ (isWritable c ≡ false)
+  -- and what a call with several keys returns is `judgement ..`
+  pub find-returns :
+      (c : Source) → (isWritable c ≡ true → judgement (c .table) (c .rows) (c .text) ≡ 0)
+      × (isWritable c ≡ false → judgement (c .table) (c .rows) (c .text) ≡ 11)
   -- 'Refusals: 11,'
   pub eleven : (c : Source) → Below 4294967296 (c .table) → (n answer : ℕ) (es : List Member) → Fills c n answer es → (answer ≡ 11) ↔ (isWritable c ≡ false)
   -- '18 as in E5,'
   pub eighteen :
-      (c : Source) → Below 4294967296 (c .table) → (n answer : ℕ) (es : List Member) → Fills c n answer es → (answer ≡ 18) ↔ ((isWritable c ≡ true) × NoStruct c)
+      (c : Source) → Below 4294967296 (c .table) → (n answer : ℕ) (es : List Member) → Fills c n answer es
+      → (answer ≡ 18) ↔ ((isWritable c ≡ true) × NoStruct c)
   -- 'then 21 if the list is shorter than the member count;'
   pub twenty-one :
       (c : Source) → Below 4294967296 (c .table) → (n answer : ℕ) (es : List Member) → Fills c n answer es

@@ -14,6 +14,7 @@ use Rattle.member.specs.declared.Member.{Member}
 use Rattle.lookup_answer.specs.declared.Answer.the-variants.{Text}
 use Rattle.choice.specs.declared.Choice.the-variants.{Card, Defaults}
 use Rattle.choice.specs.Choosing.{byteOf, choiceNumber, Handed}
+use Rattle.lookup_reports.specs.Numbers.{textReport, textReportOf}
 use Rattle.defaults.specs.Defaults.{Source, isWritable, chosen}
 use Rattle.demands_lookups.specs.Asked.{looked, Has, Without}
 use Rattle.demands_lookups.specs.Handed.{Fit, NoText, Lies}
@@ -38,6 +39,12 @@ pub record E9 : Type 0 where
       (card defaults : Source) (key : List ℕ) (s d r : RefT (List ℕ)) (number from o n : ℕ) → Handed s d (chosen card defaults key) r number from
       → Below 4294967296 (card .table) → Below 4294967296 (defaults .table) → now d ≡ defaults .text → chosen card defaults key ≡ Defaults o n
       → Lies d o n r × (number ≡ 0) × (from ≡ 1)
+  -- The same of `binmode_default_text`, which reports `textReportOf (chosen ..)`: a number, which of the two, and the text's offset and length there.
+  pub card-report :
+      (card defaults : Source) (key : List ℕ) (o n : ℕ) → chosen card defaults key ≡ Card o n → textReportOf (chosen card defaults key) ≡ textReport 0 0 o n
+  pub defaults-report :
+      (card defaults : Source) (key : List ℕ) (o n : ℕ) → chosen card defaults key ≡ Defaults o n
+      → textReportOf (chosen card defaults key) ≡ textReport 0 1 o n
   -- 'Both Structs are named by their rows.' The row of each source.
 
   -- 'Refusals: 11 for the card, then for the defaults;'
@@ -56,3 +63,6 @@ pub record E9 : Type 0 where
   pub refused-part :
       (card defaults : Source) (key : List ℕ) (s d r : RefT (List ℕ)) (number from : ℕ) → Handed s d (chosen card defaults key) r number from
       → (number ≡ 0 → ⊥) → (now r ≡ []) × (r .ptr ≡ byteOf s 0) × (from ≡ 0)
+  pub refused-report :
+      (card defaults : Source) (key : List ℕ) → (choiceNumber (chosen card defaults key) ≡ 0 → ⊥)
+      → textReportOf (chosen card defaults key) ≡ textReport (choiceNumber (chosen card defaults key)) 0 0 0

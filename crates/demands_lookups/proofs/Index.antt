@@ -8,7 +8,7 @@ use Prim.Native.Nat.{ℕ, _+_, _^_, _≤_, _<_}
 use native.Mathlib.Omega.{arith}
 use lib.Dec.{ltb}
 use lib.ListN.{length, getD}
-use borrow.Author.Tests.{le-ltb, lt-ltb, ltb-true}
+use borrow.Author.Tests.{le-ltb, lt-ltb, ltb-true, ltb-false}
 use Rattle.draft.specs.declared.Row.{Row}
 use Rattle.draft.specs.Read.{textOf}
 use Rattle.draft.specs.Table.{roomOf, rowAt}
@@ -28,7 +28,7 @@ use Rattle.lookup_answer.specs.Reports.{reportOf}
 use Rattle.shape.proofs.Judged.{rows-stated, room-most}
 use Rattle.seeking.specs.Seeking.{unused}
 use Rattle.index.specs.Filling.{refusalIn, refusalOf, orderOf, entries, Filled}
-use Rattle.index_search.specs.Through.{throughIf, through, keyAt, reportsOf}
+use Rattle.index_search.specs.Through.{throughIf, through, keyAt, reportsOf, judgement}
 use Rattle.defaults.specs.Defaults.{Source, rowIn, isWritable}
 use Rattle.index_search.proofs.Theorems as index
 use Rattle.meant.proofs.Saying.{standing}
@@ -36,7 +36,9 @@ use Rattle.meant.proofs.Only.{members-stand}
 use Rattle.demands_writing.proofs.Writing.{Words, form-derived, judged}
 use Rattle.demands_lookups.specs.Asked.{told, itsMembers, NoStruct}
 use Rattle.demands_lookups.specs.Through.{Fills, lookedThrough, Names, Free, as-front, no-member}
+use Rattle.demands_lookups.specs.Spelled.{BytesBefore}
 use Rattle.demands_lookups.proofs.Lookups.{distinct-members}
+use Rattle.demands_lookups.proofs.Spelled.{bytes-before}
 use Rattle.demands_lookups.proofs.Refusals.{has-by, eleven}
 
 -- REFUSED. Whatever was refused, all entries are unused: (0, 0).
@@ -118,6 +120,9 @@ module _ (T : List ℕ) (rows : ℕ) (s : List ℕ) (e : writable T rows s ≡ t
         )
         (index.entries-ascend (roomOf 4096 (length T)) row rows s its stand (omega arith) most within n (distinct-members T rows s e w r) i j h (omega (arith, c)))
 
+    pub filled-before : (i j : ℕ) → i < j → j < length its → BytesBefore (textOf s (row (getD es i unused .key))) (textOf s (row (getD es j unused .key)))
+    filled-before i j h l = bytes-before _ _ (filled-sorted i j h l)
+
     pub filled-once : (i j : ℕ) → i < j → j < length its → getD es i unused ≡ getD es j unused → ⊥
     filled-once i j h l g = before-equal (rw g at (filled-sorted i j h l)) (compared-self (textOf s (row (getD es j unused .key))))
 
@@ -142,6 +147,12 @@ module _ (T : List ℕ) (rows : ℕ) (s : List ℕ) (r : ℕ) (es : List Member)
 
 -- ---- of a source
 
+-- what a call with several keys returns
+pub find-returns :
+    (c : Source) → (isWritable c ≡ true → judgement (c .table) (c .rows) (c .text) ≡ 0) × (isWritable c ≡ false → judgement (c .table) (c .rows) (c .text) ≡ 11)
+unfolding judgement
+find-returns c = (λ e. rw e, λ e. rw e)
+
 -- the number of filling, by three tests: 11 before 18, 18 before 21
 abbrev number : Bool → Bool → Bool → ℕ
 number a b d = cond a (cond b (cond d 21 0) 18) 11
@@ -163,6 +174,12 @@ when-short false b d h = absurd (omega arith)
 when-short true false d h = absurd (omega arith)
 when-short true true true h = (refl, refl, refl)
 when-short true true false h = absurd (omega arith)
+
+when-filled : (a b d : Bool) → number a b d ≡ 0 → (a ≡ true) × (b ≡ true) × (d ≡ false)
+when-filled false b d h = absurd (omega arith)
+when-filled true false d h = absurd (omega arith)
+when-filled true true true h = absurd (omega arith)
+when-filled true true false h = (refl, refl, refl)
 
 module _ (c : Source) (w : Words (c .table)) where
   module _ {n answer : ℕ} {es : List Member} (f : Fills c n answer es) where
@@ -189,6 +206,12 @@ module _ (c : Source) (w : Words (c .table)) where
     fill-short = (
       λ h. let i = when-short (isWritable c) (isStruct (rowIn c) (c .rows) (c .row)) short (sym fill-number ∙ h) in (i .0, i .1, ltb-true n (length (itsMembers c)) (i .2)),
       λ (e, i, h). fill-number ∙ rw (e, i, lt-ltb n (length (itsMembers c)) h),
+    )
+
+    pub fill-none : (answer ≡ 0) ↔ ((isWritable c ≡ true) × (isStruct (rowIn c) (c .rows) (c .row) ≡ true) × (length (itsMembers c) ≤ n))
+    fill-none = (
+      λ h. let i = when-filled (isWritable c) (isStruct (rowIn c) (c .rows) (c .row)) short (sym fill-number ∙ h) in (i .0, i .1, ltb-false n (length (itsMembers c)) (i .2)),
+      λ (e, i, h). fill-number ∙ rw (e, i, le-ltb n (length (itsMembers c)) h),
     )
 
   -- THROUGH ANY LIST: the property of the free result

@@ -3,3 +3,4 @@ pub mod Defaults
 pub mod Index
 pub mod Refusals
 pub mod Positions
+pub mod Spelled

@@ -20,7 +20,7 @@ use Rattle.rereading.specs.Rereading.{refusedWithOne}
 use Rattle.room.specs.Room.{taken}
 use Rattle.pieces.specs.declared.State.{State}
 use Rattle.pieces.specs.declared.State.the-variants.{More, Accepted, Refused}
-use Rattle.pieces.specs.Pieces.{joined, outcome, through, roomWith, more, refusal, toldOf, soFar}
+use Rattle.pieces.specs.Pieces.{joined, outcome, more, refusal, toldOf, soFar}
 use Rattle.pieces.specs.Steps.{told, stateOf as stateRead, bytesHeld, stateWent, Went, Closed}
 use Rattle.pieces.specs.Runs.{begun, Runs, none, piece}
 use Rattle.piece_reports.specs.Words.{wordsOf, toldBy, stateOf}
@@ -111,8 +111,12 @@ module _ (limit : ℕ) (ok : allowed limit ≡ true) (R₀ T₀ : List ℕ) (lon
       let i = functions.later-calls limit ok R₀ T₀ long ps (started .run) (λ e. h (tells-last ∙ e)) (n .run) in
       (n .words ∙ ap wordsOf (i .0) ∙ sym (started .words), i .1, i .2)
 
-  pub room-holds : R ≡ roomWith (through limit (length T₀) [] ps) R₀
-  room-holds = functions.room-holds limit ok R₀ T₀ long ps (started .run)
+  pub room-next :
+      {p w′ R′ T′ : List ℕ} → toldBy w ≡ more → Calls limit (p ∷ []) w R T w′ R′ T′
+      → R′ ≡ take 65536 (joined ps ++ p) ++ drop (length (take 65536 (joined ps ++ p))) R₀
+  room-next h next =
+      let n = as-run (started .last) (started .words) (started .rows) next in
+      functions.room-next limit ok R₀ T₀ long ps (started .run) (sym tells-last ∙ h) (n .run)
 
   pub ten-told : {p : ℕ} → toldBy w ≡ refusal 10 p → (refusedWithOne (reading limit (take 65536 (joined ps)) (length T₀)) ≡ true) × (65536 < length (joined ps))
   ten-told h = functions.ten-told limit ok R₀ T₀ long ps (started .run) (sym tells-last ∙ h)

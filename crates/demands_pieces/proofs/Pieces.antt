@@ -3,15 +3,16 @@
 -- are calls over the pieces ps from `pieces::start` on, each with that one limit, the state as last returned, and one room and table untouched in
 -- between. Assumes nothing.
 use mathlib.Core.Path.{_≡_, refl, sym, ap, _∙_}
-use mathlib.Core.Bool.{true, false}
+use mathlib.Core.Bool.{true, false, true≢false}
 use mathlib.Core.Logic.{_↔_}
 use mathlib.Core.List.{List, [], _∷_, _++_}
 use Prim.Native.Nat.{ℕ, _≤_, _<_}
 use native.Mathlib.Omega.{arith}
 use lib.ListN.{length, take, drop, replicate}
-use borrow.Author.Tests.{lt-ltb}
+use borrow.Author.Tests.{lt-ltb, eq-eqb, eqb-true}
 use Rattle.draft.specs.declared.Refusal.the-variants.{NoLimit}
 use Rattle.draft.specs.Limits.{allowed}
+use Rattle.draft.specs.Refusals.{numberOf}
 use Rattle.draft.specs.Read.{Reading, got, refused}
 use Rattle.read_answer.specs.Answers.{reading, tableOf}
 use Rattle.rereading.specs.Rereading.{refusedWithOne}
@@ -21,7 +22,7 @@ use Rattle.pieces.specs.declared.State.the-variants.{More, Refused}
 use Rattle.pieces.specs.Pieces.{joined, outcome, through, roomWith, more, refusal, toldOf, soFar}
 use Rattle.pieces.specs.Steps.{told, Went, Closed}
 use Rattle.pieces.specs.Runs.{begun, Runs, none, piece}
-use Rattle.cuts.proofs.Outcomes.{whole, wanting-reads, ten-only, outcome-ten, outcome-settled, outcome-through, all-joined, joined-append}
+use Rattle.cuts.proofs.Outcomes.{whole, wanting-reads, ten-only, outcome-ten, outcome-settled, outcome-through, through-more, through-step, all-joined, joined-append}
 use Rattle.cuts.proofs.Holding.{same-room}
 use Rattle.cuts.proofs.Calling.{decidedAs, Is, waiting, done}
 use Rattle.cuts.proofs.Running as run
@@ -64,6 +65,34 @@ module _ (limit : ℕ) (ok : allowed limit ≡ true) (R₀ T₀ : List ℕ) (lon
   as-whole {T′} {last} few w =
       let n = run.run-stands limit ok R₀ T₀ ps long calls in
       rw (← whole limit ok (length T₀) ps few) (run.end-is limit ok (length T₀) (length R) T T′ last long-still (n .size) (n .is) w)
+
+-- refused with 1
+pub with-one : (o : Reading) → (refusedWithOne o ≡ true) ↔ ((place : ℕ) × (toldOf o ≡ refusal 1 place))
+with-one (got rows used book) = (λ e. absurd (true≢false (sym e)), λ (place, e). let z : _≡_ {A = ℕ} 0 1 = cc in absurd (omega arith))
+with-one (refused m q) = (λ e. (q, rw (eqb-true (numberOf m) 1 e)), λ (place, e). let i : numberOf m ≡ 1 = cc in eq-eqb (numberOf m) 1 i)
+
+through-append :
+    (limit : ℕ) (ok : allowed limit ≡ true) (words : ℕ) (ps : List (List ℕ)) (s p : List ℕ)
+    → through limit words s (ps ++ (p ∷ [])) ≡ through limit words (through limit words s ps) (p ∷ [])
+unfolding through
+through-append limit ok words [] s p = refl
+through-append limit ok words (q ∷ ps) s p =
+    through-step limit ok words s q (ps ++ (p ∷ []))
+    ∙ through-append limit ok words ps (through limit words s (q ∷ [])) p
+    ∙ ap (λ (x : List ℕ). through limit words x (p ∷ [])) (sym (through-step limit ok words s q ps))
+
+-- A piece that comes while more is wanted stands in the room behind those before it.
+pub room-next :
+    (limit : ℕ) (ok : allowed limit ≡ true) (R₀ T₀ : List ℕ) (long : 65536 ≤ length R₀) (ps : List (List ℕ)) {p R T R′ T′ : List ℕ} {state state′ : State}
+    → Runs limit ps begun R₀ T₀ state R T → told state ≡ more → Runs limit (p ∷ []) state R T state′ R′ T′
+    → R′ ≡ take 65536 (joined ps ++ p) ++ drop (length (take 65536 (joined ps ++ p))) R₀
+unfolding roomWith
+room-next limit ok R₀ T₀ long ps {p} calls h next =
+    let s : List ℕ = through limit (length T₀) [] ps in
+    let w = run.more-told (outcome limit s (length T₀)) (sym (after-each limit ok R₀ T₀ long ps calls) ∙ h) in
+    let e : through limit (length T₀) [] (ps ++ (p ∷ [])) ≡ joined ps ++ p =
+    through-append limit ok (length T₀) ps [] p ∙ through-more limit ok (length T₀) s p w ∙ ap (λ (x : List ℕ). x ++ p) (all-joined limit ok (length T₀) ps w) in
+    rw e at (room-holds limit ok R₀ T₀ long (ps ++ (p ∷ [])) (run.run-append calls next))
 
 -- TABLE. After a piece it is that of the outcome, whatever lay there before: the rows and zeros, and zeros while more is wanted.
 module _ (limit : ℕ) (ok : allowed limit ≡ true) (R₀ T₀ : List ℕ) (long : 65536 ≤ length R₀) (p : List ℕ) (ps : List (List ℕ)) {state : State} {R T : List ℕ} (calls : Runs limit (p ∷ ps) begun R₀ T₀ state R T) where

@@ -168,6 +168,13 @@ module _ (limit : ℕ) (T : List ℕ) (rows : ℕ) (s : List ℕ) (e : writableT
             legal = plan.read-legal 65536 4096 limit T rows s w e (sentsFrom p 0 itsTexts) (sents-texts p 0 itsTexts) (h .reads .room) (h .reads .deep) (h .reads .is) (h .reads .same);
           })
 
+  -- and the strings of its message are sent as the plan says
+  pub sent-so : (p : List ℕ) → Taken s itsRows p → (g : DerivesRows limit (planned s itsRows p) s itsRows) × (g .derived .sents ≡ sentsFrom p 0 itsTexts)
+  unfolding writableTo planned plan-derived
+  sent-so p h =
+      let t = taken-exactly p .1 h in
+      (plan-derived p t, plan.sent-so 65536 4096 limit T rows s w e (sentsFrom p 0 itsTexts) (sents-texts p 0 itsTexts) (taken-fit p itsTexts t .legal))
+
 -- the tests that an accepted call passed
 record Passed (limit : ℕ) (T : List ℕ) (rows : ℕ) (s p : List ℕ) (room n : ℕ) : Type 0 where
   pub stated : allowed limit ≡ true

@@ -53,6 +53,11 @@ module _ (bytes most deep : ℕ) (T : List ℕ) (rows : ℕ) (s : List ℕ) (b :
       let g = meant bytes most deep T rows s e in
       record { cells = g .0; meaning = g .1; derived = record { sents = fs; derivation = sent-message; legal = l } }
 
+  -- with its strings sent so
+  pub sent-so : (l : Legal [] fs) → sent-derived l .derived .sents ≡ fs
+  unfolding sent-derived
+  sent-so l = refl
+
   -- if the message is read with the table's meaning, they are legal
   pub read-legal :
       (room nesting : ℕ) {others : List Row} {used : ℕ} {book : Book} → message (messageOf s (rowsOf most T rows) fs) room nesting ≡ got others used book
