@@ -146,6 +146,7 @@ holds =
                 let z = stations.write-unlimited station split T ok e h rows s out d in
                 (W.Refused NoLimit, z .0, record { refusal = NoLimit; is = refl; number-is = refl }, z .1);
           };
+      reported = (refl, refl);
       read-alike = stations.read-alike;
       write-alike = stations.write-alike;
       stays = λ e s higher most larger. reader.stays e s higher most larger;
