@@ -25,7 +25,7 @@ judged = record {
 not-lower : NotLower
 not-lower = record {
   from-the-reader = accepting.from-the-reader;
-  from-the-reader-planned = plans.plan-from-the-reader;
+  from-the-reader-planned = λ limit s words later p out₀ out o w h c d. plans.from-the-reader limit s words later o h c p out₀ out w d;
   read-back = writer.read-back;
   read-back-planned = plans.read-back;
 }

@@ -20,7 +20,7 @@ use Rattle.plan_writer.specs.declared.Answer.{Answer as PlanAnswer}
 use Rattle.plan_writer.specs.Answers as planned
 use Rattle.layouts.specs.Layouts.{byRows, putRowsBy, SameRows}
 use Rattle.layouts.proofs.Storing.{rows-lay, columns-lay, read-same}
-use Rattle.demands_calls.proofs.Columns.{table-is}
+use Rattle.demands_calls.proofs.Tables.{table-is}
 use Rattle.glyph.specs.declared.Edition.{Edition}
 use Rattle.glyph.specs.declared.Answer.{Answer}
 use Rattle.glyph.specs.Answers.{reading, Answers}

@@ -21,6 +21,7 @@ use Rattle.demands_reading.proofs.Keys.{key-said}
 use Rattle.demands_writing.proofs.Writing.{form-derived}
 use Rattle.demands_writing.proofs.Accepting.{read-derives, eleven}
 use Rattle.demands_lookups.proofs.Lookups as lookups
+use Rattle.demands_lookups.proofs.Refusals as refusals
 use Rattle.demands.specs.E7.{E7, KeysDistinct, structSent}
 use Rattle.demands.proofs.Demands.{third}
 
@@ -43,7 +44,7 @@ holds = record {
   distinct-keys = reading-laws.distinct-keys;
   read-distinct = λ limit s words {T} {n} d r. meant T n s (read-derives limit s words d) r;
   writable-distinct = λ T rows s w e r. lookups.distinct-members T rows s e w r;
-  only-one = λ T rows s w e r key ms m ns i h. lookups.only-one T rows s e w r key ms m ns i h;
+  only-one = λ c e w key m m′ h i. refusals.only-one c e w key h i;
   demand-three = third;
   twenty = λ d i j k l {n} {keys} {xs} {ys} more words v h r e p u x m o q z.
       ap reportOf (answered (suc d) (structSent i j k l xs ys more) words v h z ∙ ap answerOf (key-said d (roomOf 4096 words) i j k l more e p u x m o q r));

@@ -89,9 +89,10 @@ pub record NotLower : Type 0 where
       → Answers (reading limit s words) words T (read.Accepted n used) → Did later T n s out₀ out (write.Refused m)
       → (numberOf m ≡ 11 → ⊥) × (length (repeated (textsOf s (rowsOf 4096 T n))) ≤ 256 → numberOf m ≡ 12 → ⊥)
   pub from-the-reader-planned :
-      (limit : ℕ) (s : List ℕ) (words later : ℕ) {T : List ℕ} {n used : ℕ} (p out₀ out : List ℕ) {m : Refusal} → Below 256 s → limit ≤ later
-      → Answers (reading limit s words) words T (read.Accepted n used) → planner.Did later T n s p out₀ out (plan.Refused m)
-      → (numberOf m ≡ 11 → ⊥) × (length (repeated (textsOf s (rowsOf 4096 T n))) ≤ 256 → numberOf m ≡ 12 → ⊥)
+      (limit : ℕ) (s : List ℕ) (words later : ℕ) {T : List ℕ} {n used : ℕ} (p out₀ out : List ℕ) {a : Planned} → Below 256 s → Below 4294967296 T
+      → limit ≤ later → Answers (reading limit s words) words T (read.Accepted n used) → planner.Did later T n s p out₀ out a
+      → (planner.reportOf a .number ≡ 11 → ⊥)
+      × (length (repeated (textsOf s (rowsOf 4096 T n))) ≤ 256 → planner.reportOf a .number ≡ 12 → ⊥)
   pub read-back :
       (limit : ℕ) (T : List ℕ) (rows : ℕ) (s out₀ out : List ℕ) {n : ℕ} → Did limit T rows s out₀ out (write.Written n) → Below 4294967296 T
       → (later : ℕ) → limit ≤ later → allowed later ≡ true → (t : List ℕ) (words : ℕ) {T′ : List ℕ} {a : Read} → take n t ≡ take n out → length t ≤ 65536

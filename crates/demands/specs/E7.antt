@@ -19,15 +19,16 @@ use Rattle.draft.specs.Read.{got, refused, Reader, behind, string, only, firstT
 use Rattle.draft.specs.Writable.{writable}
 use Rattle.draft.specs.Grammar.{Cell, Sent, LSB, Pairs, String, Legal}
 use Rattle.member.specs.declared.Member.{Member}
-use Rattle.member.specs.declared.Found.the-variants.{At}
-use Rattle.member.specs.Members.{members, keysOf, hasKey, find}
+use Rattle.member.specs.Members.{members, keysOf}
 use Rattle.read_answer.specs.declared.Answer.{Answer as Read}
 use Rattle.read_answer.specs.declared.Answer.the-variants as read
 use Rattle.read_answer.specs.Answers.{reading, Answers, reportOf}
 use Rattle.write_answer.specs.declared.Answer.{Answer as Write}
 use Rattle.write_answer.specs.Answers.{Did}
 use Rattle.write_answer.specs.Answers as writer
+use Rattle.defaults.specs.Defaults.{Source, isWritable}
 use Rattle.demands_reading.specs.Members.{PairsWith, Distinct}
+use Rattle.demands_lookups.specs.Asked.{Has}
 use Rattle.demands.specs.Demands.{Demand3}
 
 -- the rows of a table by their numbers
@@ -53,11 +54,9 @@ pub record E7 : Type 0 where
       (limit : ℕ) (s : List ℕ) (words : ℕ) {T : List ℕ} {n used : ℕ} → Answers (reading limit s words) words T (read.Accepted n used)
       → (r : ℕ) → KeysDistinct T n s r
   pub writable-distinct : (T : List ℕ) (rows : ℕ) (s : List ℕ) → Below 4294967296 T → writable T rows s ≡ true → (r : ℕ) → KeysDistinct T rows s r
-  -- 'so E5's "first wins" falls away': of a Struct's members, whichever has the key is the one found, wherever it stands
+  -- 'so E5's "first wins" falls away': of a Struct's members there is only one with the key (the same field as E5's)
   pub only-one :
-      (T : List ℕ) (rows : ℕ) (s : List ℕ) → Below 4294967296 T → writable T rows s ≡ true → (r : ℕ) (key : List ℕ) (ms : List Member) (m : Member)
-      (ns : List Member) → members (rowsIn T) rows r ≡ ms ++ (m ∷ ns) → hasKey (rowsIn T) s key (m .key) ≡ true
-      → find (rowsIn T) s key (members (rowsIn T) rows r) ≡ At m
+      (c : Source) → isWritable c ≡ true → Below 4294967296 (c .table) → (key : List ℕ) (m m′ : Member) → Has c key m → Has c key m′ → m ≡ m′
   -- 'Demand 3 stands for the tables that remain.'
   pub demand-three : Demand3
   -- 'Refusals: 20, as soon as the second key is read, .. at that key's place': so answers `reader::read` to a Struct that announces n members, with distinct

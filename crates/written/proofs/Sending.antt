@@ -45,11 +45,11 @@ pub record Split (gs : List Sent) (us vs : List Text) : Type 0 where
   pub front : List Sent
   pub back : List Sent
   pub is : gs ≡ front ++ back
-  pub cond : texts front ≡ us
+  pub first : texts front ≡ us
   pub second : texts back ≡ vs
 
 pub split : (us vs : List Text) (gs : List Sent) → texts gs ≡ us ++ vs → Split gs us vs
-split [] vs gs e = record { front = []; back = gs; is = refl; cond = refl; second = e }
+split [] vs gs e = record { front = []; back = gs; is = refl; first = refl; second = e }
 split (u ∷ us) vs gs e =
     let f = first-sent gs e in
     let h = split us vs (f .left) (f .rest) in
@@ -57,7 +57,7 @@ split (u ∷ us) vs gs e =
       front = f .sent ∷ h .front;
       back = h .back;
       is = f .is ∙ ap (λ (l : List Sent). f .sent ∷ l) (h .is);
-      cond = ap₂ (λ (t : Text) (l : List Text). t ∷ l) (f .stands) (h .first);
+      first = ap₂ (λ (t : Text) (l : List Text). t ∷ l) (f .stands) (h .first);
       second = h .second;
     }
 
