@@ -188,8 +188,8 @@ pub record E14 : Type 0 where
   -- 'Refusals: 25 for an integer out of range; 3 also for a wrong byte inside an item (left to right, after 9), or one after the root that is no blank; 20 for
   -- a second equal key; 1 for a length past the end, however large; the rest as in 01, 5 and 25 after the item's `;`; all at the item's first byte, or,
   -- where an object or the `;` of one with children is due, at the byte there or the bytes' end; after the root, at that byte.' So are
-  -- `message` of crate glyph and `cases-read`. A refusal's number is true: `RefusedFor` has what it says of the message, and for 3, 5, 20 and 25 of what
-  -- stands at its place. Then the table is zeros.
+  -- `message` of crate glyph and `cases-read`. A refusal's number is true: `RefusedFor` has what it says of the message, and for 1, 3, 5, 20 and 25 of
+  -- what stands at its place. Then the table is zeros.
   pub refused-true :
       (e : Edition) (limit : ℕ) (s : List ℕ) (words : ℕ) {T : List ℕ} {n p : ℕ} → Answers (reading e limit s words) words T (Refused n p)
       → RefusedFor e limit s (roomOf 4096 words) n p × (T ≡ replicate words 0)

@@ -83,7 +83,7 @@ less a b h = go (leb b a) refl
     go true i = absurd (h (leb-true b a i))
     go false i = leb-false b a i
 
--- REFUSALS SPEAK THE TRUTH. 1, 3, 5, 20 and 25 mean that the edition does not derive the message at all, and all but 1 say what stands at their place;
+-- REFUSALS SPEAK THE TRUTH. 1, 3, 5, 20 and 25 mean that the edition does not derive the message at all, and say what stands at their place;
 -- 8 means that what is derived nests deeper than the limit, 9 that it has more rows than there is room for, 10 that there are too many bytes, and 23 that
 -- the limit is not 1 to 32.
 pub refusals-true :
@@ -95,7 +95,7 @@ refusals-true e limit s room {m} {place} i = go (opens e limit s room)
     none m j n k used nesting t g = refused-true g room limit j (λ h x. n (ap numberOf x)) (λ h x. k (ap numberOf x))
 
     by : (m : Refusal) → root s room e limit ≡ refused m place → RefusedFor e limit s room (numberOf m) place
-    by Ended j = ended (none Ended j (λ k. omega arith) (λ k. omega arith))
+    by Ended j = ended (none Ended j (λ k. omega arith) (λ k. omega arith)) (because s room e limit j)
     by UnexpectedByte j = unexpected-byte (none UnexpectedByte j (λ k. omega arith) (λ k. omega arith)) (because s room e limit j)
     by BadText j = bad-text (none BadText j (λ k. omega arith) (λ k. omega arith)) (because s room e limit j)
     by TooDeep j = too-deep (λ used nesting t g. less limit nesting (λ h. refused-true g room limit j (λ d x. omega arith) (λ r x. omega (arith, ap numberOf x))))

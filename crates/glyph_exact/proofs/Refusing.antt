@@ -1,4 +1,4 @@
--- What a root is refused for, by the bytes at the refusal's place: 3 where a byte stands, 5, 20 and 25 as specs/Reasons says; never for the number of its
+-- What a root is refused for, by the bytes at the refusal's place: 3 where a byte stands, 1, 5, 20 and 25 as specs/Reasons says; never for the number of its
 -- bytes, and never for the limit that was stated. Assumes nothing.
 use mathlib.Core.Path.{_≡_, refl, sym, ap, _∙_}
 use mathlib.Core.Bool.{Bool, true, false, true≢false, _&&_, _||_, cond}
@@ -7,7 +7,7 @@ use Prim.Native.Nat.{ℕ, zero, suc, _+_, _≤_, _<_}
 use native.Mathlib.Omega.{arith}
 use lib.Dec.{ltb, leb, eqb}
 use lib.ListN.{length, drop}
-use borrow.Author.Tests.{ltb-true, leb-false}
+use borrow.Author.Tests.{ltb-true, ltb-false, leb-false}
 use Rattle.text.specs.Utf8.{wellFormed}
 use Rattle.text.specs.Texts.{same, among}
 use Rattle.text.proofs.Comparing.{same-is}
@@ -32,14 +32,15 @@ use Rattle.glyph.specs.declared.Want.the-variants.{Any, Text}
 use Rattle.glyph.specs.Letters.{letterOf, wanted, nameWant, attributesWant, threeKind}
 use Rattle.glyph.specs.Numbers.{past, digits, decimal, isMinus, signs, inRange}
 use Rattle.glyph.specs.Read.{Reading, got, refused, then, behind, Reader, Texts, Nest, floor, under, opened, single, numberFrom, integer, content, lengthened, text, goodText, leafOf, next, run, firstText, distinct, entry, kept, closing, many, three, item, object, root}
-use Rattle.glyph.specs.Tree.{leaf}
+use Rattle.glyph.specs.Tree.{Tree, leaf}
 use Rattle.glyph.specs.Grammar.{Object, unicode}
-use Rattle.glyph_exact.specs.Reasons.{TextAt, IllFormed, Twice, Beyond}
+use Rattle.glyph_exact.specs.Reasons.{textLetter, Cut, nothing-there, in-true, in-false, in-nil, in-integer, in-length, in-content, TextAt, IllFormed, Twice, Beyond}
+use Rattle.glyph_exact.proofs.Completing.{Begins, begins, object-begins}
 use Rattle.glyph_exact.proofs.Deriving.{with-byte, here-at, Byte, letter-byte, Stand, out, inside, stands, Spelling, spelling, sign-here, lengthened-sound, next-inv, distinct-inv, Key, key-of, Sound, object-sound}
 
 -- what a refusal of a root says of the bytes at its place
 abbrev pub Because : List ℕ → Refusal → ℕ → Type 0
-Because s Ended p = Unit {0}
+Because s Ended p = Cut s p
 Because s UnexpectedByte p = p < length s
 Because s BadText p = IllFormed s p
 Because s TooDeep p = Unit {0}
@@ -87,8 +88,9 @@ module _ {s : List ℕ} where
   own-pick true x y p q = p refl
   own-pick false x y p q = q refl
 
-  own-ended : (p : ℕ) → Own s (refused Ended p)
-  own-ended p = own-no Ended p tt
+  -- 1, where a test finds no byte
+  own-ended : (p i : ℕ) → (length s ≤ i → Cut s p) → ltb i (length s) ≡ false → Own s (refused Ended p)
+  own-ended p i c h = own-no Ended p (c (ltb-false i (length s) h))
 
   own-wrong : (p : ℕ) → p < length s → Own s (refused UnexpectedByte p)
   own-wrong p h = own-no UnexpectedByte p h
@@ -135,11 +137,11 @@ module _ (s : List ℕ) where
       (λ j. own-pick (inRange (isMinus (byteAt s (at + 1))) (decimal 0 (drop from s))) _ _ (λ k. own-got _ _)
       (λ k. own-no OutOfRange at (beyond at h b (spelling s 59 from at (got [] 0) {rows = []} {to = 0} (rw (i, j)) .0) k)))
       (λ j. own-wrong at h))
-      (λ i. own-ended at)
+      (own-ended at (from + n) (in-integer b))
 
   -- 5, whose tests before it are those of a bytearray
   ill :
-      (u : Bool) (at r : ℕ) → at < length s → (u ≡ true → byteAt s at ≡ 117)
+      (u : Bool) (at r : ℕ) → at < length s → byteAt s at ≡ textLetter u
       → (o v : ℕ) → lengthened s false at r ≡ got (row 8 o v (r + 1) ∷ []) (o + v + 1) → goodText u (part s o v) ≡ false → IllFormed s at
   unfolding goodText
   ill false at r h b o v i g = absurd (true≢false g)
@@ -152,11 +154,11 @@ module _ (s : List ℕ) where
       let t : part s o v ≡ x .text = ap (λ (k : ℕ). part s k v) (sym p) ∙ part-here (x .lies) (sym q) in
       record {
         text = x .text;
-        there = record { bytes = x .bytes; content = x .content; stands = part-here (with-byte h (b refl) (x .here)) refl };
+        there = record { bytes = x .bytes; content = x .content; stands = part-here (with-byte h b (x .here)) refl };
         ill = ap wellFormed (sym t) ∙ g;
       }
 
-  own-text : (u : Bool) (at r : ℕ) → at < length s → (u ≡ true → byteAt s at ≡ 117) → Own s (text s u at r)
+  own-text : (u : Bool) (at r : ℕ) → at < length s → byteAt s at ≡ textLetter u → Own s (text s u at r)
   unfolding text lengthened content goodText
   own-text u at r h b =
       let n : ℕ = digits (drop (at + 1) s) in
@@ -169,22 +171,22 @@ module _ (s : List ℕ) where
       (λ k. own-pick (eqb (byteAt s (o + v)) 59) _ _
       (λ l. own-pick (goodText u (part s o v)) _ _ (λ g. own-got _ _) (λ g. own-no BadText at (ill u at r h b o v (rw (i, j, k, l)) g)))
       (λ l. own-wrong at h))
-      (λ k. own-ended at))
+      (own-ended at (o + v) (in-content u b j)))
       (λ j. own-wrong at h))
-      (λ i. own-ended at))
+      (own-ended at (at + 1 + n) (in-length u b)))
 
-  own-single : (kind a at r : ℕ) → at < length s → Own s (single s kind a at r)
+  own-single : (kind a at r : ℕ) → at < length s → (length s ≤ at + 1 → Cut s at) → Own s (single s kind a at r)
   unfolding single
-  own-single kind a at r h =
-      own-pick (ltb (at + 1) (length s)) _ _ (λ i. own-pick (eqb (byteAt s (at + 1)) 59) _ _ (λ j. own-got _ _) (λ j. own-wrong at h)) (λ i. own-ended at)
+  own-single kind a at r h c =
+      own-pick (ltb (at + 1) (length s)) _ _ (λ i. own-pick (eqb (byteAt s (at + 1)) 59) _ _ (λ j. own-got _ _) (λ j. own-wrong at h)) (own-ended at (at + 1) c)
 
   own-leaf : (e : Edition) (l : LeafLetter) (at r : ℕ) → at < length s → Byte e (Leaf l) (byteAt s at) → Own s (leafOf s l at r)
   own-leaf e Integer at r h b = own-integer at r h b
-  own-leaf e Unicode at r h b = own-text true at r h (λ i. b)
-  own-leaf e Bytes at r h b = own-text false at r h (λ i. absurd (true≢false (sym i)))
-  own-leaf e True at r h b = own-single 5 1 at r h
-  own-leaf e False at r h b = own-single 5 0 at r h
-  own-leaf e Nil at r h b = own-single 13 0 at r h
+  own-leaf e Unicode at r h b = own-text true at r h b
+  own-leaf e Bytes at r h b = own-text false at r h b
+  own-leaf e True at r h b = own-single 5 1 at r h (in-true b)
+  own-leaf e False at r h b = own-single 5 0 at r h (in-false b)
+  own-leaf e Nil at r h b = own-single 13 0 at r h (in-nil b)
 
   own-next : (o : Reading) (r : ℕ) (f : Reader) → Own s o → OwnAll s f → Own s (next s o r f)
   unfolding OwnAll
@@ -196,23 +198,24 @@ module _ (s : List ℕ) where
   module _ (f : Texts → Reader) (more : Texts → List Row → Texts) (P : Texts → ℕ → Type 0) where
     own-run :
         ((seen : Texts) (at r : ℕ) → P seen at → Own s (f seen at r))
-        → ((seen : Texts) (at r : ℕ) (rows : List Row) (to : ℕ) → P seen at → f seen at r ≡ got rows to → P (more seen rows) (past s to))
-        → (kind fuel n : ℕ) (seen : Texts) (acc : List Row) (at r : ℕ) → P seen at → Own s (run s f more kind fuel n seen acc at r)
+        → ((seen : Texts) (at r : ℕ) (rows : List Row) (to : ℕ) → P seen at → f seen at r ≡ got rows to → P (more seen rows) (past s to) × (at < past s to))
+        → (kind fuel n : ℕ) (seen : Texts) (acc : List Row) (at r : ℕ) → P seen at → length s ≤ at + fuel → Own s (run s f more kind fuel n seen acc at r)
     unfolding run
-    own-run h k kind zero n seen acc at r p = own-ended at
-    own-run h k kind (suc fuel) n seen acc at r p =
+    own-run h k kind zero n seen acc at r p l = own-no Ended at (nothing-there (omega arith))
+    own-run h k kind (suc fuel) n seen acc at r p l =
         own-pick (eqb (byteAt s at) 59) (got (row kind 0 n (r + 1 + length acc) ∷ acc) (at + 1)) _
         (λ i. own-got (row kind 0 n (r + 1 + length acc) ∷ acc) (at + 1))
         (λ i. own-then (f seen at (r + 1 + length acc)) (λ rows to. run s f more kind fuel (n + 1) (more seen rows) (acc ++ rows) (past s to) r)
         (h seen at (r + 1 + length acc) p)
-        (λ rows to j. own-run h k kind fuel (n + 1) (more seen rows) (acc ++ rows) (past s to) r (k seen at (r + 1 + length acc) rows to p j)))
+        (λ rows to j. let q = k seen at (r + 1 + length acc) rows to p j in
+        own-run h k kind fuel (n + 1) (more seen rows) (acc ++ rows) (past s to) r (q .0) (omega (arith, q .1))))
 
   own-closing : (kind r : ℕ) (o : Reading) → Own s o → Own s (closing s kind r o)
   own-closing kind r (refused m p) h = h
   own-closing kind r (got rows at) h =
       own-pick (ltb (past s at) (length s)) _ _
       (λ i. own-pick (eqb (byteAt s (past s at)) 59) _ _ (λ j. own-got _ _) (λ j. own-wrong (past s at) (ltb-true (past s at) (length s) i)))
-      (λ i. own-ended (past s at))
+      (own-ended (past s at) (past s at) nothing-there)
 
   -- a key stands at its place, and takes a byte at least
   key-at : {e : Edition} {d at r : ℕ} {rows : List Row} {to : ℕ} (k : Key e s d at r rows to) → TextAt s at (k .text) × (at < to)
@@ -224,6 +227,13 @@ module _ (s : List ℕ) where
   -- the text of a key's row, with others behind it
   key-text : {r : ℕ} {rows : List Row} {k : List ℕ} → Realises s r rows (cell 11 0 (contents k) ∷ []) → (others : List Row) → firstText s (rows ++ others) ≡ k
   key-text (and-then (means a b (says-contents c d p)) t) others = p
+
+  -- an object takes a byte at least
+  object-long : {e : Edition} {d : ℕ} {xs : List ℕ} {t : Tree} → Object e d xs t → 0 < length xs
+  object-long {xs = xs} g = go (object-begins g)
+    where
+      go : {ys : List ℕ} → Begins ys → 0 < length ys
+      go (begins a b) = omega arith
 
   past-on : (at : ℕ) → at ≤ past s at
   unfolding past
@@ -249,7 +259,7 @@ module _ (s : List ℕ) where
     unfolding entry OwnAll
     own-pair seen at r p = own-next (distinct s seen at (f Text at r)) r (f Any) (own-distinct seen at r p (f Text at r) refl (h Text at r)) (h Any)
 
-    seen-on : (seen : Texts) (at r : ℕ) (rows : List Row) (to : ℕ) → Earlier s at seen → entry s true f seen at r ≡ got rows to → Earlier s (past s to) (kept s true seen rows)
+    seen-on : (seen : Texts) (at r : ℕ) (rows : List Row) (to : ℕ) → Earlier s at seen → entry s true f seen at r ≡ got rows to → Earlier s (past s to) (kept s true seen rows) × (at < past s to)
     unfolding entry kept Sound
     seen-on seen at r rows to p i =
         let n = next-inv s (distinct s seen at (f Text at r)) r (f Any) i in
@@ -257,14 +267,18 @@ module _ (s : List ℕ) where
         let v = sound Any (past s (n .middle)) (r + length (n .front)) (n .back) to (n .second) in
         let l : at < past s to = omega (arith, key-at k .1, past-on (n .middle), v .ends, past-on to) in
         let t : firstText s rows ≡ k .text = ap (firstText s) (n .all) ∙ key-text (k .realises) (n .back) in
-        rw t (one l (key-at k .0) (later (omega arith) p))
+        (rw t (one l (key-at k .0) (later (omega arith) p)), l)
+
+    object-on : (seen : Texts) (at r : ℕ) (rows : List Row) (to : ℕ) → Unit {0} → f Any at r ≡ got rows to → Unit {0} × (at < past s to)
+    unfolding Sound
+    object-on seen at r rows to p i = let v = sound Any at r rows to i in (tt, omega (arith, object-long (v .object), v .ends, past-on to))
 
     own-many : (l : ManyLetter) (at r : ℕ) → Own s (many s l f at r)
     unfolding many entry OwnAll
     own-many many-letter.List at r =
-        own-run (entry s false f) (kept s false) (λ seen at. Unit {0}) (λ seen at r p. h Any at r) (λ seen at r rows to p i. tt) 9 (length s) 0 [] [] (past s (at + 1)) r tt
-    own-many many-letter.Dict at r = own-run (entry s true f) (kept s true) (λ seen at. Earlier s at seen) own-pair seen-on 10 (length s) 0 [] [] (past s (at + 1)) r none
-    own-many many-letter.Ordered at r = own-run (entry s true f) (kept s true) (λ seen at. Earlier s at seen) own-pair seen-on 14 (length s) 0 [] [] (past s (at + 1)) r none
+        own-run (entry s false f) (kept s false) (λ seen at. Unit {0}) (λ seen at r p. h Any at r) object-on 9 (length s) 0 [] [] (past s (at + 1)) r tt (omega arith)
+    own-many many-letter.Dict at r = own-run (entry s true f) (kept s true) (λ seen at. Earlier s at seen) own-pair seen-on 10 (length s) 0 [] [] (past s (at + 1)) r none (omega arith)
+    own-many many-letter.Ordered at r = own-run (entry s true f) (kept s true) (λ seen at. Earlier s at seen) own-pair seen-on 14 (length s) 0 [] [] (past s (at + 1)) r none (omega arith)
 
     own-three : (l : ThreeLetter) (at r : ℕ) → Own s (three s l f at r)
     unfolding three
@@ -302,13 +316,13 @@ module _ (s : List ℕ) where
         own-pick (ltb at (length s)) _ (refused Ended at)
         (λ i. let h = ltb-true at (length s) i in
         own-stand floor at r h (stands w (letterOf e (byteAt s at))) (own-floor e (letterOf e (byteAt s at)) at r h (letter-byte e (byteAt s at))))
-        (λ i. own-ended at)
+        (own-ended at at nothing-there)
     own-object e (suc d) w at r =
         own-pick (ltb at (length s)) _ (refused Ended at)
         (λ i. let h = ltb-true at (length s) i in
         own-stand (under (object s room e d)) at r h (stands w (letterOf e (byteAt s at)))
         (own-under e d (object s room e d) (own-object e d) (object-sound e s room d) (letterOf e (byteAt s at)) at r h (letter-byte e (byteAt s at))))
-        (λ i. own-ended at)
+        (own-ended at at nothing-there)
 
     own-root : (e : Edition) (d : ℕ) → Own s (root s room e d)
     unfolding root OwnAll
