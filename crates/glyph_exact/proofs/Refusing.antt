@@ -1,7 +1,7 @@
 -- What a root is refused for, by the bytes at the refusal's place: 3 where a byte stands, 1, 5, 20 and 25 as specs/Reasons says; never for the number of its
 -- bytes, and never for the limit that was stated. Assumes nothing.
 use mathlib.Core.Path.{_≡_, refl, sym, ap, _∙_}
-use mathlib.Core.Bool.{Bool, true, false, true≢false, _&&_, _||_, cond}
+use mathlib.Core.Bool.{Bool, true, false, true≢false, _&&_, cond}
 use mathlib.Core.List.{List, [], _∷_, _++_, append-nil}
 use Prim.Native.Nat.{ℕ, zero, suc, _+_, _≤_, _<_}
 use native.Mathlib.Omega.{arith}

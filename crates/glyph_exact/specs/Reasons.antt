@@ -28,7 +28,8 @@ pub data Cut (s : List ℕ) (at : ℕ) : Type 0 where
       byteAt s at ≡ code "i" → length s ≤ at + 1 + signs (byteAt s (at + 1)) + digits (drop (at + 1 + signs (byteAt s (at + 1))) s) → Cut s at
   in-length : (unicode : Bool) → byteAt s at ≡ textLetter unicode → length s ≤ at + 1 + digits (drop (at + 1) s) → Cut s at
   in-content :
-      (unicode : Bool) → byteAt s at ≡ textLetter unicode → (ltb 0 (digits (drop (at + 1) s)) && eqb (byteAt s (at + 1 + digits (drop (at + 1) s))) (code ":")) ≡ true
+      (unicode : Bool) → byteAt s at ≡ textLetter unicode
+      → (ltb 0 (digits (drop (at + 1) s)) && eqb (byteAt s (at + 1 + digits (drop (at + 1) s))) (code ":")) ≡ true
       → length s ≤ at + 1 + digits (drop (at + 1) s) + 1 + decimal 0 (drop (at + 1) s) → Cut s at
 
 -- these bytes stand in s from a place on
