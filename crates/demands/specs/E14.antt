@@ -193,6 +193,10 @@ pub record E14 : Type 0 where
   pub refused-true :
       (e : Edition) (limit : ℕ) (s : List ℕ) (words : ℕ) {T : List ℕ} {n p : ℕ} → Answers (reading e limit s words) words T (Refused n p)
       → RefusedFor e limit s (roomOf 4096 words) n p × (T ≡ replicate words 0)
+  -- 10, at place 0, for every message of more than 65,536 bytes, whatever stands in it; 23 comes before it.
+  pub too-long :
+      (e : Edition) (limit : ℕ) (s : List ℕ) (words : ℕ) {T : List ℕ} {a : Answer} → Answers (reading e limit s words) words T a → allowed limit ≡ true
+      → 65536 < length s → a ≡ Refused 10 0
   -- The writer's: 23, 10, 11, 12 and 13, each exactly for its reason after those before it; and zeros.
   pub write-refused :
       (e : Edition) (limit : ℕ) (T : List ℕ) (rows : ℕ) (s out₀ out : List ℕ) {a : WriterAnswer} → Did e limit T rows s out₀ out a → (n : ℕ)
