@@ -3,9 +3,9 @@ use mathlib.Core.Path.{_≡_, refl}
 use mathlib.Core.Bool.{true}
 use mathlib.Core.List.{List}
 use Prim.Native.Nat.{ℕ}
-use lib.ListN.{length}
+use lib.ListN.{length, take, drop}
 use Rattle.shares.specs.declared.Station.{Station}
-use Rattle.shares.specs.Share.{splits, sizeOf, shareOf}
+use Rattle.shares.specs.Share.{splits, firstWord, sizeOf, shareOf}
 use Rattle.shares.proofs.Sharing.{four-size}
 use Rattle.station_tables.specs.declared.LookupAnswer.the-variants as lookup
 use Rattle.station_tables.specs.declared.PositionAnswer.the-variants as place
@@ -40,9 +40,14 @@ as-alone station split T ok = record {
   placed = stations.own-position station split T ok;
 }
 
+share-is : (station : Station) (split : ℕ) (T : List ℕ) → shareOf station split T ≡ take (sizeOf station split (length T)) (drop (firstWord station split) T)
+unfolding shareOf
+share-is station split T = refl
+
 pub holds : E10
 holds = record {
   side-by-side = λ split words ok. (refl, four-size split words, refl, stations.shares-lie split words ok .2);
+  share-is = share-is;
   others-stay = λ c. stations.others-stay c;
   size-settles = of-one-size;
   words-settle = of-the-same-words;
@@ -59,6 +64,7 @@ holds = record {
   refused = λ c. stations.told-exactly c;
   looked-up-refused = stations.lookup-exactly;
   placed-refused = stations.position-exactly;
+  reported = (refl, refl, refl, refl, refl, refl);
   nothing-changed = λ c. stations.nothing-changed c;
   write-refused = stations.write-exactly;
   plan-refused = stations.planned-exactly;

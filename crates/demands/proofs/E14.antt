@@ -5,7 +5,7 @@ use mathlib.Core.Logic.{_↔_}
 use mathlib.Core.List.{List}
 use Prim.Native.Nat.{ℕ, _≤_, _<_}
 use lib.ListN.{length, replicate}
-use borrow.Author.Tests.{le-leb}
+use borrow.Author.Tests.{le-leb, lt-leb}
 use Rattle.text.proofs.Comparing.{clash}
 use Rattle.draft.specs.declared.Row.{Row}
 use Rattle.draft.specs.declared.Refusal.the-variants.{NoLimit}
@@ -23,6 +23,8 @@ use Rattle.layouts.proofs.Storing.{rows-lay, columns-lay, read-same}
 use Rattle.demands_calls.proofs.Tables.{table-is}
 use Rattle.glyph.specs.declared.Edition.{Edition}
 use Rattle.glyph.specs.declared.Answer.{Answer}
+use Rattle.glyph.specs.declared.Answer.the-variants.{Refused}
+use Rattle.glyph.specs.Read.{message}
 use Rattle.glyph.specs.Answers.{reading, Answers}
 use Rattle.glyph_form.specs.declared.Answer.{Answer as WriterAnswer}
 use Rattle.glyph_form.specs.declared.Answer.the-variants as W
@@ -102,6 +104,12 @@ as-before :
     → SameRows byRows place (putRowsBy byRows (roomOf 4096 words) (replicate words 0) 0 (rowsIn (reading e limit s words))) T
 as-before e limit s words d = rw (reader.rows-stored e limit s words d) (laid words (rowsIn (reading e limit s words)) (reader.fits e limit s words))
 
+too-long :
+    (e : Edition) (limit : ℕ) (s : List ℕ) (words : ℕ) {T : List ℕ} {a : Answer} → Answers (reading e limit s words) words T a → allowed limit ≡ true
+    → 65536 < length s → a ≡ Refused 10 0
+unfolding reading message allowed
+too-long e limit s words d h l = d .says ∙ rw (h, lt-leb (length s) 65536 l)
+
 write-refused :
     (e : Edition) (limit : ℕ) (T : List ℕ) (rows : ℕ) (s out₀ out : List ℕ) {a : WriterAnswer} → Did e limit T rows s out₀ out a → (n : ℕ)
     → (Says n a ↔ writer-refusals.RefusedFor e limit T rows s (length out₀) n) × (Says n a → out ≡ replicate (length out₀) 0)
@@ -146,6 +154,7 @@ holds =
                 let z = stations.write-unlimited station split T ok e h rows s out d in
                 (W.Refused NoLimit, z .0, record { refusal = NoLimit; is = refl; number-is = refl }, z .1);
           };
+      reported = (refl, refl);
       read-alike = stations.read-alike;
       write-alike = stations.write-alike;
       stays = λ e s higher most larger. reader.stays e s higher most larger;
@@ -154,6 +163,7 @@ holds =
       columns = λ e limit s words d. (reader.columns e limit s words d, as-before e limit s words d);
       stated-columns = λ e limit T T′ rows s out₀ out₁ out out′ w w′ hold l d d′. output.stated-columns e limit T T′ rows s out₀ out₁ out out′ w w′ hold l d d′;
       refused-true = λ e limit s words d. (reader.refused-true e limit s words d, reader.refused-zeros e limit s words d);
+      too-long = too-long;
       write-refused = write-refused;
       unlimited = λ e limit s words d.
           ((λ i. reader.unlimited-only e limit s words (rw i at d), λ h. reader.unlimited e limit s words h d .0), λ h. reader.unlimited e limit s words h d .1);

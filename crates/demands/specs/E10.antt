@@ -8,30 +8,37 @@ use mathlib.Core.Bool.{true, false}
 use mathlib.Core.Logic.{_↔_}
 use mathlib.Core.List.{List, [], _∷_}
 use Prim.Native.Nat.{ℕ, _+_, _*_, _/_, _≤_, _<_}
-use lib.ListN.{length, drop}
+use lib.IntN.{pos}
+use lib.ListN.{length, take, drop}
 use Rattle.draft.specs.Limits.{allowed}
 use Rattle.shares.specs.declared.Station.{Station}
 use Rattle.shares.specs.declared.Station.the-variants.{Four, Five}
 use Rattle.shares.specs.Share.{other, splits, firstWord, sizeOf, shareOf, onShare}
 use Rattle.read_answer.specs.Answers.{reading, tableOf}
 use Rattle.lookup_answer.specs.Answers as lookups
-use Rattle.placing.specs.Placing.{position}
+use Rattle.lookup_answer.specs.Reports.{plusZero, reported as lookedUp}
+use Rattle.placing.specs.Placing.{at, position}
 use Rattle.pieces.specs.declared.State.{State}
 use Rattle.pieces.specs.Pieces.{joined, toldOf, outcome, through, roomWith, soFar}
 use Rattle.pieces.specs.Steps.{told}
 use Rattle.pieces.specs.Runs.{begun}
 use Rattle.station_reading.specs.declared.Answer.{Answer as Read}
+use Rattle.station_reading.specs.declared.Answer.the-variants as read
 use Rattle.station_reading.specs.declared.CardAnswer.{CardAnswer as Card}
+use Rattle.station_reading.specs.declared.CardAnswer.the-variants as card
+use Rattle.station_reading.specs.Answers as report
 use Rattle.station_reading.specs.Answers.{ReadFor, CardFor}
 use Rattle.station_pieces.specs.declared.Answer.{Answer as Piece}
 use Rattle.station_pieces.specs.declared.Answer.the-variants.{Stands}
 use Rattle.station_pieces.specs.Steps.{NextFor, EndFor}
 use Rattle.station_plans.specs.declared.Answer.{Answer as Planned}
+use Rattle.station_plans.specs.declared.Answer.the-variants as plan
 use Rattle.station_plans.specs.Answers as planned
 use Rattle.station_tables.specs.declared.WriteAnswer.{WriteAnswer as Write}
+use Rattle.station_tables.specs.declared.WriteAnswer.the-variants as write
 use Rattle.station_tables.specs.declared.LookupAnswer.the-variants as lookup
 use Rattle.station_tables.specs.declared.PositionAnswer.the-variants as place
-use Rattle.station_tables.specs.Answers.{WroteFor, lookupAnswer, positionAnswer, writeReportOf, lookupReportOf, positionNumber}
+use Rattle.station_tables.specs.Answers.{WroteFor, lookupAnswer, positionAnswer, writeReportOf, lookupReportOf, positionNumber, positionValues}
 use Rattle.stations.specs.Calls.{Asked, Told, Called, notSplit}
 use Rattle.stations.specs.Owned.{OwnRead, OwnCard, OwnPiece, OwnEnd, OwnWrite, OwnPlanned}
 use Rattle.stations.specs.Turns.{Turns}
@@ -94,6 +101,8 @@ pub record E10 : Type 0 where
       (split words : ℕ) → splits split words ≡ true
       → (firstWord Four split ≡ 0) × (sizeOf Four split words ≡ split * 4) × (firstWord Five split ≡ split * 4)
       × (firstWord Five split + sizeOf Five split words ≡ words / 4 * 4)
+  pub share-is :
+      (station : Station) (split : ℕ) (T : List ℕ) → shareOf station split T ≡ take (sizeOf station split (length T)) (drop (firstWord station split) T)
   -- 'A station changes no word of the other's share,'
   pub others-stay :
       {station : Station} {split : ℕ} {T T′ : List ℕ} {q : Asked} {a : Told} → Called station split T T′ q a → splits split (length T) ≡ true
@@ -145,6 +154,13 @@ pub record E10 : Type 0 where
   pub placed-refused :
       (station : Station) (split : ℕ) (T : List ℕ) (rows : ℕ) (s : List ℕ) (r : ℕ)
       → (positionNumber (onShare station split T (positionAnswer rows s r) place.NotSplit) ≡ 22) ↔ (splits split (length T) ≡ false)
+  -- 'A refusal with no place given, here and later, has place 0' (E5); nor is a row, a byte or a value reported with 22
+  pub reported :
+      (report.reportOf read.NotSplit ≡ record { number = 22; rows = 0; used = 0; place = 0 })
+      × (report.cardReportOf card.NotSplit ≡ record { number = 22; rows = 0; used = 0; place = 0; body = 0 })
+      × (writeReportOf write.NotSplit ≡ record { number = 22; length = 0; place = 0 })
+      × (planned.reportOf plan.NotSplit ≡ record { number = 22; length = 0; place = 0 })
+      × (lookupReportOf lookup.NotSplit ≡ lookedUp 22 0 (pos 0) plusZero 0 0) × (positionValues place.NotSplit ≡ at plusZero plusZero plusZero)
   -- 'then nothing lent is changed, in place of demand 1's zeros.' After a piece `notSplit` has the room as it was; of what is written both sentences
   pub nothing-changed :
       {station : Station} {split : ℕ} {T T′ : List ℕ} {q : Asked} {a : Told} → Called station split T T′ q a → callNumber a ≡ 22

@@ -1,4 +1,4 @@
--- E14: A SECOND DATA HOUSE, on one page. Each sentence of document 02's paragraph stands above the fields that hold it, or with a line that says where
+-- Request E14, a second data house. Each sentence of document 02's paragraph stands above the fields that hold it, or with a line that says where
 -- it is held. `Answers (reading e limit s words) words T a` is the promise of `glyph_reader::read`, for an edition, a limit of nesting, a message s, a
 -- table of so many words that is T after the call, and its answer a; `Did e limit T rows s out₀ out a` that of `glyph_writer::write`, for a table T with
 -- so many stated rows, text bytes s, and an output that is out₀ before the call and out after it; `ReadFor` and `WroteFor` are those of
@@ -42,6 +42,8 @@ use Rattle.glyph_stations.specs.declared.StationAnswer.the-variants.{Answered, 
 use Rattle.glyph_stations.specs.declared.WriteAnswer.{WriteAnswer}
 use Rattle.glyph_stations.specs.declared.WriteAnswer.the-variants as write
 use Rattle.glyph_stations.specs.Answers.{ReadFor, WroteFor}
+use Rattle.glyph_reports.specs.Numbers as read-report
+use Rattle.glyph_reports.specs.Writing as write-report
 use Rattle.glyph_demands.specs.Answered.{has, lettersOf, Allowed, Derived, RefusedFor, rowsIn, Columns, Lasting}
 use Rattle.glyph_demands.specs.Cases.{cases, expected, given}
 use Rattle.glyph_written.specs.RowKinds.{binmodeKinds, glyphKinds}
@@ -110,13 +112,16 @@ pub record SharedWrite (e : Edition) (limit : ℕ) (T : List ℕ) (station : Sta
       splits split (length T) ≡ true → allowed limit ≡ false → (b : WriterAnswer) × (a ≡ write.Answered b) × Says 23 b × (out′ ≡ replicate (length out) 0)
 
 pub record E14 : Type 0 where
-  pub reads : (e : Edition) (limit : ℕ) (s : List ℕ) (words : ℕ) {T : List ℕ} {a : Answer} → Answers (reading e limit s words) words T a → Reads e limit s words T a
+  pub reads :
+      (e : Edition) (limit : ℕ) (s : List ℕ) (words : ℕ) {T : List ℕ} {a : Answer} → Answers (reading e limit s words) words T a
+      → Reads e limit s words T a
   -- 'Row 0 is the root object; new kinds, with a 0, are 13 nil (b 0), 14 ordered_dict (b pairs), 15 extension and 16 node (both b 3). `u;` and `b;` have the
   -- offset of their `;`. Keys of both dicts are unicode and distinct. In 1.0 `X` is an extension; in 0.5 `X` is a node and `H` an extension; the caller
   -- names the edition.' These are `cells`, `Members`, `Extends` and `Nodes` of crate glyph; `means` says them of the rows, and this of many messages:
   pub cases-read : given cases ≡ expected cases
   pub writes :
-      (e : Edition) (limit : ℕ) (T : List ℕ) (rows : ℕ) (s out₀ out : List ℕ) {a : WriterAnswer} → Did e limit T rows s out₀ out a → Writes e limit T rows s out₀ out a
+      (e : Edition) (limit : ℕ) (T : List ℕ) (rows : ℕ) (s out₀ out : List ℕ) {a : WriterAnswer} → Did e limit T rows s out₀ out a
+      → Writes e limit T rows s out₀ out a
   -- 'Each writer says 11': Binmode's, without a plan and with one;
   pub binmode-lacks :
       (limit : ℕ) (T : List ℕ) (rows : ℕ) (s out₀ out : List ℕ) {a : BinmodeAnswer} → Words T → allowed limit ≡ true → length s ≤ 65536 → (r : ℕ) → r < rows
@@ -125,7 +130,8 @@ pub record E14 : Type 0 where
       (limit : ℕ) (T : List ℕ) (rows : ℕ) (s plan out₀ out : List ℕ) {a : PlanAnswer} → Words T → allowed limit ≡ true → length s ≤ 65536 → (r : ℕ) → r < rows
       → has binmodeKinds (kindAt T r) ≡ false → planned.Did limit T rows s plan out₀ out a → planned.reportOf a ≡ record { number = 11; length = 0; place = 0 }
   -- 'lookup, index and defaults stay with Binmode tables.' They say 11 for a table that is not writable to 32 for Binmode (pages E5, E8, E9).
-  pub not-both : (e : Edition) (limit deep : ℕ) (T : List ℕ) (rows : ℕ) (s : List ℕ) → Words T → writable e deep T rows s ≡ true → writableTo limit T rows s ≡ false
+  pub not-both :
+      (e : Edition) (limit deep : ℕ) (T : List ℕ) (rows : ℕ) (s : List ℕ) → Words T → writable e deep T rows s ≡ true → writableTo limit T rows s ≡ false
   -- 'Shared parts are proved once over the edition': so is every field here.
   -- The form, of many tables.
   pub cases-written : writing.written writing.cases ≡ writing.expected writing.cases
@@ -142,6 +148,9 @@ pub record E14 : Type 0 where
   pub shared-write :
       {e : Edition} {limit : ℕ} {T : List ℕ} {station : Station} {split rows : ℕ} {s out out′ : List ℕ} {a : WriteAnswer}
       → WroteFor e limit T station split rows s out out′ a → SharedWrite e limit T station split rows s out out′ a
+  pub reported :
+      (read-report.stationReportOf NotSplit ≡ record { number = 22; rows = 0; used = 0; place = 0 })
+      × (write-report.stationReportOf write.NotSplit ≡ record { number = 22; length = 0 })
   pub read-alike :
       (here there : Station) (split split′ : ℕ) (T U : List ℕ) → splits split (length T) ≡ true → splits split′ (length U) ≡ true
       → sizeOf here split (length T) ≡ sizeOf there split′ (length U) → (e : Edition) (limit : ℕ) (s : List ℕ) {T′ U′ : List ℕ} {a b : StationAnswer}
@@ -178,11 +187,16 @@ pub record E14 : Type 0 where
   -- 'After the root only blanks may follow, not counted as used': so is `Root`.
   -- 'Refusals: 25 for an integer out of range; 3 also for a wrong byte inside an item (left to right, after 9), or one after the root that is no blank; 20 for
   -- a second equal key; 1 for a length past the end, however large; the rest as in 01, 5 and 25 after the item's `;`; all at the item's first byte, or,
-  -- where an object or the `;` of one with children is due, at the byte there or the bytes' end; after the root, at that byte.' Which, and where, is
-  -- `message` of crate glyph, and `cases-read`; a refusal says the truth, and leaves zeros.
+  -- where an object or the `;` of one with children is due, at the byte there or the bytes' end; after the root, at that byte.' So are
+  -- `message` of crate glyph and `cases-read`. A refusal's number is true: `RefusedFor` has what it says of the message, and for 1, 3, 5, 20 and 25 of
+  -- what stands at its place. Then the table is zeros.
   pub refused-true :
       (e : Edition) (limit : ℕ) (s : List ℕ) (words : ℕ) {T : List ℕ} {n p : ℕ} → Answers (reading e limit s words) words T (Refused n p)
       → RefusedFor e limit s (roomOf 4096 words) n p × (T ≡ replicate words 0)
+  -- 10, at place 0, for every message of more than 65,536 bytes, whatever stands in it; 23 comes before it.
+  pub too-long :
+      (e : Edition) (limit : ℕ) (s : List ℕ) (words : ℕ) {T : List ℕ} {a : Answer} → Answers (reading e limit s words) words T a → allowed limit ≡ true
+      → 65536 < length s → a ≡ Refused 10 0
   -- The writer's: 23, 10, 11, 12 and 13, each exactly for its reason after those before it; and zeros.
   pub write-refused :
       (e : Edition) (limit : ℕ) (T : List ℕ) (rows : ℕ) (s out₀ out : List ℕ) {a : WriterAnswer} → Did e limit T rows s out₀ out a → (n : ℕ)

@@ -22,7 +22,7 @@ use Rattle.glyph.specs.Tree.{Tree, cells}
 use Rattle.glyph.specs.Grammar.{Root}
 use Rattle.glyph_exact.proofs.Growing.{Grows, stays, deep, full, root-grows}
 use Rattle.glyph_exact.proofs.Fitting.{root-fits}
-use Rattle.glyph_exact.proofs.Refusing.{never-long, never-limit}
+use Rattle.glyph_exact.proofs.Refusing.{because}
 use Rattle.glyph_exact.proofs.Unfolding.{one-tree}
 use Rattle.glyph_exact.proofs.Deriving.{root-sound}
 use Rattle.glyph_exact.proofs.Concluding.{root-reads, refused-true, one-root}
@@ -83,8 +83,9 @@ less a b h = go (leb b a) refl
     go true i = absurd (h (leb-true b a i))
     go false i = leb-false b a i
 
--- REFUSALS SPEAK THE TRUTH. 1, 3, 5, 20 and 25 mean that the edition does not derive the message at all, 8 that what is derived nests deeper than the
--- limit, 9 that it has more rows than there is room for, 10 that there are too many bytes, and 23 that the limit is not 1 to 32.
+-- REFUSALS SPEAK THE TRUTH. 1, 3, 5, 20 and 25 mean that the edition does not derive the message at all, and say what stands at their place;
+-- 8 means that what is derived nests deeper than the limit, 9 that it has more rows than there is room for, 10 that there are too many bytes, and 23 that
+-- the limit is not 1 to 32.
 pub refusals-true :
     (e : Edition) (limit : ℕ) (s : List ℕ) (room : ℕ) {m : Refusal} {place : ℕ} → message e limit s room ≡ refused m place → RefusedFor e limit s room (numberOf m) place
 refusals-true e limit s room {m} {place} i = go (opens e limit s room)
@@ -94,15 +95,15 @@ refusals-true e limit s room {m} {place} i = go (opens e limit s room)
     none m j n k used nesting t g = refused-true g room limit j (λ h x. n (ap numberOf x)) (λ h x. k (ap numberOf x))
 
     by : (m : Refusal) → root s room e limit ≡ refused m place → RefusedFor e limit s room (numberOf m) place
-    by Ended j = ended (none Ended j (λ k. omega arith) (λ k. omega arith))
-    by UnexpectedByte j = unexpected-byte (none UnexpectedByte j (λ k. omega arith) (λ k. omega arith))
-    by BadText j = bad-text (none BadText j (λ k. omega arith) (λ k. omega arith))
+    by Ended j = ended (none Ended j (λ k. omega arith) (λ k. omega arith)) (because s room e limit j)
+    by UnexpectedByte j = unexpected-byte (none UnexpectedByte j (λ k. omega arith) (λ k. omega arith)) (because s room e limit j)
+    by BadText j = bad-text (none BadText j (λ k. omega arith) (λ k. omega arith)) (because s room e limit j)
     by TooDeep j = too-deep (λ used nesting t g. less limit nesting (λ h. refused-true g room limit j (λ d x. omega arith) (λ r x. omega (arith, ap numberOf x))))
     by NoRow j = no-row (λ used nesting t g. less room (length (cells t)) (λ h. refused-true g room limit j (λ d x. omega (arith, ap numberOf x)) (λ r x. omega arith)))
-    by TooLong j = absurd (never-long s room e limit j)
-    by RepeatedKey j = repeated-key (none RepeatedKey j (λ k. omega arith) (λ k. omega arith))
-    by BadLimit j = absurd (never-limit s room e limit j)
-    by OutOfRange j = out-of-range (none OutOfRange j (λ k. omega arith) (λ k. omega arith))
+    by TooLong j = absurd (because s room e limit j)
+    by RepeatedKey j = repeated-key (none RepeatedKey j (λ k. omega arith) (λ k. omega arith)) (because s room e limit j)
+    by BadLimit j = absurd (because s room e limit j)
+    by OutOfRange j = out-of-range (none OutOfRange j (λ k. omega arith) (λ k. omega arith)) (because s room e limit j)
 
     go : Opened e limit s room (message e limit s room) → RefusedFor e limit s room (numberOf m) place
     go (low h j) = let q : refused m place ≡ refused BadLimit 0 = sym i ∙ j in let k : m ≡ BadLimit = cc in let p : place ≡ 0 = cc in rw (k, p) (no-limit h)

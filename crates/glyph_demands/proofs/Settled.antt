@@ -122,11 +122,11 @@ module _ (e : Edition) (limit : ℕ) (s : List ℕ) (words : ℕ) where
 
       go : {n q : ℕ} → RefusedFor e limit s (roomOf 4096 words) n q → n ≡ 23 → allowed limit ≡ false
       go (no-limit h) i = no h (allowed limit) refl
-      go (ended h) i = absurd (omega arith)
-      go (unexpected-byte h) i = absurd (omega arith)
-      go (bad-text h) i = absurd (omega arith)
-      go (repeated-key h) i = absurd (omega arith)
-      go (out-of-range h) i = absurd (omega arith)
+      go (ended h x) i = absurd (omega arith)
+      go (unexpected-byte h x) i = absurd (omega arith)
+      go (bad-text h x) i = absurd (omega arith)
+      go (repeated-key h x) i = absurd (omega arith)
+      go (out-of-range h x) i = absurd (omega arith)
       go (too-deep h) i = absurd (omega arith)
       go (no-row h) i = absurd (omega arith)
       go (too-long h) i = absurd (omega arith)

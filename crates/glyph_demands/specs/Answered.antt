@@ -19,6 +19,7 @@ use Rattle.glyph.specs.declared.Answer.the-variants.{Accepted, Refused}
 use Rattle.glyph.specs.Read.{Reading, got, refused}
 use Rattle.glyph.specs.Tree.{Tree, cells}
 use Rattle.glyph.specs.Grammar.{Root}
+use Rattle.glyph_exact.specs.Reasons.{Cut, IllFormed, Twice, Beyond}
 
 abbrev pub has : List ℕ → ℕ → Bool
 has [] n = false
@@ -49,11 +50,14 @@ Underived e s = (used nesting : ℕ) (t : Tree) → Root e nesting s used t → 
 
 -- what a refusal says of a message, by its number; its place is 0 where nothing of the message was read
 pub data RefusedFor (e : Edition) (limit : ℕ) (s : List ℕ) (room : ℕ) : ℕ → ℕ → Type 0 where
-  ended : {place : ℕ} → Underived e s → RefusedFor e limit s room 1 place
-  unexpected-byte : {place : ℕ} → Underived e s → RefusedFor e limit s room 3 place
-  bad-text : {place : ℕ} → Underived e s → RefusedFor e limit s room 5 place
-  repeated-key : {place : ℕ} → Underived e s → RefusedFor e limit s room 20 place
-  out-of-range : {place : ℕ} → Underived e s → RefusedFor e limit s room 25 place
+  -- the bytes end at the place, or in the item there
+  ended : {place : ℕ} → Underived e s → Cut s place → RefusedFor e limit s room 1 place
+  -- a byte stands at the place
+  unexpected-byte : {place : ℕ} → Underived e s → place < length s → RefusedFor e limit s room 3 place
+  -- at the place stands, up to its `;`, a unicode that is not well-formed, or whose text an earlier one has, or an integer out of range
+  bad-text : {place : ℕ} → Underived e s → IllFormed s place → RefusedFor e limit s room 5 place
+  repeated-key : {place : ℕ} → Underived e s → Twice s place → RefusedFor e limit s room 20 place
+  out-of-range : {place : ℕ} → Underived e s → Beyond s place → RefusedFor e limit s room 25 place
   -- what is derived, if anything is, nests deeper than the limit
   too-deep : {place : ℕ} → ((used nesting : ℕ) (t : Tree) → Root e nesting s used t → limit < nesting) → RefusedFor e limit s room 8 place
   -- and has more rows than there is room for

@@ -101,18 +101,18 @@ blank-at s at h =
 after-blanks : {s : List ℕ} {at to : ℕ} {xs : List ℕ} (w : Blank s at to) → Here s to xs → Here s at (w .bytes ++ xs)
 after-blanks {xs = xs} w h = join (w .bytes) xs (w .here) (rw (w .ends) at h) refl
 
-here-at : {s : List ℕ} {at to : ℕ} {xs : List ℕ} → at ≡ to → Here s at xs → Here s to xs
+pub here-at : {s : List ℕ} {at to : ℕ} {xs : List ℕ} → at ≡ to → Here s at xs → Here s to xs
 here-at e h = rw e at h
 
 -- one byte
 byte-here : {s : List ℕ} {at b : ℕ} → at < length s → byteAt s at ≡ b → Here s at (b ∷ [])
 byte-here {s} {at} h e = let z : Here s (at + 1) [] = nothing-here (omega arith) in rw e at (byte-before {s = s} h z)
 
-with-byte : {s : List ℕ} {at b : ℕ} {xs : List ℕ} → at < length s → byteAt s at ≡ b → Here s (at + 1) xs → Here s at (b ∷ xs)
+pub with-byte : {s : List ℕ} {at b : ℕ} {xs : List ℕ} → at < length s → byteAt s at ≡ b → Here s (at + 1) xs → Here s at (b ∷ xs)
 with-byte h e k = rw e at (byte-before h k)
 
 -- the byte of a letter
-abbrev Byte : Edition → Letter → ℕ → Type 0
+abbrev pub Byte : Edition → Letter → ℕ → Type 0
 Byte e (Leaf leaf-letter.Integer) b = b ≡ 105
 Byte e (Leaf leaf-letter.Unicode) b = b ≡ 117
 Byte e (Leaf leaf-letter.Bytes) b = b ≡ 98
@@ -141,7 +141,7 @@ h-byte : (e : Edition) (b : ℕ) → b ≡ 72 → Byte e (letterH e) b
 h-byte New b i = tt
 h-byte Old b i = rw i old-extension
 
-letter-byte : (e : Edition) (b : ℕ) → Byte e (letterOf e b) b
+pub letter-byte : (e : Edition) (b : ℕ) → Byte e (letterOf e b) b
 unfolding letterOf
 letter-byte e b =
     letter-or e b 105 (Leaf leaf-letter.Integer) _ (λ i. i)
@@ -157,17 +157,17 @@ letter-byte e b =
     (letter-or e b 72 (letterH e) Unknown (h-byte e b) tt))))))))))
 
 -- a letter where it may stand
-data Allowed : Want → Letter → Type 0 where
+pub data Allowed : Want → Letter → Type 0 where
   allow-any : {l : Letter} → Allowed Any l
   allow-text : Allowed Text (Leaf leaf-letter.Unicode)
   allow-dict : Allowed EitherDict (Many many-letter.Dict)
   allow-ordered : Allowed EitherDict (Many many-letter.Ordered)
 
-data Stand (w : Want) (l : Letter) : Type 0 where
+pub data Stand (w : Want) (l : Letter) : Type 0 where
   out : wanted w l ≡ Unknown → Stand w l
   inside : wanted w l ≡ l → Allowed w l → Stand w l
 
-stands : (w : Want) (l : Letter) → Stand w l
+pub stands : (w : Want) (l : Letter) → Stand w l
 stands Any l = inside refl allow-any
 stands Text (Leaf leaf-letter.Unicode) = inside refl allow-text
 stands Text (Leaf leaf-letter.Integer) = out refl
@@ -216,11 +216,11 @@ single-here {s} {at} {b} kind a r h e i =
     (g .1, with-byte h e (byte-here (ltb-true (at + 1) (length s) (f .0)) (eqb-true (byteAt s (at + 1)) 59 (g .0))))
 
 -- digits and the byte behind them
-record Spelling (s : List ℕ) (from b : ℕ) : Type 0 where
-  bytes : List ℕ
-  number : Number (decimal 0 (drop from s)) bytes
-  count : digits (drop from s) ≡ length bytes
-  here : Here s from (bytes ++ (b ∷ []))
+pub record Spelling (s : List ℕ) (from b : ℕ) : Type 0 where
+  pub bytes : List ℕ
+  pub number : Number (decimal 0 (drop from s)) bytes
+  pub count : digits (drop from s) ≡ length bytes
+  pub here : Here s from (bytes ++ (b ∷ []))
 
 and-both : (a b : Bool) → (a && b) ≡ true → (a ≡ true) × (b ≡ true)
 and-both true true e = (refl, refl)
@@ -232,7 +232,7 @@ some-number zero xs v h a l q = absurd (omega arith)
 some-number (suc n) [] v h a l q = absurd (omega (arith, l))
 some-number (suc n) (x ∷ xs) v h a l q = ascii-number a q
 
-spelling : (s : List ℕ) (b from at : ℕ) (o : Reading) {rows : List Row} {to : ℕ} → numbered s b at from (digits (drop from s)) o ≡ got rows to → Spelling s from b × (o ≡ got rows to)
+pub spelling : (s : List ℕ) (b from at : ℕ) (o : Reading) {rows : List Row} {to : ℕ} → numbered s b at from (digits (drop from s)) o ≡ got rows to → Spelling s from b × (o ≡ got rows to)
 spelling s b from at o i =
     let n : ℕ = digits (drop from s) in
     let f = picked (ltb (from + n) (length s)) _ _ _ i in
@@ -252,15 +252,15 @@ spelling s b from at o i =
     )
 
 -- an integer
-record SignHere (s : List ℕ) (at : ℕ) : Type 0 where
-  minus : Bool
-  bytes : List ℕ
-  sign : Sign minus bytes
-  here : Here s (at + 1) bytes
-  is : isMinus (byteAt s (at + 1)) ≡ minus
-  takes : signs (byteAt s (at + 1)) ≡ length bytes
+pub record SignHere (s : List ℕ) (at : ℕ) : Type 0 where
+  pub minus : Bool
+  pub bytes : List ℕ
+  pub sign : Sign minus bytes
+  pub here : Here s (at + 1) bytes
+  pub is : isMinus (byteAt s (at + 1)) ≡ minus
+  pub takes : signs (byteAt s (at + 1)) ≡ length bytes
 
-sign-here : (s : List ℕ) (at : ℕ) → at + 1 + signs (byteAt s (at + 1)) ≤ length s → SignHere s at
+pub sign-here : (s : List ℕ) (at : ℕ) → at + 1 + signs (byteAt s (at + 1)) ≤ length s → SignHere s at
 unfolding isMinus signs
 sign-here s at h = go (eqb (byteAt s (at + 1)) 45) refl (eqb (byteAt s (at + 1)) 43) refl
   where
@@ -299,22 +299,22 @@ there-by (y ∷ s) zero e h = omega arith
 there-by (y ∷ s) (suc i) e h = let k = there-by s i e h in omega arith
 
 -- a text
-record TextDerived (s : List ℕ) (u : Bool) (at r : ℕ) (rows : List Row) (to : ℕ) : Type 0 where
-  bytes : List ℕ
-  text : List ℕ
-  offset : ℕ
-  content : Content bytes text
-  good : goodText u text ≡ true
-  here : Here s (at + 1) bytes
-  is : got (row (textKind u) offset (length text) (r + 1) ∷ []) (at + 1 + length bytes) ≡ got rows to
-  lies : Here s offset text
+pub record TextDerived (s : List ℕ) (u : Bool) (at r : ℕ) (rows : List Row) (to : ℕ) : Type 0 where
+  pub bytes : List ℕ
+  pub text : List ℕ
+  pub offset : ℕ
+  pub content : Content bytes text
+  pub good : goodText u text ≡ true
+  pub here : Here s (at + 1) bytes
+  pub is : got (row (textKind u) offset (length text) (r + 1) ∷ []) (at + 1 + length bytes) ≡ got rows to
+  pub lies : Here s offset text
 
 empty-good : (u : Bool) → goodText u [] ≡ true
 unfolding goodText wellFormed octets
 empty-good true = refl
 empty-good false = refl
 
-lengthened-sound : {s : List ℕ} (u : Bool) {at r : ℕ} {rows : List Row} {to : ℕ} → lengthened s u at r ≡ got rows to → TextDerived s u at r rows to
+pub lengthened-sound : {s : List ℕ} (u : Bool) {at r : ℕ} {rows : List Row} {to : ℕ} → lengthened s u at r ≡ got rows to → TextDerived s u at r rows to
 unfolding lengthened contentAt
 lengthened-sound {s} u {at} {r} {rows} {to} i =
     let x = spelling s 58 (at + 1) at _ i in
@@ -370,15 +370,15 @@ realised-at : {s : List ℕ} {r q : ℕ} {xs : List Row} {cs : List Cell} → r 
 realised-at e h = rw e at h
 
 -- an object behind what was read
-record NextInv (s : List ℕ) (o : Reading) (r : ℕ) (f : Reader) (rows : List Row) (to : ℕ) : Type 0 where
-  front : List Row
-  middle : ℕ
-  back : List Row
-  first : o ≡ got front middle
-  second : f (past s middle) (r + length front) ≡ got back to
-  all : rows ≡ front ++ back
+pub record NextInv (s : List ℕ) (o : Reading) (r : ℕ) (f : Reader) (rows : List Row) (to : ℕ) : Type 0 where
+  pub front : List Row
+  pub middle : ℕ
+  pub back : List Row
+  pub first : o ≡ got front middle
+  pub second : f (past s middle) (r + length front) ≡ got back to
+  pub all : rows ≡ front ++ back
 
-next-inv : (s : List ℕ) (o : Reading) (r : ℕ) (f : Reader) {rows : List Row} {to : ℕ} → next s o r f ≡ got rows to → NextInv s o r f rows to
+pub next-inv : (s : List ℕ) (o : Reading) (r : ℕ) (f : Reader) {rows : List Row} {to : ℕ} → next s o r f ≡ got rows to → NextInv s o r f rows to
 next-inv s (refused m q) r f i = no-got i
 next-inv s (got front middle) r f {rows} {to} i = go (f (past s middle) (r + length front)) refl i
   where
@@ -389,11 +389,11 @@ next-inv s (got front middle) r f {rows} {to} i = go (f (past s middle) (r + len
         let b : at ≡ to = cc in
         record { front = front; middle = middle; back = back; first = refl; second = j ∙ ap (got back) b; all = sym a }
 
-record DistinctInv (s : List ℕ) (seen : Texts) (o : Reading) (rows : List Row) (to : ℕ) : Type 0 where
-  reading : o ≡ got rows to
-  new : among seen (firstText s rows) ≡ false
+pub record DistinctInv (s : List ℕ) (seen : Texts) (o : Reading) (rows : List Row) (to : ℕ) : Type 0 where
+  pub reading : o ≡ got rows to
+  pub new : among seen (firstText s rows) ≡ false
 
-distinct-inv : (s : List ℕ) (seen : Texts) (at : ℕ) (o : Reading) {rows : List Row} {to : ℕ} → distinct s seen at o ≡ got rows to → DistinctInv s seen o rows to
+pub distinct-inv : (s : List ℕ) (seen : Texts) (at : ℕ) (o : Reading) {rows : List Row} {to : ℕ} → distinct s seen at o ≡ got rows to → DistinctInv s seen o rows to
 unfolding distinct
 distinct-inv s seen at (refused m q) i = no-got i
 distinct-inv s seen at (got rows₀ to₀) {rows} {to} i = go (among seen (firstText s rows₀)) refl i
@@ -407,15 +407,15 @@ first-text : {s : List ℕ} {r : ℕ} {rows : List Row} {k : List ℕ} {cs : Lis
 first-text (and-then (means a b (says-contents c d p)) t) = p
 
 -- a derived unicode
-record Key (e : Edition) (s : List ℕ) (d at r : ℕ) (rows : List Row) (to : ℕ) : Type 0 where
-  used : List ℕ
-  text : List ℕ
-  object : Object e d used (leaf 11 (contents text))
-  here : Here s at used
-  ends : to ≡ at + length used
-  realises : Realises s r rows (cell 11 0 (contents text) ∷ [])
+pub record Key (e : Edition) (s : List ℕ) (d at r : ℕ) (rows : List Row) (to : ℕ) : Type 0 where
+  pub used : List ℕ
+  pub text : List ℕ
+  pub object : Object e d used (leaf 11 (contents text))
+  pub here : Here s at used
+  pub ends : to ≡ at + length used
+  pub realises : Realises s r rows (cell 11 0 (contents text) ∷ [])
 
-key-of : {e : Edition} {s : List ℕ} {d at r : ℕ} {rows : List Row} {to : ℕ} → Derived e s Text d at r rows to → Key e s d at r rows to
+pub key-of : {e : Edition} {s : List ℕ} {d at r : ℕ} {rows : List Row} {to : ℕ} → Derived e s Text d at r rows to → Key e s d at r rows to
 unfolding cells
 key-of {e} {s} {d} {at} {r} {rows} {to} g = go (g .tree) (g .meets) (g .object) (g .realises)
   where
@@ -423,7 +423,7 @@ key-of {e} {s} {d} {at} {r} {rows} {to} g = go (g .tree) (g .meets) (g .object) 
     go (leaf kind load) unicode-met o z = record { used = g .used; text = _; object = o; here = g .here; ends = g .ends; realises = z }
 
 module _ (e : Edition) (s : List ℕ) where
-  Sound : (Want → Reader) → ℕ → Type 0
+  unfoldable pub Sound : (Want → Reader) → ℕ → Type 0
   Sound f d = (w : Want) (at r : ℕ) (rows : List Row) (to : ℕ) → f w at r ≡ got rows to → Derived e s w d at r rows to
 
   -- more objects and the `;`, behind the n objects whose rows are acc
@@ -785,7 +785,7 @@ standing s room nest at r (out i) j k = no-got (sym (ap (λ (x : Letter). item s
 standing s room nest at r (inside i a) j k = k a (sym (ap (λ (x : Letter). item s room x nest at r) i) ∙ j)
 
 -- WHAT IS READ IS DERIVED
-object-sound : (e : Edition) (s : List ℕ) (room d : ℕ) → Sound e s (object s room e d) d
+pub object-sound : (e : Edition) (s : List ℕ) (room d : ℕ) → Sound e s (object s room e d) d
 unfolding object Sound
 object-sound e s room zero w at r rows to i =
     let f = picked (ltb at (length s)) _ _ _ i in

@@ -1,7 +1,7 @@
 pub mod Growing
 pub mod Fitting
-pub mod Refusing
 pub mod Completing
 pub mod Unfolding
 pub mod Deriving
+pub mod Refusing
 pub mod Concluding
