@@ -13,6 +13,8 @@ mod clock;
 mod library;
 #[path = "../messages/mod.rs"]
 mod messages;
+mod on_messages;
+mod on_tables;
 mod sent;
 mod spread;
 #[allow(dead_code, reason = "the other functions")]
@@ -38,6 +40,10 @@ fn main() -> ExitCode {
     let (name, call) = (words.next(), words.next());
     let cases = cases::named(name.as_deref().unwrap_or_default());
     let call = call.unwrap_or_default();
+    if cases.is_empty() {
+        eprintln!("no table or message has such a name");
+        return ExitCode::from(2);
+    }
     println!(
         "Milliseconds of a call at work, the median of up to nine; `bytes` is the sum of all calls for a message that comes\n\
          a byte at a time, once; `st` is a call for a station."
@@ -66,25 +72,32 @@ fn print_table(
     word: &str,
     above: &mut Vec<String>,
 ) {
-    let columns: Vec<&Column> = columns
-        .iter()
-        .filter(|column| column.name.contains(word))
-        .collect();
+    let mut columns: Vec<&Column> = columns.iter().collect();
+    columns.retain(|column| column.name.contains(word));
+    let mut is_first = true;
+    for named in cases {
+        let case = named.make();
+        if !columns.iter().any(|column| column.applies(&case)) {
+            continue;
+        }
+        if is_first {
+            print_head(what, &columns);
+        }
+        is_first = false;
+        print_line(named.name, &columns, &case, above);
+    }
+}
+
+fn print_head(what: &str, columns: &[&Column]) {
     print!("\n{what:50}");
-    for column in &columns {
+    for column in columns {
         print!(" {:>10}", column.name);
     }
     print!("\n{:50}", "  aim");
-    for column in &columns {
+    for column in columns {
         print!(" {:>10.0}", column.aim);
     }
     println!();
-    for named in cases {
-        let case = named.make();
-        if columns.iter().any(|column| column.ready(&case).is_some()) {
-            print_line(named.name, &columns, &case, above);
-        }
-    }
 }
 
 fn print_line(name: &str, columns: &[&Column], case: &Case, above: &mut Vec<String>) {

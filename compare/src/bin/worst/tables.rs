@@ -80,6 +80,9 @@ pub const OF_KEYS: List<Table> = &[
         let text: Vec<u8> = b"abc".iter().copied().cycle().take(BYTE_LIMIT).collect();
         Table::keys(&text, shuffled(beginnings(3)))
     }),
+    ("keys of 43 KB, beginnings ten apart, shuffled", || {
+        Table::keys(&[b'a'; BYTE_LIMIT], shuffled(beginnings(10)))
+    }),
     ("keys of 63 KB from one place, shuffled", || {
         let lengths = (0..KEYS).map(|i| (0, BYTE_LIMIT - i));
         Table::keys(&[b'a'; BYTE_LIMIT], shuffled(lengths))
