@@ -1,5 +1,7 @@
 //! The calls that are timed, each as a column. A function whose name ends in
-//! `_within` differs by its limit alone, so of each pair with a station one is here.
+//! `_within` differs from the other by its limit alone: of reading and writing both
+//! are here, of the rest one. `binmode_next_card` and `binmode_share` take no table
+//! or message.
 
 use crate::cases::{Case, Format};
 use crate::library::Limit;
@@ -11,8 +13,8 @@ use second::glyph::Edition;
 use second::rules::{BYTE_LIMIT, NESTING_LIMIT, ROW_LIMIT, ROW_WORDS};
 
 /// What a call may take, in milliseconds: one on a table, one that reads a
-/// message, and the sum of all that read one a byte at a time. After
-/// twice that sum the rest of the bytes is left away.
+/// message, and the sum of all that take one a byte at a time. After twice that sum
+/// the rest of the bytes is left away.
 const OF_TABLE: f64 = 40.0;
 const OF_MESSAGE: f64 = 2.0;
 const OF_BYTES: f64 = 5_000.0;

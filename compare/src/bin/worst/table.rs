@@ -104,6 +104,23 @@ impl Table {
         Table::flat(STRUCT, items.len() / 2, &items, text)
     }
 
+    /// An Array of so many Structs, each with so many of the keys.
+    pub fn structs(text: &[u8], count: usize, keys: usize, key: fn(usize) -> Part) -> Self {
+        let each = 2 * keys + 1;
+        let end = (2 + count * each) as u32;
+        let mut rows = vec![[RESPONSE, 0, 1, end], [ARRAY, 0, count as u32, end]];
+        for number in 0..count {
+            rows.push([STRUCT, 0, keys as u32, (rows.len() + each) as u32]);
+            for place in 0..keys {
+                let [kind, a, b] = string(key(number * keys + place));
+                let at = rows.len() as u32;
+                rows.push([kind, a, b, at + 1]);
+                rows.push([BOOLEAN, 0, 0, at + 2]);
+            }
+        }
+        Table::of_rows(&rows, text)
+    }
+
     /// An Array of chains: each is so many Structs in one another, of one key each.
     pub fn chains(text: &[u8], deep: usize, mut key: impl FnMut(usize) -> Part) -> Self {
         let each = 2 * deep + 1;

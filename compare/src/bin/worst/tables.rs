@@ -45,10 +45,11 @@ pub const OF_STRINGS: List<Table> = &[
         let texts = picked(MOST, 10, 0, STRING_BUCKETS);
         Table::strings(&texts.concat(), (0..MOST).map(|i| (10 * i, 10)))
     }),
-    ("2,500 texts of 20 bytes picked, and again", || {
+    ("2,500 Strings of 20 bytes picked, the first again", || {
         let texts = picked(2_500, 20, 0, STRING_BUCKETS);
-        let place = |i: usize| (20 * (i % 2_500), 20);
-        Table::strings(&texts.concat(), (0..MOST).map(place))
+        let again = std::iter::repeat_n((0, 20), MOST - 2_500);
+        let strings = (0..2_500).map(|i| (20 * i, 20)).chain(again);
+        Table::strings(&texts.concat(), strings)
     }),
     ("4,094 Doubles of 255 bytes", || {
         Table::doubles(&b"1".repeat(253), MOST)
@@ -90,12 +91,19 @@ pub const OF_KEYS: List<Table> = &[
     ("keys in Fibonacci's word, shuffled", || {
         Table::keys(&fibonacci(), shuffled(beginnings(1)))
     }),
+    ("keys of 8 bytes, not picked", || {
+        let text: String = (0..KEYS).map(|i| format!("key {i:04}")).collect();
+        Table::keys(text.as_bytes(), (0..KEYS).map(|i| (8 * i, 8)))
+    }),
     ("keys of 8 bytes picked for one bucket", || picked_keys(8)),
     ("keys of 20 bytes picked for one bucket", || picked_keys(20)),
     ("keys of 26 bytes picked for one bucket", || picked_keys(26)),
     ("keys and texts of 11 bytes picked for one bucket", || {
         let texts = picked(2 * KEYS, 11, FIRST_KEY, KEY_BUCKETS);
         Table::keys_and_texts(&texts.concat(), (0..2 * KEYS).map(|i| (11 * i, 11)))
+    }),
+    ("240 Structs of 8 keys of 8 KB, backwards", || {
+        Table::structs(&[b'a'; BYTE_LIMIT], 240, 8, |i| (i, 8_100 - i % 8))
     }),
     ("1,904 Structs, each with its key of 63 KB", || {
         let text = one_other(b'a', b"b", BYTE_LIMIT / 2);
