@@ -2,8 +2,8 @@
 
 use crate::cases::List;
 use crate::messages::{array, boolean, card, day, decimal, small_array, text};
-use crate::spread::of_one_sum;
-use crate::tables::random_text;
+use crate::spread::{KEY_BUCKETS, of_one_sum, picked};
+use crate::tables::{FIRST_KEY, random_text};
 use second::rules::{BYTE_LIMIT, PREFIX};
 
 /// Messages of Binmode.
@@ -26,6 +26,9 @@ pub const MESSAGES: List<Vec<u8>> = &[
     }),
     ("15 Structs of 128 keys of one sum, 448 bytes", || {
         structs(15, 128, 448)
+    }),
+    ("2,047 keys of 8 bytes picked, with Doubles", || {
+        picked_with_doubles(2_047)
     }),
     ("a text of 54 KB, 1,362 Structs with a short key", || {
         after_text(1_362, 54_000, |index| {
@@ -113,6 +116,17 @@ fn structs(count: usize, keys: usize, length: usize) -> Vec<u8> {
         items.extend((0..keys).flat_map(|position| [b'<', position as u8, b't']));
     }
     response(count, &items)
+}
+
+/// A Struct whose keys have one bucket. A Double is read again for its tag, its
+/// size and its content, if each comes by itself.
+fn picked_with_doubles(count: usize) -> Vec<u8> {
+    let mut value = field(b'S', count);
+    for key in picked(count, 8, FIRST_KEY, KEY_BUCKETS) {
+        value.extend(field(b'U', key.len()));
+        value.extend([&key[..], b"D\x031.5"].concat());
+    }
+    [PREFIX, &b"R"[..], &value].concat()
 }
 
 /// A long text of any characters, and so many items behind it.

@@ -7,7 +7,7 @@ use second::rules::BYTE_LIMIT;
 
 /// The row of the first key of a Struct in a Response, by which its keys' buckets
 /// are chosen.
-const FIRST_KEY: u64 = 2;
+pub const FIRST_KEY: u64 = 2;
 
 /// Strings, most of them long parts of the same text bytes.
 pub const OF_STRINGS: List<Table> = &[
@@ -71,7 +71,7 @@ pub const OF_KEYS: List<Table> = &[
     ("keys of 32 KB, another byte each sixteen further", || {
         Table::keys(&one_other(b'a', b"b", BYTE_LIMIT / 2 - 1), parts(16, KEYS))
     }),
-    ("keys of 61 KB, each a beginning of the next", || {
+    ("keys of 61 KB, each a beginning of the one before", || {
         Table::keys(&[b'a'; BYTE_LIMIT], beginnings(1))
     }),
     ("keys of 61 KB, beginnings, shuffled", || {
