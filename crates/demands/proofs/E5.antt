@@ -18,6 +18,7 @@ pub holds : E5
 holds = record {
   position-taken = positions.position-exactly;
   yields = λ c e w key m h. refusals.yields c e w key h;
+  table-says = λ c e deep xs g key. lookups.table-says (c .table) (c .rows) (c .text) e g (c .row) key;
   message-says = λ limit s words rows used book e o to nesting cells b r key. lookups.message-says limit s words e o b r key;
   whole-number = spelled.twos-complement;
   reports = λ z x o n r. (refl, refl, refl, refl, refl, refl);

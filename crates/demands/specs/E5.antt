@@ -20,6 +20,7 @@ use Rattle.draft.specs.Bytes.{Below, bytes}
 use Rattle.draft.specs.Codebook.{Book}
 use Rattle.draft.specs.Read.{got}
 use Rattle.draft.specs.Grammar.{Cell, Begins}
+use Rattle.draft.specs.Written.{rowsOf}
 use Rattle.read_answer.specs.Answers.{reading, tableOf}
 use Rattle.member.specs.declared.Member.{Member}
 use Rattle.lookup_answer.specs.declared.Answer.the-variants.{Whole, Decimal, Truth, Text, Row}
@@ -27,6 +28,7 @@ use Rattle.lookup_answer.specs.Answers.{signed, lookup}
 use Rattle.lookup_answer.specs.Reports.{plusZero, reported, reportOf}
 use Rattle.placing.specs.Placing.{at, acceptedAt}
 use Rattle.defaults.specs.Defaults.{Source, isWritable}
+use Rattle.written.specs.Derivable.{DerivesRows}
 use Rattle.meant.specs.Meant.{Answered}
 use Rattle.demands_lookups.specs.Asked.{looked, told, placed, placedNumber, Has, Yields, Missing, NoDouble, IsDouble, LongDouble, DoubleOf, OneOf, AllOf}
 use Rattle.demands_lookups.specs.Spelled.{ZerosDropped, WholeNumber}
@@ -49,10 +51,13 @@ pub record E5 : Type 0 where
       → (placed c ≡ acceptedAt (at x y turn))
       ↔ ((isWritable c ≡ true) × DoubleOf c (bytes "x") x × DoubleOf c (bytes "y") y × DoubleOf c (bytes "turn") turn)
   -- 'Looking up a member yields a whole number, a decimal, a yes or no, a text, or another item's row; [..] A DateTime, Binary, Array, Struct or Other
-  -- answers with its row; a text is a String's offset and length.' By the kind of the member's value; and, of a message that was read, by what the
-  -- draft derives for it.
+  -- answers with its row; a text is a String's offset and length.' By the kind of the member's value; by what the draft derives with the table's
+  -- meaning, as it does for every writable table (page Rules); and, of a message that was read, by what it derives for the message.
   pub yields :
       (c : Source) → isWritable c ≡ true → Below 4294967296 (c .table) → (key : List ℕ) (m : Member) → Has c key m → Yields c m (looked c key)
+  pub table-says :
+      (c : Source) → isWritable c ≡ true → (deep : ℕ) (xs : List ℕ) (g : DerivesRows deep xs (c .text) (rowsOf 4096 (c .table) (c .rows))) → (key : List ℕ)
+      → Answered (c .text) (g .cells) (c .row) key (looked c key)
   pub message-says :
       (limit : ℕ) (s : List ℕ) (words : ℕ) (rows : List TableRow) (used : ℕ) (book : Book) → reading limit s words ≡ got rows used book → Below 256 s
       → (to nesting : ℕ) (cells : List Cell) → Begins s to nesting cells → (r : ℕ) (key : List ℕ)
