@@ -34,6 +34,7 @@ use Rattle.glyph_form.proofs.Cases as writing
 use Rattle.glyph_told.specs.Tables.{Words}
 use Rattle.glyph_demands.specs.Answered.{has, rowsIn}
 use Rattle.glyph_demands.proofs.Cases as cases
+use Rattle.glyph_demands.proofs.Ends as ends
 use Rattle.glyph_demands.proofs.Letters as letters
 use Rattle.glyph_demands.proofs.Reading as reading-laws
 use Rattle.glyph_demands.proofs.Settled as reader
@@ -52,6 +53,7 @@ reads e limit s words {T} {a} d =
     record {
       taken = λ ok g fits. reader.taken e limit s words ok g fits d;
       means = λ i. reader.means e limit s words (rw i at d);
+      all-end = λ i. ends.all-end e limit s words (rw i at d);
       other-letters = λ {x} {rest} i ok b h. letters.other-letters e limit x rest words (rw i at ok) b h (rw i at d);
     }
 

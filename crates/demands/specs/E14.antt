@@ -44,7 +44,7 @@ use Rattle.glyph_stations.specs.declared.WriteAnswer.the-variants as write
 use Rattle.glyph_stations.specs.Answers.{ReadFor, WroteFor}
 use Rattle.glyph_reports.specs.Numbers as read-report
 use Rattle.glyph_reports.specs.Writing as write-report
-use Rattle.glyph_demands.specs.Answered.{has, lettersOf, Allowed, Derived, RefusedFor, rowsIn, Columns, Lasting}
+use Rattle.glyph_demands.specs.Answered.{has, lettersOf, Allowed, Derived, AllEnd, RefusedFor, rowsIn, Columns, Lasting}
 use Rattle.glyph_demands.specs.Cases.{cases, expected, given}
 use Rattle.glyph_written.specs.RowKinds.{binmodeKinds, glyphKinds}
 use Rattle.glyph_writing_demands.specs.Accepting as writer
@@ -61,6 +61,8 @@ pub record Reads (e : Edition) (limit : ℕ) (s : List ℕ) (words : ℕ) (T : L
   -- edition's grammar derives it within the limits, and the rows mean what is derived;
   pub taken : {used : ℕ} {t : Tree} → Allowed limit s → Root e limit s used t → length (cells t) ≤ roomOf 4096 words → a ≡ Accepted (length (cells t)) used
   pub means : {n used : ℕ} → a ≡ Accepted n used → Derived e limit s (roomOf 4096 words) (rowsAt (roomOf 4096 words) T 0 n) used
+  -- '`u;` and `b;` have the offset of their `;`': at that offset, as behind every unicode and bytearray, a `;` stands. That it is their own: `cases-read`.
+  pub all-end : {n used : ℕ} → a ≡ Accepted n used → AllEnd s (rowsAt (roomOf 4096 words) T 0 n)
   -- 'other letters are 3.'
   pub other-letters : {x : ℕ} {rest : List ℕ} → s ≡ x ∷ rest → Allowed limit s → isBlank x ≡ false → has (lettersOf e) x ≡ false → a ≡ Refused 3 0
 

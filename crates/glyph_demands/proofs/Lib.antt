@@ -2,3 +2,4 @@ pub mod Cases
 pub mod Letters
 pub mod Reading
 pub mod Settled
+pub mod Ends

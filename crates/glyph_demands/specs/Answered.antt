@@ -2,13 +2,14 @@
 -- a higher limit and in a larger table. Assumes nothing.
 use mathlib.Core.Path.{_≡_}
 use mathlib.Core.Logic.{_≢_}
-use mathlib.Core.Bool.{Bool, false, _||_}
+use mathlib.Core.Bool.{Bool, true, false, _||_}
 use mathlib.Core.List.{List, [], _∷_}
 use Prim.Native.Nat.{ℕ, _+_, _*_, _≤_, _<_}
 use Prim.Native.Char.{code}
 use lib.Dec.{eqb}
 use lib.ListN.{length, getD}
 use Rattle.draft.specs.declared.Row.{Row}
+use Rattle.draft.specs.Bytes.{byteAt}
 use Rattle.draft.specs.Rows.{row}
 use Rattle.draft.specs.Table.{roomOf}
 use Rattle.draft.specs.Meaning.{Realises}
@@ -43,6 +44,14 @@ pub record Derived (e : Edition) (limit : ℕ) (s : List ℕ) (room : ℕ) (rows
   pub meaning : Realises s 0 rows (cells tree)
   pub fits : length rows ≤ room
   pub allowed : Allowed limit s
+
+-- the byte behind the bytes that a unicode's or a bytearray's row names is `;`: so an empty one's offset is that of a `;`
+abbrev pub Ends : List ℕ → Row → Type 0
+Ends s x = has (8 ∷ 11 ∷ []) (x .kind) ≡ true → byteAt s (x .a + x .b) ≡ code ";"
+
+abbrev pub AllEnd : List ℕ → List Row → Type 0
+AllEnd s [] = Unit {0}
+AllEnd s (x ∷ rows) = Ends s x × AllEnd s rows
 
 -- the edition does not derive the message at all
 abbrev pub Underived : Edition → List ℕ → Type 0
