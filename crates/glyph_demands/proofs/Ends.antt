@@ -53,6 +53,10 @@ module _ (s : List ℕ) where
   ends-append [] ys p q = q
   ends-append (x ∷ xs) ys (i, p) q = (i, ends-append xs ys p q)
 
+  ends-then : (o : Reading) (on : List Row → ℕ → Reading) → Ended o → ((rows : List Row) (at : ℕ) → AllEnd s rows → Ended (on rows at)) → Ended (then o on)
+  ends-then (refused m p) on i h = tt
+  ends-then (got rows at) on i h = h rows at i
+
   ends-behind : (rows : List Row) (o : Reading) → AllEnd s rows → Ended o → Ended (behind rows o)
   ends-behind rows (refused m p) h i = tt
   ends-behind rows (got others at) h i = ends-append rows others h i
@@ -102,11 +106,11 @@ module _ (s : List ℕ) where
     ends-run : (fuel n : ℕ) (seen : Texts) (acc : List Row) (at r : ℕ) → AllEnd s acc → Ended (run s f more kind fuel n seen acc at r)
     unfolding run Ending
     ends-run zero n seen acc at r a = tt
-    ends-run (suc fuel) n seen acc at r a = pick (eqb (byteAt s at) 59) _ _ (λ k. clash k i, a) (after (f seen at (r + 1 + length acc)) (h seen at (r + 1 + length acc)) (λ rows at′ j. ends-run fuel (n + 1) (more seen rows) (acc ++ rows) (past s at′) r (ends-append acc rows a j)))
-      where
-        after : (o : Reading) → Ended o → ((rows : List Row) (at′ : ℕ) → AllEnd s rows → Ended (run s f more kind fuel (n + 1) (more seen rows) (acc ++ rows) (past s at′) r)) → Ended (then o (λ rows at′. run s f more kind fuel (n + 1) (more seen rows) (acc ++ rows) (past s at′) r))
-        after (refused m p) j k = tt
-        after (got rows at′) j k = k rows at′ j
+    ends-run (suc fuel) n seen acc at r a =
+        pick (eqb (byteAt s at) 59) _ _ (λ k. clash k i, a)
+        (ends-then (f seen at (r + 1 + length acc)) (λ rows at′. run s f more kind fuel (n + 1) (more seen rows) (acc ++ rows) (past s at′) r)
+        (h seen at (r + 1 + length acc))
+        (λ rows at′ j. ends-run fuel (n + 1) (more seen rows) (acc ++ rows) (past s at′) r (ends-append acc rows a j)))
 
   ends-distinct : (seen : Texts) (at : ℕ) (o : Reading) → Ended o → Ended (distinct s seen at o)
   unfolding distinct
@@ -134,7 +138,9 @@ module _ (s : List ℕ) where
 
     ends-many : (l : ManyLetter) → Ending (many s l f)
     unfolding many Ending
-    ends-many l at r = ends-run (entry s (keyedBy l) f) (kept s (keyedBy l)) (ends-entry (keyedBy l)) (manyKind l) (many-kind l) (length s) 0 [] [] (past s (at + 1)) r tt
+    ends-many l at r =
+        ends-run (entry s (keyedBy l) f) (kept s (keyedBy l)) (ends-entry (keyedBy l)) (manyKind l) (many-kind l)
+        (length s) 0 [] [] (past s (at + 1)) r tt
 
     ends-three : (l : ThreeLetter) → Ending (three s l f)
     unfolding three Ending
