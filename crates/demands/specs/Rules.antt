@@ -180,6 +180,12 @@ pub record Writing : Type 0 where
   -- 'The texts that occur at least twice get positions 0, 1, 2 .. in order of first occurrence, 256 at most.'
   pub repeated-twice : (u : Text) (ts : List Text) → times u (repeated ts) ≡ bit (leb 2 (times u ts))
   pub positions : (ts : List Text) → (length (kept ts) ≤ 256) × ((t : Text) → among (kept ts) t ≡ true → position (kept ts) t < 256)
+  -- the first 256 have one; the text at i has i; and of two, the one that occurs first has one if the other has, and the smaller
+  pub kept-first : (ts : List Text) → kept ts ≡ take 256 (repeated ts)
+  pub from-zero : (ts : List Text) (i : ℕ) → i < length (kept ts) → position (kept ts) (getD (kept ts) i []) ≡ i
+  pub in-order :
+      (ts before : List Text) (t u : Text) (after : List Text) → ts ≡ before ++ (t ∷ after) → among (kept ts) t ≡ true → among (repeated ts) u ≡ true
+      → among before t ≡ false → among before u ≡ true → (among (kept ts) u ≡ true) × (position (kept ts) u < position (kept ts) t)
   -- 'Each of them is `>` the first time and `<` from then on. Every other string is `U` each time.': the string t, in row order behind others, as the written
   -- form sends it (`written` is the message that sends its strings as `plan` says)
   pub forms : (before : List Text) (t : Text) (after : List Text) → Forms before t (before ++ (t ∷ after))
