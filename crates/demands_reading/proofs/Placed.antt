@@ -1,7 +1,8 @@
 -- At the place of every refusal of a message stands what its number says: one law for each combinator of reading. Assumes nothing.
 use mathlib.Core.Path.{_≡_, refl, sym, ap, _∙_}
 use mathlib.Core.Bool.{Bool, true, false, cond}
-use mathlib.Core.List.{List, [], _++_}
+use mathlib.Core.Logic.{_≢_}
+use mathlib.Core.List.{List, [], _∷_, _++_}
 use Prim.Native.Nat.{ℕ, zero, suc, _+_, _≤_, _<_}
 use Prim.Native.Char.{code}
 use native.Mathlib.Omega.{arith}
@@ -33,7 +34,7 @@ use Rattle.draft.specs.declared.Entry.{Entry}
 use Rattle.draft.specs.declared.Entry.the-variants.{Unset, Text}
 use Rattle.draft.specs.declared.Row.{Row}
 use Rattle.draft.specs.Bytes.{byteAt, unsignedAt, part}
-use Rattle.draft.specs.Rows.{below, kindOf}
+use Rattle.draft.specs.Rows.{row, below, kindOf}
 use Rattle.draft.specs.Refusals.{numberOf}
 use Rattle.draft.specs.Content.{contentRule, fineIf, asciiThen, badIf, allThere, verdict, nameRule, keyRule, Held, isFault, faultRule}
 use Rattle.draft.specs.Codebook.{Book, clear, recorded as record-text}
@@ -45,7 +46,7 @@ use Rattle.exact.proofs.Replaying.{agrees-clear}
 use Rattle.exact.proofs.Realising.{held-below}
 use Rattle.exact.proofs.Deriving.{refused-got, struct-sound}
 use Rattle.demands_reading.specs.Members.{TwoMembers}
-use Rattle.demands_reading.specs.Placed.{Begun, Whole, shortText, longText, recordedText, Stands, short, nothing, cut, differs, unexpected, regular-bad, recorded-bad, double-bad, datetime-bad, unset, standard, deep-array, deep-struct, no-row, bad-fault, no-double, no-datetime, repeated-key}
+use Rattle.demands_reading.specs.Placed.{Begun, Whole, shortText, longText, recordedText, Sends, by-regular, by-recorded, by-recalled, Stands, short, nothing, cut, differs, unexpected, regular-bad, recorded-bad, double-bad, datetime-bad, unset, standard, deep-array, deep-struct, no-row, bad-fault, no-double, no-datetime, repeated-key}
 use Rattle.demands_reading.proofs.Reading.{two-members}
 
 -- a reading that ends within the bytes, or that is refused where what its number says stands
@@ -92,6 +93,9 @@ tag-array = refl
 tag-struct : tagOf (code "S") ≡ tag.Struct
 unfolding tagOf
 tag-struct = refl
+
+not-fine : {v : Verdict} {m : Refusal} → v ≡ Bad m → v ≢ Fine
+not-fine e f = let z : _≡_ {A = ℕ} 0 1 = cc in omega (arith, z)
 
 -- a message's bytes
 module _ (s : List ℕ) where
@@ -204,6 +208,54 @@ module _ (s : List ℕ) where
         opened-tells 2 at r h (fields-end (tag.String Recalled) at b h)
         (λ j. recalled-tells (book (byteAt s (at + 1))) at r book (whole (tag.String Recalled) at b h j (omega (arith, j))) j)
 
+    -- the text of a String that was read
+    module _ {rows : List Row} {to : ℕ} {book′ : Book} where
+      picked-got : (b : Bool) (o : Reading) (m : Refusal) (p : ℕ) → cond b o (refused m p) ≡ got rows to book′ → (b ≡ true) × (o ≡ got rows to book′)
+      picked-got true o m p e = (refl, e)
+      picked-got false o m p e = refused-got e
+
+      opened-got : (size at r : ℕ) (o : Reading) → opened s room size at r o ≡ got rows to book′ → (at + size ≤ length s) × (o ≡ got rows to book′)
+      opened-got size at r o e =
+          let f = picked-got (ltb r room) _ _ _ e in
+          let g = picked-got (leb (at + size) (length s)) _ _ _ (f .1) in
+          (leb-true _ _ (g .0), g .1)
+
+      leaf-first : (kind o n r at : ℕ) (book : Book) → leaf kind o n r at book ≡ got rows to book′ → firstText s room rows ≡ part s o n
+      leaf-first kind o n r at book e = let i : rows ≡ row kind o n (r + 1) ∷ [] = cc in ap (firstText s room) i
+
+      contents-first :
+          (c : Content) (o n at r : ℕ) (book : Book) → read-contents s room c o n at r book ≡ got rows to book′
+          → (o + n ≤ length s) × (firstText s room rows ≡ part s o n)
+      unfolding verdict read-contents
+      contents-first c o n at r book e = go (leb (o + n) (length s)) refl (contentRule c (part s o n)) e
+        where
+          go :
+              (b : Bool) → leb (o + n) (length s) ≡ b → (v : Verdict) → judged (allThere b v) at (leaf (kindOf c) o n r (o + n) book) ≡ got rows to book′
+              → (o + n ≤ length s) × (firstText s room rows ≡ part s o n)
+          go true i Fine e = (leb-true (o + n) (length s) i, leaf-first (kindOf c) o n r (o + n) book e)
+          go true i (Bad m) e = refused-got e
+          go false i v e = refused-got e
+
+      string-sends :
+          (form : Form) (at r : ℕ) (book : Book) → Begun s at (tag.String form) → at < length s → stringItem s room form at r book ≡ got rows to book′
+          → Sends s at (firstText s room rows)
+      string-sends Regular at r book b h e =
+          let f = opened-got 5 at r _ e in
+          let g = contents-first content.Text (at + 5) (unsignedAt s (at + 1)) at r book (f .1) in
+          rw (g .1) (by-regular (whole (tag.String Regular) at b h (f .0) (g .0)))
+      string-sends Recorded at r book b h e =
+          let f = opened-got 6 at r _ e in
+          let g =
+          contents-first content.Text (at + 6) (unsignedAt s (at + 2)) at r (record-text book (byteAt s (at + 1)) (at + 6) (unsignedAt s (at + 2))) (f .1) in
+          rw (g .1) (by-recorded (whole (tag.String Recorded) at b h (f .0) (g .0)))
+      string-sends Recalled at r book b h e =
+          let f = opened-got 2 at r _ e in
+          go (book (byteAt s (at + 1))) (whole (tag.String Recalled) at b h (f .0) (omega (arith, f .0))) (f .1)
+        where
+          go : (x : Entry) → Whole s at (tag.String Recalled) → recalledEntry s room x at r book ≡ got rows to book′ → Sends s at (firstText s room rows)
+          go Unset w e = refused-got e
+          go (Text o n) w e = rw (leaf-first (kindOf content.Text) o n r (at + 2) book e) (by-recalled o n w)
+
     -- a String, and one that is judged as soon as it is read
     if-string-tells : (t : Tag) (at r : ℕ) (book : Book) → Begun s at t → at < length s → Tells s (ifString s room t at r book)
     if-string-tells (tag.String form) at r book b h = string-item-tells form at r book b h
@@ -218,7 +270,7 @@ module _ (s : List ℕ) where
 
     string-by-tells :
         (rule : List ℕ → Verdict) (o at r : ℕ) (book : Book) → at ≤ length s
-        → ((t : List ℕ) (form : Form) → Begun s at (tag.String form) → (m : Refusal) → rule t ≡ Bad m → Stands s (numberOf m) o)
+        → ((t : List ℕ) → Sends s at t → (m : Refusal) → rule t ≡ Bad m → Stands s (numberOf m) o)
         → Tells s (stringBy s room rule o at r book)
     unfolding stringBy read-string
     string-by-tells rule o at r book h f = go (ltb at (length s)) refl (tagOf (byteAt s at)) refl
@@ -230,7 +282,8 @@ module _ (s : List ℕ) where
         go false e t i = says {m = Ended} (nothing {at = at} (omega (arith, h, ltb-false at (length s) e)))
         go true e (tag.String form) i =
             then-tells (string-item-tells form at r book i (ltb-true at (length s) e))
-            (λ rows to book′ g k. judged-tells (rule (firstText s room rows)) o (ends k) (f (firstText s room rows) form i))
+            (λ rows to book′ g k. judged-tells (rule (firstText s room rows)) o (ends k)
+            (f (firstText s room rows) (string-sends form at r book i (ltb-true at (length s) e) g)))
         go true e (tag.Plain x) i = says {m = UnexpectedByte} (unexpected (ltb-true at (length s) e))
         go true e tag.Array i = says {m = UnexpectedByte} (unexpected (ltb-true at (length s) e))
         go true e tag.Struct i = says {m = UnexpectedByte} (unexpected (ltb-true at (length s) e))
@@ -282,7 +335,7 @@ module _ (s : List ℕ) where
     unfolding key
     key-tells seen at r book h =
         string-by-tells (keyRule seen) at at r book h
-        (λ t form b m e. let i = key-is seen t e in rw (← i) (repeated-key {form = form} b))
+        (λ t b m e. let i = key-is seen t e in rw (← i) (repeated-key b))
 
     member-tells :
         {f : Reader} → ((at r : ℕ) (book : Book) → at ≤ length s → Tells s (f at r book)) → (seen : Texts) (at r : ℕ) (book : Book) → at ≤ length s
@@ -319,7 +372,7 @@ module _ (s : List ℕ) where
         opened-tells 1 at r h (fields-end (tag.Plain plain.Other) at b h)
         (λ j. over-tells 12 2 r
         (pair-tells (name s room at) (only s room (code "B") (longItem s room content.Binary)) (at + 1) (r + 1) book
-        (string-by-tells nameRule at (at + 1) (r + 1) book j (λ t form c m e. let i = name-is t e in rw (← i) (standard b)))
+        (string-by-tells nameRule at (at + 1) (r + 1) book j (λ t c m e. let i = name-is t e in rw (← i) (standard b c (not-fine e))))
         (λ to r′ book′ k. only-tells (code "B") (longItem s room content.Binary) to r′ book′ k
         (λ e l. binary-tells to r′ book′ (ap tagOf e ∙ tag-binary) l))))
 
