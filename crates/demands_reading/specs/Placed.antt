@@ -40,11 +40,13 @@ longText s at = part s (at + 5) (unsignedAt s (at + 1))
 abbrev pub recordedText : List ℕ → ℕ → List ℕ
 recordedText s at = part s (at + 6) (unsignedAt s (at + 2))
 
--- the text of a String that stands whole at a place: sent there, or, recalled, the bytes of some part of the message
+-- the text of a String that stands whole at a place: sent there, or, recalled, that of a String recorded before it with its position
 pub data Sends (s : List ℕ) (at : ℕ) : List ℕ → Type 0 where
   by-regular : Whole s at (tag.String Regular) → Sends s at (longText s at)
   by-recorded : Whole s at (tag.String Recorded) → Sends s at (recordedText s at)
-  by-recalled : (o n : ℕ) → Whole s at (tag.String Recalled) → Sends s at (part s o n)
+  by-recalled :
+      (q : ℕ) → Whole s at (tag.String Recalled) → Whole s q (tag.String Recorded) → q < at → byteAt s (q + 1) ≡ byteAt s (at + 1)
+      → Sends s at (recordedText s q)
 
 pub data Stands (s : List ℕ) : ℕ → ℕ → Type 0 where
   -- 1: fewer than 12 bytes; nothing, at the end of the bytes; or an item whose fields or content end behind the bytes
