@@ -140,7 +140,8 @@ pub record Refusals : Type 0 where
       (limit : ℕ) (s : List ℕ) (words : ℕ) {T : List ℕ} {m : Refusal} {place : ℕ} → Answers (reading limit s words) words T (read.Refused m place)
       → numberOf m ≢ 10 → numberOf m ≢ 23 → Stands s (numberOf m) place
   -- 'Within an item: 1 if no byte is there; 3; 8; 9; 1 for its fixed fields; 1 for its content; then 5 or 6.': wherever a Value is looked for,
-  -- by the tag of its first byte; that 5 and 6 come last is `placed`: the fields and the content of their items do not end behind the bytes
+  -- by the tag of its first byte, with 6 exactly for a recall whose position holds nothing; that 5 and 6 come last is `placed`: the fields and the content
+  -- of their items do not end behind the bytes
   pub within-item :
       (s : List ℕ) (room deep at r : ℕ) (book : Book) (t : Tag) → Begun s at t → Ordered s room deep at r book t
   -- 'Writer's order: 10, 11, 12, 13.' (02, E11: 23 before them)
