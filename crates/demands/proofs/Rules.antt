@@ -10,6 +10,7 @@ use Rattle.demands_reading.proofs.Answering as answering
 use Rattle.demands_reading.proofs.Ordered.{ordered}
 use Rattle.demands_reading.proofs.Cases.{cases-read}
 use Rattle.demands_writing.proofs.Accepting as accepting
+use Rattle.demands_writing.proofs.Positions.{position-at, earlier-smaller}
 use Rattle.demands_writing.proofs.Writing as writing-laws
 use Rattle.demands_writing.proofs.Writer as output
 use Rattle.demands.specs.Rules.{Reading, Refusals, Writing, Rules}
@@ -59,6 +60,9 @@ of-writing : Writing
 of-writing = record {
   repeated-twice = writing-laws.repeated-texts;
   positions = writing-laws.positions;
+  kept-first = λ ts. refl;
+  from-zero = λ ts. position-at 256 [] ts;
+  in-order = λ ts before t u after e. rw (← e) at (earlier-smaller t u after 256 [] before);
   forms = λ before t after. record {
     first-time = λ e f. writing-laws.sent-in before t after (regular []) ∙ rw (e, f);
     from-then-on = λ e f. writing-laws.sent-in before t after (regular []) ∙ rw (e, f);

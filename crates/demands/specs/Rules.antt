@@ -140,7 +140,8 @@ pub record Refusals : Type 0 where
       (limit : ℕ) (s : List ℕ) (words : ℕ) {T : List ℕ} {m : Refusal} {place : ℕ} → Answers (reading limit s words) words T (read.Refused m place)
       → numberOf m ≢ 10 → numberOf m ≢ 23 → Stands s (numberOf m) place
   -- 'Within an item: 1 if no byte is there; 3; 8; 9; 1 for its fixed fields; 1 for its content; then 5 or 6.': wherever a Value is looked for,
-  -- by the tag of its first byte; that 5 and 6 come last is `placed`: the fields and the content of their items do not end behind the bytes
+  -- by the tag of its first byte, with 6 exactly for a recall whose position holds nothing; that 5 and 6 come last is `placed`: the fields and the content
+  -- of their items do not end behind the bytes
   pub within-item :
       (s : List ℕ) (room deep at r : ℕ) (book : Book) (t : Tag) → Begun s at t → Ordered s room deep at r book t
   -- 'Writer's order: 10, 11, 12, 13.' (02, E11: 23 before them)
@@ -180,6 +181,12 @@ pub record Writing : Type 0 where
   -- 'The texts that occur at least twice get positions 0, 1, 2 .. in order of first occurrence, 256 at most.'
   pub repeated-twice : (u : Text) (ts : List Text) → times u (repeated ts) ≡ bit (leb 2 (times u ts))
   pub positions : (ts : List Text) → (length (kept ts) ≤ 256) × ((t : Text) → among (kept ts) t ≡ true → position (kept ts) t < 256)
+  -- the first 256 have one; the text at i has i; and of two, the one that occurs first has one if the other has, and the smaller
+  pub kept-first : (ts : List Text) → kept ts ≡ take 256 (repeated ts)
+  pub from-zero : (ts : List Text) (i : ℕ) → i < length (kept ts) → position (kept ts) (getD (kept ts) i []) ≡ i
+  pub in-order :
+      (ts before : List Text) (t u : Text) (after : List Text) → ts ≡ before ++ (t ∷ after) → among (kept ts) t ≡ true → among (repeated ts) u ≡ true
+      → among before t ≡ false → among before u ≡ true → (among (kept ts) u ≡ true) × (position (kept ts) u < position (kept ts) t)
   -- 'Each of them is `>` the first time and `<` from then on. Every other string is `U` each time.': the string t, in row order behind others, as the written
   -- form sends it (`written` is the message that sends its strings as `plan` says)
   pub forms : (before : List Text) (t : Text) (after : List Text) → Forms before t (before ++ (t ∷ after))

@@ -1,24 +1,28 @@
 -- The tests within an item come in their order: each item opens with its fixed fields, and its content is looked at behind them. Assumes nothing.
-use mathlib.Core.Path.{_≡_, refl, _∙_}
+use mathlib.Core.Path.{_≡_, refl, sym, ap, _∙_}
 use mathlib.Core.List.{List}
 use Prim.Native.Nat.{ℕ, zero, suc, _+_, _≤_, _<_}
 use native.Mathlib.Omega.{arith}
 use lib.ListN.{length}
 use borrow.Author.Tests.{lt-ltb, le-ltb, le-leb, lt-leb}
-use Rattle.draft.specs.declared.Refusal.the-variants.{Ended, UnexpectedByte, TooDeep, NoRow}
+use Rattle.draft.specs.declared.Refusal.{Refusal}
+use Rattle.draft.specs.declared.Refusal.the-variants.{Ended, UnexpectedByte, UnsetPosition, TooDeep, NoRow}
 use Rattle.draft.specs.declared.Content.{Content}
 use Rattle.draft.specs.declared.Content.the-variants as content
 use Rattle.draft.specs.declared.Tag.{Tag}
 use Rattle.draft.specs.declared.Tag.the-variants as tag
 use Rattle.draft.specs.declared.Plain.the-variants as plain
 use Rattle.draft.specs.declared.Form.the-variants.{Regular, Recorded, Recalled}
+use Rattle.draft.specs.declared.Entry.{Entry}
+use Rattle.draft.specs.declared.Entry.the-variants.{Unset, Text}
 use Rattle.draft.specs.Bytes.{byteAt, unsignedAt, part}
 use Rattle.draft.specs.Rows.{kindOf}
 use Rattle.draft.specs.Content.{contentRule, verdict}
 use Rattle.draft.specs.Codebook.{Book}
-use Rattle.draft.specs.Read.{Reading, refused, judged, leaf, opened, contents as read-contents, item, value, nested}
+use Rattle.draft.specs.Read.{Reading, refused, judged, leaf, opened, contents as read-contents, recalled as recalledEntry, item, value, nested}
 use Rattle.wanting.specs.Want.{fieldsOf, announced}
 use Rattle.exact.proofs.Completing.{value-is}
+use Rattle.exact.proofs.Deriving.{refused-got}
 use Rattle.demands_reading.specs.Placed.{Begun, shortText}
 use Rattle.demands_reading.specs.Ordered.{Nesting, Allowed, Ordered}
 
@@ -97,6 +101,16 @@ module _ (s : List ℕ) (room : ℕ) where
           fields-there : at + fieldsOf t ≤ length s → value s room deep at r book ≡ view .rest
           fields-there j = by-item ∙ view .is ∙ rw (lt-ltb r room k, le-leb (at + fieldsOf t) (length s) j)
 
+    -- a recall that is there, by what its position holds
+    recall-there :
+        Begun s at (tag.String Recalled) → r < room → at + 2 ≤ length s
+        → value s room deep at r book ≡ recalledEntry s room (book (byteAt s (at + 1))) at r book
+    recall-there b k j = by-item (tag.String Recalled) b (omega (arith, j)) ∙ rw (lt-ltb r room k, le-leb (at + 2) (length s) j)
+
+    unset-only : (x : Entry) {m : Refusal} → recalledEntry s room x at r book ≡ refused m at → x ≡ Unset
+    unset-only Unset e = refl
+    unset-only (Text o n) e = refused-got (sym e)
+
     -- WITHIN AN ITEM, of whatever tag.
     pub ordered : (t : Tag) → Begun s at t → Ordered s room deep at r book t
     ordered t b = record {
@@ -106,6 +120,11 @@ module _ (s : List ℕ) (room : ℕ) where
       nine = λ h a k. record { why = NoRow; is = row-first t b h a k; numbered = refl };
       fields = λ h a k j. record { why = Ended; is = fields-cut t b h a k j; numbered = refl };
       content = λ h a k j l. record { why = Ended; is = fields-there t b h a k j ∙ view t b h a .cut j l; numbered = refl };
+      six = λ e k j.
+          let i = recall-there (b ∙ e) k j in (
+            λ h. unset-only (book (byteAt s (at + 1))) (sym i ∙ h .is),
+            λ u. record { why = UnsetPosition; is = i ∙ ap (λ (x : Entry). recalledEntry s room x at r book) u; numbered = refl },
+          );
     }
 
     -- a Double or a DateTime that is there is judged by its content's rule

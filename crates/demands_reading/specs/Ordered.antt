@@ -1,11 +1,15 @@
 -- The tests within an item, in their order: what is said of an item of a tag, where a Value is looked for. Assumes nothing.
 use mathlib.Core.Path.{_≡_}
+use mathlib.Core.Logic.{_↔_}
 use mathlib.Core.List.{List}
 use Prim.Native.Nat.{ℕ, _+_, _≤_, _<_}
 use lib.ListN.{length}
 use Rattle.draft.specs.declared.Refusal.{Refusal}
 use Rattle.draft.specs.declared.Tag.{Tag}
 use Rattle.draft.specs.declared.Tag.the-variants as tag
+use Rattle.draft.specs.declared.Form.the-variants.{Recalled}
+use Rattle.draft.specs.declared.Entry.the-variants.{Unset}
+use Rattle.draft.specs.Bytes.{byteAt}
 use Rattle.draft.specs.Refusals.{numberOf}
 use Rattle.draft.specs.Codebook.{Book}
 use Rattle.draft.specs.Read.{Reading, refused, value}
@@ -43,3 +47,5 @@ pub record Ordered (s : List ℕ) (room deep at r : ℕ) (book : Book) (t : Tag)
   pub content :
       at < length s → Allowed t deep → r < room → at + fieldsOf t ≤ length s → length s < at + fieldsOf t + announced s at t
       → Refuses (value s room deep at r book) 1 at
+  -- 6 of a recall exactly if its position holds nothing in the codebook there
+  pub six : t ≡ tag.String Recalled → r < room → at + 2 ≤ length s → Refuses (value s room deep at r book) 6 at ↔ (book (byteAt s (at + 1)) ≡ Unset)
