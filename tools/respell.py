@@ -23,8 +23,9 @@ DECLARED = re.compile(
 GENERATED = re.compile(r"(?:invariant|decreases|loop|returns|overflow|bounds|the)-")
 # Words that definitions have already, which a lemma does not get.
 DEFINED = set()
+OURS = set(os.listdir(os.path.join(ROOT, "crates")))
 # Types whose names began with a small letter.
-TYPES = {"advances": "Advances", "within": "Within"}
+TYPES = {"advances": "AdvancesBy", "within": "WithinBy"}
 TYPES_IN = "crates/console/"
 # Two definitions that would fall together, and lemmas that port.py gave the name that a definition now gets.
 APART = {"textAt": "numbered_text"}
@@ -117,6 +118,16 @@ def table():
     return rows
 
 
+def imported(text):
+    """The names that a file imports from a library, which keep the library's spelling there."""
+    found = set()
+    for m in re.finditer(r"(?:^|\n)(?:ghost )?use ([^\s{;]+)\.\{([^}]*)\}", text):
+        steps = m[1].split(".")
+        if steps[0] != "Rattle" or steps[1] not in OURS:
+            found.update(WORD.findall(m[2]))
+    return found
+
+
 def turn(text, rows):
     lines = text.split("\n")
     for i, line in enumerate(lines):
@@ -124,7 +135,9 @@ def turn(text, rows):
         m = re.search(r"(?:^|(?<=\s))--(?=\s|$)", line)
         if m:
             code, dashes, comment = line[: m.start()], "--", line[m.end():]
-        code = WORD.sub(lambda w: rows.get(w[0], w[0]), code)
+        # What stands between quotes stays.
+        parts = re.split(r'("(?:[^"\\]|\\.)*")', code)
+        code = "".join(p if p.startswith('"') else WORD.sub(lambda w: rows.get(w[0], w[0]), p) for p in parts)
         # In a comment a word with a dash may be English.
         comment = WORD.sub(lambda w: rows.get(w[0], w[0]) if "-" not in w[0] else w[0], comment)
         lines[i] = code + dashes + comment
@@ -136,7 +149,8 @@ def main():
     n = 0
     for path in files((".antt", ".rt")):
         old = read(path)
-        mine = dict(rows)
+        kept = imported(old)
+        mine = {k: v for k, v in rows.items() if k not in kept}
         if TYPES_IN in path:
             mine.update(TYPES)
         for name, crates in LEMMAS_IN.items():

@@ -1,4 +1,6 @@
 // Bytes below 128: whether one is, and whether all are. Assumes nothing.
+#![tactic(auto)]
+
 ghost use Rattle.std.specs.Prelude.{◌≡◌, ltb};
 ghost use Rattle.text.specs.Texts.{ascii};
 

@@ -1,5 +1,7 @@
 // What of a row's content has to be looked at: whether its length goes into its field, whether its bytes were checked before, and whether
 // there is a rule for them. Assumes nothing.
+#![tactic(auto)]
+
 ghost use Rattle.std.specs.Prelude.{◌≡◌};
 ghost use Rattle.draft.specs.Writable.{sized as sizedBy};
 ghost use Rattle.asked.specs.Contents.{is_binary, checked_before};

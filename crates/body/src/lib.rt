@@ -1,4 +1,6 @@
 // What follows the 12 bytes with which every message begins, read with an empty codebook.
+#![tactic(auto)]
+
 ghost use Rattle.std.specs.Prelude.{◌≡◌, ◌≤◌, length, replicate};
 ghost use Rattle.draft.specs.Read.{call_or_response};
 ghost use Rattle.draft.specs.Codebook.{clear};

@@ -1,4 +1,4 @@
--- What answers the needs of the functions that fetch and compare texts. Assumes nothing.
+-- What answers the goals of the functions that fetch and compare texts. Assumes nothing.
 use Prim.Native.Nat.{ℕ, ◌≤◌, ◌<◌}
 use mathlib.Core.Path.{◌≡◌, refl, sym, ◌∙◌}
 use mathlib.Core.Bool.{Bool, true}

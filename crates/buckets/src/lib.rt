@@ -1,6 +1,8 @@
 // The first string of each text, found by buckets: the strings that are the first of their text are chained by bucket, and a text is
 // compared with those on its bucket's chain alone.
 // Strings are numbered in row order; of string j a lent word has the row.
+#![tactic(auto)]
+
 ghost use Rattle.std.specs.Prelude.{◌≡◌, ◌+◌, ◌≤◌, ◌<◌, length};
 ghost use Rattle.text.specs.Texts.{same};
 ghost use Rattle.draft.specs.Table.{row_at};

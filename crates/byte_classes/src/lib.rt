@@ -1,5 +1,7 @@
 // The classes of bytes, as specs/Classes.antt of `text` has them, and the class of each byte value, in a table that the program
 // `classes` prints. Assumes nothing.
+#![tactic(auto)]
+
 ghost use Rattle.std.specs.Prelude.{◌≡◌};
 ghost use Rattle.text.specs.Classes.{class_of, class_table};
 

@@ -1,6 +1,8 @@
 // Reading a Call: its method, a String, and its Array.
 // Assumes that the place is in the message, the rows fit the table, the codebook has its 256 words and the notes on keys are blank, with an
 // entry for each row.
+#![tactic(auto)]
+
 ghost use Rattle.std.specs.Prelude.{◌≡◌, ◌+◌, ◌<◌, length, replicate};
 ghost use Rattle.draft.specs.Read.{pair, string, only, array_item, nested, call_item};
 ghost use Rattle.codebook.specs.Words.{book_of};

@@ -1,4 +1,6 @@
 // Where in a job file a card lies: records are stepped over one after the other until the card asked for, or the end.
+#![tactic(auto)]
+
 ghost use Rattle.std.specs.Prelude.{◌≡◌, ◌≤◌, drop};
 ghost use Rattle.records.specs.Job.{find as findFrom, body_of};
 

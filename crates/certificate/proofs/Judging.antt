@@ -14,7 +14,7 @@ use Rattle.text.specs.Texts.{same, among}
 use Rattle.text.proofs.Comparing.{clash, both, same_is, same_self}
 use Rattle.draft.specs.declared.Row.{Row}
 use Rattle.draft.specs.Table.{room_of, row_at, from}
-use Rattle.draft.specs.Grammar.{Sent, recorded, Recording, text_at, look, after}
+use Rattle.draft.specs.Grammar.{Sent, Recording, text_at, look, after}
 use Rattle.draft.specs.Strings.{Text, cost, costs}
 use Rattle.draft.specs.Writable.{writable, writable_within}
 use Rattle.draft.specs.Written.{rows_of}
@@ -23,7 +23,6 @@ use Rattle.texts.specs.Contract.{new_cost, news, Scanned}
 use Rattle.sending.specs.Contract.{Collected}
 use Rattle.plans.specs.Plans.{form_at, position_at, sent_by, sent_at, sents_from, valued, holds_text, may_send, taken_from, taken}
 use Rattle.plans.proofs.Judging.{from_length, taken_long}
-use Rattle.prices.specs.Prices.{bound}
 use Rattle.prices.specs.Contract.{Priced}
 use Rattle.certificate.specs.Certificate.{proving, certified_texts, certified}
 use Rattle.certificate.specs.Contract.{Heads, Reaches, Judged}
@@ -74,7 +73,7 @@ news_from plan R j seen (t ∷ ts) s e =
     let h = both (valued (form_at plan j) (position_at plan j)) _ e in
     let i = both (may_send R (sent_by (form_at plan j) (position_at plan j) t)) _ h.1 in
     let k = step (form_at plan j) (position_at plan j) t s i.0 in
-    omega (arith, k.pays, news_from plan _ (suc j) (t ∷ seen) ts k.on i.1)
+    omega (arith, k.pays, news_from plan (after R (sent_by (form_at plan j) (position_at plan j) t ∷ [])) (suc j) (t ∷ seen) ts k.on i.1)
 
 news_taken : (plan : List ℕ) (ts : List Text) → taken plan ts ≡ true → news [] ts ≤ costs (sents_from plan 0 ts)
 unfolding taken

@@ -1,4 +1,6 @@
 // Whether a plan and prices prove that no message with a table's meaning is shorter than the plan's. Any table, plan and prices may be given.
+#![tactic(auto)]
+
 ghost use Rattle.std.specs.Prelude.{◌≡◌, ◌≤◌, length};
 ghost use Rattle.draft.specs.Table.{row_at, from};
 ghost use Rattle.extents.specs.Asked.{Ready};

@@ -1,5 +1,7 @@
 // The character at a place: how many bytes it has, by the class of its first byte and what follows. Assumes that the table of classes
 // is lent, as `byte_classes` has it.
+#![tactic(auto)]
+
 ghost use Rattle.std.specs.Prelude.{◌≡◌, cond, [], ◌∷◌, ◌<◌, length, drop};
 ghost use Rattle.text.specs.Utf8.{begins, width};
 ghost use Rattle.text.specs.Classes.{class_table, classes, tails, UpToTails};

@@ -30,7 +30,7 @@ preferred Absent other = of_defaults other
 
 -- where byte o of a lent slice lies: its block, and the offset there
 abbrev pub byte_of : Bor (List ℕ) → ℕ → ℕ × ℕ
-byte_of s o = (s.ptr.0, o + s.ptr.1)
+byte_of s o = (s.ref_ptr.0, o + s.ref_ptr.1)
 
 -- the n bytes at o of a lent slice; what reaches past its end is cut off there
 pub record PartOf (s : Bor (List ℕ)) (o n : ℕ) (part : Bor (List ℕ)) : Type 0 where

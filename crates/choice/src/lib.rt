@@ -1,5 +1,7 @@
 // Which text is handed out, a card's or behind it the defaults', and that text as a part of one of two lent slices. What each has under the key is given;
 // any values may be, and where a text would reach past its bytes the part is cut at their end.
+#![tactic(auto)]
+
 ghost use Rattle.std.specs.Prelude.{◌≡◌};
 ghost use Rattle.choice.specs.Choosing.{number_of, of_defaults, preferred, PartOf, Handed};
 

@@ -1,5 +1,7 @@
 // The codebook of one message, in 256 lent words, all zero when the message begins. It is laid out anew for each message, and small ones are
 // read in less time than more words take.
+#![tactic(auto)]
+
 ghost use Rattle.std.specs.Prelude.{◌≡◌, ◌≤◌, ◌<◌, length};
 ghost use Rattle.draft.specs.Codebook.{recorded};
 ghost use Rattle.codebook.specs.Words.{entry, book_of};

@@ -29,7 +29,7 @@ use Rattle.draft.specs.Strings.{Text}
 use Rattle.draft.specs.Content.{name_rule, key_rule}
 use Rattle.draft.specs.Table.{row_at}
 use Rattle.draft.specs.Read.{text_of}
-use Rattle.draft.specs.Writable.{Walk, floor, then, ruled, fit, closed, leaf, over, integer_item, content_item, only, string, string_by, pair, other_item, array_item, struct_item, item, items, alike, member, keeping, value, nested}
+use Rattle.draft.specs.Writable.{Walk, floor, then, ruled, closed, leaf, over, integer_item, content_item, only, string, string_by, pair, other_item, array_item, struct_item, item, items, alike, member, keeping, value, nested}
 use Rattle.keys.specs.Notes.{named, keys_of, Noted, Keeps, Joins}
 use Rattle.keys.proofs.Keeping.{keys_first, noted_move, keeps_none, keeps_then}
 use Rattle.row_ends.specs.Ends.{extent_of}

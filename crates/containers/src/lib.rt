@@ -2,6 +2,8 @@
 // `walk_contents` what one of them holds; they call one another in a cycle, in which `deep`, the nesting left, falls at each Array and
 // Struct. The keys of all Structs are noted in the lent words `notes`. Items that hold no others are walked in the loop, by the only call
 // of `walk_scalar`: a function of a cycle is never inlined, and one that is called once always is.
+#![tactic(auto)]
+
 ghost use Rattle.std.specs.Prelude.{◌≡◌, true, ◌+◌, ◌<◌, length};
 ghost use Rattle.draft.specs.Rows.{item_of};
 ghost use Rattle.draft.specs.Table.{row_at};

@@ -1,4 +1,6 @@
 // The rules for content, as the reader and the writer apply them: what they say of some bytes.
+#![tactic(auto)]
+
 ghost use Rattle.std.specs.Prelude.{◌≡◌};
 ghost use Rattle.text.specs.Texts.{ascii};
 ghost use Rattle.draft.specs.Bytes.{part as part_of};

@@ -1,4 +1,6 @@
 // A lent output cleared, and bytes copied to its front: the rest stays as it was.
+#![tactic(auto)]
+
 ghost use Rattle.std.specs.Prelude.{◌≡◌, ◌≤◌, length, replicate};
 ghost use Rattle.copying.specs.Contract.{Front};
 

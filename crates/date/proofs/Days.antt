@@ -1,6 +1,6 @@
 -- The months' days: the rule at each entry of the table, and what answers the returns of the functions that use it. Assumes nothing.
 use mathlib.Core.Path.{◌≡◌, refl, sym, ap, ◌∙◌}
-use mathlib.Core.Bool.{Bool, true, false, cond, ◌&&◌, ◌||◌, and_true}
+use mathlib.Core.Bool.{Bool, true, false, cond, ◌&&◌, ◌||◌, and-true}
 use mathlib.Core.List.{List, []}
 use Prim.Native.Nat.{ℕ, suc, ◌-◌, ◌≤◌, ◌<◌}
 use native.Mathlib.Omega.{arith}
@@ -53,7 +53,7 @@ module _ (year month d : ℕ) where
   module _ (h : 1 ≤ month) (l : month ≤ 12) where
     pub early_day : d ≤ 28 → leb 1 d ≡ is_day year month d
     unfolding is_day
-    early_day k = rw (le-leb _ _ h, le-leb _ _ l, le-leb d (month_days (leap year) month) (omega (arith, least (leap year) month))) (sym (and_true (leb 1 d)))
+    early_day k = rw (le-leb _ _ h, le-leb _ _ l, le-leb d (month_days (leap year) month) (omega (arith, least (leap year) month))) (sym (and-true (leb 1 d)))
 
     pub late_day : {n : ℕ} → 28 < d → n ≡ month_days (leap year) month → leb d n ≡ is_day year month d
     unfolding is_day

@@ -1,4 +1,6 @@
 // Whether bytes are a DateTime, as `19980717T14:08:55`, of a day that there is.
+#![tactic(auto)]
+
 ghost use Rattle.std.specs.Prelude.{◌≡◌, cond, ◌+◌, ◌≤◌, ◌<◌, length};
 ghost use Rattle.lexical.specs.Digits.{pair, two};
 ghost use Rattle.lexical.specs.DateTime.{leap, month_days, is_day, is_date, pair_to, is_time, parted, is_date_time};

@@ -1,4 +1,6 @@
 // A decimal: its digits as a whole number, divided once by a power of ten, then negated if the sign is minus.
+#![tactic(auto)]
+
 ghost use Rattle.std.specs.Prelude.{◌≡◌, true, ◌-◌, ◌^◌, ◌≤◌, ◌<◌, drop};
 ghost use Rattle.lexical.specs.Digits.{digit, digit_value};
 ghost use Rattle.decimal.specs.Digits.{nonzero, digits_of, Counting, places as places_of, negative};

@@ -1,5 +1,7 @@
 // Job defaults behind a card: a text asked for by key is the card's if the card's Struct has the key, otherwise the defaults'. Any two tables may be
 // given, each with its stated rows, its text bytes and a Struct's row; both are judged in every call.
+#![tactic(auto)]
+
 ghost use Rattle.std.specs.Prelude.{◌≡◌, ◌*◌, ◌≤◌, ◌<◌, length};
 ghost use Rattle.draft.specs.Table.{row_at};
 ghost use Rattle.choice.specs.Choosing.{Handed};

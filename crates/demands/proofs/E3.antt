@@ -1,4 +1,4 @@
--- E3 holds: both checks promise `wellFormed`, which is RFC 3629's syntax. Assumes nothing.
+-- E3 holds: both checks promise `well_formed`, which is RFC 3629's syntax. Assumes nothing.
 use mathlib.Core.Path.{sym, ◌∙◌}
 use Rattle.text.proofs.Grammar.{accepted, derived}
 use Rattle.demands.specs.E3.{E3}

@@ -1,7 +1,7 @@
 -- Request E10, stations four and five on one table: each sentence a field, over the promises of the calls for a station. `ReadFor limit s station split T T'
 -- a` is that of `station_reading::read`, of a message s into a table T that is split at a row and is T' after the call; `CardFor` that of `read_card`;
 -- `NextFor` and `EndFor` those of `station_pieces::next` and `end`, with a room R that is R'; `WroteFor` that of `station_tables::write`, `planned.WroteFor`
--- that of `station_plans::write`; `lookup` and `position_of` equate their answer with `onShare`. `Called station split T T' q a` is any of the first four,
+-- that of `station_plans::write`; `lookup` and `position_of` equate their answer with `on_share`. `Called station split T T' q a` is any of the first four,
 -- asked q and told a. None has a `requires`. Assumes nothing.
 use Rattle.std.specs.Prelude.{◌≡◌, true, false, ◌↔◌, List, [], ◌∷◌, ℕ, ◌+◌, ◌*◌, ◌/◌, ◌≤◌, ◌<◌, pos, length, take, drop}
 use Rattle.draft.specs.Limits.{allowed}
@@ -155,7 +155,7 @@ pub record E10 : Type 0 where
       × (write_report_of write.NotSplit ≡ record { number = 22; length = 0; place = 0 })
       × (planned.report_of plan.NotSplit ≡ record { number = 22; length = 0; place = 0 })
       × (lookup_report_of lookup.NotSplit ≡ lookedUp 22 0 (pos 0) plus_zero 0 0) × (position_values place.NotSplit ≡ at plus_zero plus_zero plus_zero)
-  -- 'then nothing lent is changed, in place of demand 1's zeros.' After a piece `notSplit` has the room as it was; of what is written both sentences
+  -- 'then nothing lent is changed, in place of demand 1's zeros.' After a piece `not_split` has the room as it was; of what is written both sentences
   pub nothing_changed :
       {station : Station} {split : ℕ} {T T' : List ℕ} {q : Asked} {a : Told} → Called station split T T' q a → call_number a ≡ 22
       → (T' ≡ T) × (a ≡ not_split q)

@@ -186,7 +186,7 @@ pub record E11 : Type 0 where
   -- 'No real card nests more than 5 deep.' Nothing is said of answers.
   -- 'Reader and writer take a limit of 1 to 32;'
   pub limits : (limit : ℕ) → (allowed limit ≡ true) ↔ ((1 ≤ limit) × (limit ≤ 32))
-  -- 'calls that state none now get 8.' They are the exports of binmode/src/usual.rt, whose contracts are those of the calls that state a limit, with 8.
+  -- 'calls that state none now get 8.' They are the functions of binmode/src/usual.rt, which binmode_c exports and whose contracts are those of the calls that state a limit, with 8.
   -- 'The listing and the job file reader state 32;' the listing in listings/specs/Listing.Lists, whose contract is `reading 32`
   pub job_states :
       (s : List ℕ) (words start size : ℕ) {T : List ℕ} {a : Card} → Reads s words (found.Body start size) T a

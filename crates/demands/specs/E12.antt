@@ -1,7 +1,7 @@
 -- Request E12, rows kept as columns: each sentence a field, over the promises of the calls that leave a table and the definitions that those which are lent
 -- one are equated with. `Kept words rows T` is a table of so many words that has these rows as columns, zeros in all other words, and the rows of the table
 -- before the request. `SameRows by_rows place T₀ T` ties a table T₀ of the layout before to a table T of columns: as long, with the same rows as far as there
--- is room, and with the same words behind them; `writeBy`, `lookupBy` .. are the definitions by any layout, of crate layouts. Assumes nothing.
+-- is room, and with the same words behind them; `write_by`, `lookup_by` .. are the definitions by any layout, of crate layouts. Assumes nothing.
 use Rattle.std.specs.Prelude.{◌≡◌, true, List, ◌∷◌, ℕ, ◌+◌, ◌*◌, ◌≤◌, ◌<◌, length, get_or, take, drop}
 use Rattle.draft.specs.Bytes.{Below}
 use Rattle.draft.specs.Limits.{allowed}

@@ -56,7 +56,7 @@ pub record Reads (e : Edition) (limit : ℕ) (s : List ℕ) (words : ℕ) (T : L
   -- edition's grammar derives it within the limits, and the rows mean what is derived;
   pub taken : {used : ℕ} {t : Tree} → Allowed limit s → Root e limit s used t → length (cells t) ≤ room_of 4096 words → a ≡ Accepted (length (cells t)) used
   pub means : {n used : ℕ} → a ≡ Accepted n used → Derived e limit s (room_of 4096 words) (rows_at (room_of 4096 words) T 0 n) used
-  -- '`u;` and `b;` have the offset of their `;`': at that offset, as behind every unicode and bytearray, a `;` stands. That it is their own: `cases-read`.
+  -- '`u;` and `b;` have the offset of their `;`': at that offset, as behind every unicode and bytearray, a `;` stands. That it is their own: `cases_read`.
   pub all_end : {n used : ℕ} → a ≡ Accepted n used → AllEnd s (rows_at (room_of 4096 words) T 0 n)
   -- 'other letters are 3.'
   pub other_letters : {x : ℕ} {rest : List ℕ} → s ≡ x ∷ rest → Allowed limit s → is_blank x ≡ false → has (letters_of e) x ≡ false → a ≡ Refused 3 0
@@ -185,7 +185,7 @@ pub record E14 : Type 0 where
   -- 'Refusals: 25 for an integer out of range; 3 also for a wrong byte inside an item (left to right, after 9), or one after the root that is no blank; 20 for
   -- a second equal key; 1 for a length past the end, however large; the rest as in 01, 5 and 25 after the item's `;`; all at the item's first byte, or,
   -- where an object or the `;` of one with children is due, at the byte there or the bytes' end; after the root, at that byte.' So are
-  -- `message` of crate glyph and `cases-read`. A refusal's number is true: `RefusedFor` has what it says of the message, and for 1, 3, 5, 20 and 25 of
+  -- `message` of crate glyph and `cases_read`. A refusal's number is true: `RefusedFor` has what it says of the message, and for 1, 3, 5, 20 and 25 of
   -- what stands at its place. Then the table is zeros.
   pub refused_true :
       (e : Edition) (limit : ℕ) (s : List ℕ) (words : ℕ) {T : List ℕ} {n p : ℕ} → Answers (reading e limit s words) words T (Refused n p)

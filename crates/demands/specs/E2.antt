@@ -45,7 +45,7 @@ pub record Refusals (s : List ℕ) (n : ℕ) (a : Answer) (place : ℕ) : Type 0
   pub sixteen : Reported a 16 place ↔ ((cards : ℕ) × EndAt s cards place × (cards ≤ n) × (Counts (drop place s) cards → ⊥))
   pub twenty_six : Reported a 26 place ↔ ((cards : ℕ) × EndAt s cards place × (cards ≤ n) × Counts (drop place s) cards)
 
--- 'a card keeps 01's own, places and offsets counted from its body' (`Cards.card-alone`: number and place are those of the body alone, and so are the
+-- 'a card keeps 01's own, places and offsets counted from its body' (`Cards.card_alone`: number and place are those of the body alone, and so are the
 -- offsets in its rows); 'acceptance also names the body's first byte in the file, a refusal 0.'
 -- Demand 1: 'After every call the whole lent table is settled by that call's material and the buffer's length; on a refusal it is all zeros.'
 pub record Told (s : List ℕ) (n words : ℕ) (T : List ℕ) (a : Answer) : Type 0 where

@@ -1,6 +1,6 @@
 -- E5: POSITIONS FOR THE LASER STATION (document 02), over what `lookup::lookup` and `position::position_of` answer: their `ensures` are `a ≡ lookup ..`
 -- and `p ≡ position ..`, for any table; neither has a `requires`. A source c is a table with its stated rows, its text bytes and the row named;
--- `looked c key` and `placed c` are the two answers there, `told` and `placedNumber c` their numbers: 0, or the refusal's. A table is words of 32
+-- `looked c key` and `placed c` are the two answers there, `told` and `placed_number c` their numbers: 0, or the refusal's. A table is words of 32
 -- bits. That the fields hold is proofs/E5. Assumes nothing.
 use Rattle.std.specs.Prelude.{◌≡◌, true, false, ◌↔◌, List, [], ◌∷◌, ◌++◌, ℕ, ◌^◌, ◌≤◌, ◌<◌, ℤ, pos, ◌-ℤ◌, length, Float}
 use Prim.Native.Char.{code}

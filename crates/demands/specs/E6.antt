@@ -81,10 +81,10 @@ module _ (S : Type 0) (start : S) (tells : S → Told) (Runs : RunsOver S) (End 
         {limit n : ℕ} {T T' : List ℕ} {s s' : S} → allowed limit ≡ true → n < 65536 → End limit s n T T' s'
         → (tells s' ≡ refusal 4 0) × (T' ≡ replicate (length T) 0)
 
--- `pieces::start`, `next` and `end`; and the exported calls: `binmode_pieces_start` leaves `words_of begun`, and what `toldBy` reads in the words (the
+-- `pieces::start`, `next` and `end`; and the exported calls: `binmode_pieces_start` leaves `words_of begun`, and what `told_by` reads in the words (the
 -- answer, the rows, the bytes used, the place) is what the caller reads there. `binmode_pieces_next` and `_end` have the limit 8, `_within` any
 pub record E6 : Type 0 where
-  -- 'would be refused with 1': what `refusedWithOne` tests
+  -- 'would be refused with 1': what `refused_with_one` tests
   pub with_one : (o : Reading) → (refused_with_one o ≡ true) ↔ ((place : ℕ) × (told_of o ≡ refusal 1 place))
   pub functions : InPieces State begun told Runs Closed
   pub exports : InPieces (List ℕ) (words_of begun) told_by Calls EndCall

@@ -1,6 +1,6 @@
 -- E8: AN INDEX OF MEMBERS (document 02), over what `binmode_index_fill` and `binmode_index_find` promise, neither with a `requires`. A source c is a table
 -- with its stated rows, its text bytes and the row named. `Fills c n answer es`: filling a list of n entries answered so and left the entries es.
--- `reportsOf ..`: the reports of the keys looked up through a list, each that of `lookedThrough c es key`; `looked c key` is E5's lookup, the search from
+-- `reports_of ..`: the reports of the keys looked up through a list, each that of `looked_through c es key`; `looked c key` is E5's lookup, the search from
 -- the front; `told` is an answer's number. A table is words of 32 bits. That the fields hold is proofs/E8. Assumes nothing.
 use Rattle.std.specs.Prelude.{◌≡◌, true, false, ◌↔◌, List, ℕ, ◌^◌, ◌≤◌, ◌<◌, length, get_or}
 use Rattle.draft.specs.Bytes.{Below}

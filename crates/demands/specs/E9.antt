@@ -1,6 +1,6 @@
 -- E9: JOB DEFAULTS BEHIND THE CARD (document 02), over what `defaults::choose` and `defaults::text_of` promise, neither with a `requires`. The card and the
 -- defaults are sources: a table with its stated rows, its text bytes and the row named. `chosen card defaults key` is whose text it is and where it lies,
--- or why there is none; `choiceNumber` its number, 0 or the refusal's. `Handed s d (chosen ..) r number from` is what `text_of` promises, of the lent
+-- or why there is none; `choice_number` its number, 0 or the refusal's. `Handed s d (chosen ..) r number from` is what `text_of` promises, of the lent
 -- slices s and d with the two texts' bytes, the part r, and the two numbers that it sets. A table is words of 32 bits. That the fields hold is proofs/E9.
 -- Assumes nothing.
 use Rattle.std.specs.Prelude.{◌≡◌, true, false, ◌&&◌, ◌↔◌, List, [], ℕ}
@@ -35,7 +35,7 @@ pub record E9 : Type 0 where
       (card defaults : Source) (key : List ℕ) (s d r : Bor (List ℕ)) (number from o n : ℕ) → Handed s d (chosen card defaults key) r number from
       → Below 4294967296 card.table → Below 4294967296 defaults.table → d.now ≡ defaults.text → chosen card defaults key ≡ Defaults o n
       → Lies d o n r × (number ≡ 0) × (from ≡ 1)
-  -- The same of `binmode_default_text`, which reports `textReportOf (chosen ..)`: a number, which of the two, and the text's offset and length there.
+  -- The same of `binmode_default_text`, which reports `text_report_of (chosen ..)`: a number, which of the two, and the text's offset and length there.
   pub card_report_lem :
       (card defaults : Source) (key : List ℕ) (o n : ℕ) → chosen card defaults key ≡ Card o n → text_report_of (chosen card defaults key) ≡ text_report 0 0 o n
   pub defaults_report :

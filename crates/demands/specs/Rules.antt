@@ -47,7 +47,7 @@ pub record Reading : Type 0 where
   -- 'The name in an Other may not be one of: `i4`, `int`, `boolean`, ..'
   pub other_name :
       (t : List ℕ) → (name_rule t ≡ Fine)
-      ↔ (among (bytes "i4" ∷ bytes "int" ∷ bytes "boolean" ∷ bytes "string" ∷ bytes "double" ∷ bytes "date_time.iso8601" ∷ bytes "base64" ∷ bytes "struct"
+      ↔ (among (bytes "i4" ∷ bytes "int" ∷ bytes "boolean" ∷ bytes "string" ∷ bytes "double" ∷ bytes "dateTime.iso8601" ∷ bytes "base64" ∷ bytes "struct"
       ∷ bytes "array" ∷ []) t ≡ false)
   -- 'Two tables, each with its own bytes, mean the same if ..': they do exactly if they mean the same cells
   pub mean_same : {s t : List ℕ} {xs ys : List Row} {cs ds : List Cell} → Realises s 0 xs cs → Realises t 0 ys ds → MeanSame s t xs ys ↔ (cs ≡ ds)

@@ -1,1 +1,2 @@
 // What is demanded, as pages of statements: see specs/. No function.
+#![tactic(auto)]

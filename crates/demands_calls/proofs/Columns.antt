@@ -1,6 +1,6 @@
 -- Request E12: a table is four columns, and every answer is as it was when a table was one row after the other. `SameRows by_rows place T₀ T` ties a table
--- T₀ of that layout to a table T of columns: as long, with the same rows as far as there is room, and with the same words behind them. `tableBy`, `writeBy`,
--- `lookupBy` .. are crate layouts' definitions with the layout as a parameter; by `place` they are those that the functions promise. Assumes nothing.
+-- T₀ of that layout to a table T of columns: as long, with the same rows as far as there is room, and with the same words behind them. `table_by`, `write_by`,
+-- `lookup_by` .. are crate layouts' definitions with the layout as a parameter; by `place` they are those that the functions promise. Assumes nothing.
 use mathlib.Core.Path.{◌≡◌, refl, sym, ap, ◌∙◌, fun_ext}
 use mathlib.Core.Bool.{true}
 use mathlib.Core.List.{List, [], ◌∷◌}

@@ -1,4 +1,4 @@
--- Document 02's index of members: what `binmode_index_fill` and `binmode_index_find` promise (`Filling.Filled`, `Through.reportsOf`) is an entry for each
+-- Document 02's index of members: what `binmode_index_fill` and `binmode_index_find` promise (`Filling.Filled`, `Through.reports_of`) is an entry for each
 -- member in byte order of the keys, and through it what E5's lookup gives; through any other list, that or 18. Assumes nothing.
 use mathlib.Core.Path.{◌≡◌, refl, sym, ap, ◌∙◌}
 use mathlib.Core.Bool.{Bool, true, false, cond, ◌||◌}

@@ -2,7 +2,7 @@
 -- `Did limit T rows s plan out₀ out a` is the promise of `plan_writer::write`, for a limit of nesting, a table T with so many stated rows, text bytes s, a plan, an output that
 -- is out₀ before the call and out after it, and the answer a; `certified T rows s plan prices` is what `certificate::proves` answers. Assumes nothing.
 use mathlib.Core.Path.{◌≡◌, refl, sym, ap, ◌∙◌}
-use mathlib.Core.Bool.{Bool, true, false, cond}
+use mathlib.Core.Bool.{Bool, true, false}
 use mathlib.Core.Logic.{◌↔◌}
 use mathlib.Core.List.{List, [], ◌∷◌, ◌++◌, append-nil}
 use Prim.Native.Nat.{ℕ, suc, ◌+◌, ◌*◌, ◌-◌, ◌≤◌, ◌<◌}
@@ -46,21 +46,7 @@ use Rattle.demands_reading.proofs.Reading.{complete, mean_same}
 use Rattle.text.proofs.Comparing.{clash}
 use Rattle.written.specs.Derivable.{HoldAlike}
 use Rattle.demands_reading.proofs.Settled.{accepted_read}
-use Rattle.demands_plans.specs.Plans.{
-  ReadAs,
-  Values,
-  Taken,
-  Chosen,
-  Ready,
-  AcceptedFor,
-  RefusedFor,
-  no_limit,
-  long_text_lem,
-  not_writable,
-  not_taken,
-  long_message,
-  short_output,
-}
+use Rattle.demands_plans.specs.Plans.{Taken, Chosen, Ready, AcceptedFor, RefusedFor, no_limit, long_text_lem, not_writable, not_taken, long_message, short_output}
 use Rattle.demands_writing.proofs.Rows.{writable_alike, by_words, by_columns}
 use Rattle.demands_writing.proofs.Writing.{ReadsBack, form_derived, shortest, one_form, read_rows, read_writable, read_short}
 

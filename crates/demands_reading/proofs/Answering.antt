@@ -6,9 +6,9 @@ use mathlib.Core.Logic.{◌≢◌}
 use mathlib.Core.List.{List, [], ◌∷◌, ◌++◌}
 use Prim.Native.Nat.{ℕ, ◌≤◌, ◌<◌}
 use native.Mathlib.Omega.{arith}
-use lib.Dec.{eqb, leb}
+use lib.Dec.{eqb}
 use lib.ListN.{length, length-append}
-use borrow.Author.Tests.{leb-false, lt-leb, le-leb, eqb-true, eqb-false}
+use borrow.Author.Tests.{lt-leb, le-leb, eqb-true, eqb-false}
 use Rattle.text.proofs.Comparing.{clash}
 use Rattle.draft.specs.declared.Refusal.{Refusal}
 use Rattle.draft.specs.declared.Refusal.TheVariants.{Ended, WrongPrefix, UnexpectedByte, BadText, UnsetPosition, StandardName, TooDeep, NoRow, TooLong, NotWritable, FormTooLong, OutputTooShort, BadFault, BadValue, RepeatedKey, NoLimit}
@@ -21,7 +21,7 @@ use Rattle.draft.specs.Grammar.{Cell, Begins}
 use Rattle.read_answer.specs.declared.Answer.{Answer}
 use Rattle.read_answer.specs.declared.Answer.TheVariants.{Accepted, Refused}
 use Rattle.read_answer.specs.Answers.{reading, answer_of, table_of, Answers, report_of}
-use Rattle.read_answer.proofs.Limited.{within, reading_within, reading_unlimited, got_within}
+use Rattle.read_answer.proofs.Limited.{reading_within, reading_unlimited, got_within}
 use Rattle.exact.proofs.Realising.{counts}
 use Rattle.exact.proofs.Growing.{OfReading, decided}
 use Rattle.exact.proofs.Concluding.{of_reading, underived, too_deep, too_many, within_is, WithinRefused, of_bytes, of_message, within_refused}

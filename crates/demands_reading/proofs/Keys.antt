@@ -2,11 +2,9 @@
 use mathlib.Core.Path.{◌≡◌, refl, sym, ap, ◌∙◌}
 use mathlib.Core.Bool.{Bool, true, false, ◌||◌}
 use mathlib.Core.List.{List, [], ◌∷◌, ◌++◌, append_assoc}
-use Prim.Native.Nat.{ℕ, zero, suc, ◌+◌, ◌≤◌, ◌<◌}
-use Prim.Native.Char.{code}
+use Prim.Native.Nat.{ℕ, zero, suc, ◌+◌, ◌<◌}
 use native.Mathlib.Omega.{arith}
 use native.Mathlib.Nat.{add-zero}
-use lib.Dec.{eqb}
 use lib.ListN.{length, length-append}
 use borrow.Author.Tests.{lt-ltb, le-leb}
 use Rattle.text.specs.Texts.{same, among}
@@ -15,9 +13,9 @@ use Rattle.draft.specs.declared.Content.TheVariants as content
 use Rattle.draft.specs.declared.Row.{Row}
 use Rattle.draft.specs.Bytes.{bytes}
 use Rattle.draft.specs.Codebook.{Book, clear}
-use Rattle.draft.specs.Read.{Reading, refused, Texts, items, tag_of, member, keeping, value, nested, call_or_response, agree, message}
+use Rattle.draft.specs.Read.{refused, Texts, items, tag_of, member, keeping, value, nested, call_or_response, agree, message}
 use Rattle.draft.specs.Grammar.{Cell, Sent, LSB, String, Recording, after, Legal}
-use Rattle.exact.proofs.Standing.{Here, front, back, four}
+use Rattle.exact.proofs.Standing.{Here, front, back}
 use Rattle.exact.proofs.Replaying.{legal_front, legal_back, Agrees, agrees_clear}
 use Rattle.exact.proofs.Realising.{counts}
 use Rattle.exact.proofs.Completing.{value_is, string_read, first_text_lem, key_text_lem, member_read}

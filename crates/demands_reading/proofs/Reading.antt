@@ -5,9 +5,9 @@ use mathlib.Core.Bool.{Bool, true, false}
 use mathlib.Core.Logic.Iff
 use mathlib.Core.Logic.{◌↔◌, ◌≢◌}
 use mathlib.Core.List.{List, [], ◌∷◌, ◌++◌}
-use Prim.Native.Nat.{ℕ, suc, ◌+◌, ◌≤◌, ◌<◌}
+use Prim.Native.Nat.{ℕ, suc, ◌+◌, ◌≤◌}
 use native.Mathlib.Omega.{arith}
-use lib.ListN.{length, get_or}
+use lib.ListN.{length}
 use Rattle.text.specs.Rfc3629.{UTF8-octets}
 use Rattle.text.specs.Utf8.{well_formed}
 use Rattle.text.specs.Texts.{ascii, same, among, standard_name}
@@ -24,11 +24,11 @@ use Rattle.draft.specs.declared.Verdict.TheVariants.{Fine}
 use Rattle.draft.specs.declared.Content.TheVariants as content
 use Rattle.draft.specs.declared.Row.{Row}
 use Rattle.draft.specs.Bytes.{bytes}
-use Rattle.draft.specs.Content.{content_rule, ascii_then, bad_if, name_rule, key_rule, Held, string, integer, is_code, is_message, is_fault, fault_rule}
+use Rattle.draft.specs.Content.{content_rule, ascii_then, bad_if, name_rule, key_rule, Held, is_code, is_message, is_fault, fault_rule}
 use Rattle.draft.specs.Codebook.{Book}
 use Rattle.draft.specs.Table.{room_of}
 use Rattle.draft.specs.Read.{Reading, got, refused, Reader, behind, pair, string as readString, first_text, string_by, key, member, message, message_within}
-use Rattle.draft.specs.Grammar.{Cell, Sent, Keeps, Begins, Pairs, no_pairs, more_pairs, Pair}
+use Rattle.draft.specs.Grammar.{Cell, Sent, Keeps, Begins, Pairs, no_pairs, more_pairs}
 use Rattle.draft.specs.Meaning.{MeanSame, Realises}
 use Rattle.read_answer.specs.Answers.{reading}
 use Rattle.read_answer.proofs.Limited.{reading_within, reading_got, got_within}
@@ -161,7 +161,7 @@ bad_fine false m = (λ e. refl, λ e. refl)
 pub other_name :
     (t : List ℕ)
     → (name_rule t ≡ Fine)
-    ↔ (among (bytes "i4" ∷ bytes "int" ∷ bytes "boolean" ∷ bytes "string" ∷ bytes "double" ∷ bytes "date_time.iso8601" ∷ bytes "base64" ∷ bytes "struct"
+    ↔ (among (bytes "i4" ∷ bytes "int" ∷ bytes "boolean" ∷ bytes "string" ∷ bytes "double" ∷ bytes "dateTime.iso8601" ∷ bytes "base64" ∷ bytes "struct"
     ∷ bytes "array" ∷ []) t ≡ false)
 unfolding name_rule standard_name
 other_name t = bad_fine (standard_name t) StandardName

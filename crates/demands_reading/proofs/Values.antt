@@ -1,34 +1,29 @@
 -- Rows that mean what the draft derives: the text of a Double's or DateTime's row is such a text, and a fault's Struct holds its two members. And what a
 -- message says that has one of these wrong: 5, 17 and 14, at their places. Assumes nothing.
-use mathlib.Core.Path.{◌≡◌, refl, sym, ap, ◌∙◌}
+use mathlib.Core.Path.{◌≡◌, refl, sym, ◌∙◌}
 use mathlib.Core.Bool.{Bool, true, false}
 use mathlib.Core.List.{List, [], ◌∷◌, ◌++◌}
 use Prim.Native.Nat.{ℕ, zero, suc, ◌+◌, ◌-◌, ◌≤◌, ◌<◌}
 use Prim.Native.Char.{code}
 use native.Mathlib.Omega.{arith}
-use lib.Dec.{eqb, ltb, leb}
+use lib.Dec.{eqb}
 use lib.ListN.{length, length-append}
 use lib.Seq.{take-append_seam}
 use borrow.Author.Tests.{lt-ltb, le-leb, eqb-true, eqb-false}
-use Rattle.text.specs.Texts.{ascii}
-use Rattle.text.proofs.Comparing.{clash}
 use Rattle.lexical.specs.Grammar.{Double, DateTime}
-use Rattle.draft.specs.declared.Refusal.TheVariants.{BadText, BadFault, BadValue}
-use Rattle.draft.specs.declared.Verdict.{Verdict}
+use Rattle.draft.specs.declared.Refusal.TheVariants.{BadFault}
 use Rattle.draft.specs.declared.Verdict.TheVariants.{Fine, Bad}
 use Rattle.draft.specs.declared.Content.{Content}
 use Rattle.draft.specs.declared.Content.TheVariants as content
-use Rattle.draft.specs.declared.Tag.TheVariants as tag
-use Rattle.draft.specs.declared.Plain.TheVariants as plain
 use Rattle.draft.specs.declared.Row.{Row}
-use Rattle.draft.specs.Bytes.{bytes, byte_at, part}
+use Rattle.draft.specs.Bytes.{bytes}
 use Rattle.draft.specs.Rows.{below, kind_of}
-use Rattle.draft.specs.Content.{content_rule, fine_if, ascii_then, all_there, verdict, Held, is_fault, fault_rule}
+use Rattle.draft.specs.Content.{content_rule, fine_if, verdict, Held, is_fault, fault_rule}
 use Rattle.draft.specs.Codebook.{clear}
 use Rattle.draft.specs.Table.{from}
-use Rattle.draft.specs.Read.{Reading, got, refused, judged, over, leaf, text_of, held_rows, tag_of, item, short_item, contents as read-contents, value, nested, fault_struct, call_or_response, agree, message}
-use Rattle.draft.specs.Grammar.{Cell, cell, holding, number, contents, held_cells, Sent, Keeps, Message, call_message, response_message, Call, call, Response, value_response, fault_response, Fault, fault, Value, integer_value, boolean_value, double_value, datetime_value, binary_value, array_value, struct_value, string_value, other_value, integer, boolean_true, boolean_false, double, datetime, binary, Array, array, Values, no_values, more_values, Struct, struct, Pairs, no_pairs, more_pairs, Pair, pair, other, Legal, Derives}
-use Rattle.draft.specs.Meaning.{Means, says_holding, says_number, says_contents, means, Realises, no_more, and_then}
+use Rattle.draft.specs.Read.{refused, judged, over, leaf, text_of, held_rows, tag_of, item, short_item, contents as read-contents, nested, fault_struct, call_or_response, agree, message}
+use Rattle.draft.specs.Grammar.{Cell, cell, holding, number, contents, held_cells, Sent, Keeps, Message, call_message, response_message, call, value_response, fault_response, fault, Value, integer_value, boolean_value, double_value, datetime_value, binary_value, array_value, struct_value, string_value, other_value, double, datetime, Array, array, Values, no_values, more_values, Struct, struct, Pairs, no_pairs, more_pairs, Pair, pair, other, Legal, Derives}
+use Rattle.draft.specs.Meaning.{Means, says_holding, says_number, says_contents, means, Realises, and_then}
 use Rattle.exact.proofs.Standing.{Here}
 use Rattle.exact.proofs.Replaying.{agrees_clear}
 use Rattle.exact.proofs.Realising.{counts, held_same, held_below}

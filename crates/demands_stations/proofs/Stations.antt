@@ -70,7 +70,7 @@ module _ {station : Station} {split : ℕ} {T T' : List ℕ} {q : Asked} {a : To
   pub told_exactly : (call_number a ≡ 22) ↔ (splits split (length T) ≡ false)
   told_exactly = called_exactly c
 
-  -- Then nothing is changed: no word of the table; nor is the room, which `notSplit` has as it was.
+  -- Then nothing is changed: no word of the table; nor is the room, which `not_split` has as it was.
   pub nothing_changed : call_number a ≡ 22 → (T' ≡ T) × (a ≡ not_split q)
   nothing_changed e =
       let h = told_exactly.0 e in

@@ -1,4 +1,6 @@
 // Digits as bytes: whether a byte is one, and what it counts.
+#![tactic(auto)]
+
 ghost use Rattle.std.specs.Prelude.{◌≡◌, ◌<◌};
 ghost use Rattle.lexical.specs.Digits.{digit, digit_value};
 

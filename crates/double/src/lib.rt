@@ -1,4 +1,6 @@
 // Whether bytes are a Double: an optional sign, one digit or more, a point, one digit or more.
+#![tactic(auto)]
+
 ghost use Rattle.std.specs.Prelude.{◌≡◌, ◌+◌, drop};
 ghost use Rattle.lexical.specs.Double.{sign, is_double};
 ghost use Rattle.double.specs.Runs.{sign_length, leading};

@@ -1,4 +1,6 @@
 // The declared types that the definitions in specs/ cite.
+#![tactic(auto)]
+
 ghost use Rattle.std.specs.Prelude.{◌≡◌};
 ghost use Rattle.draft.specs.Refusals.{number_of, refusal_of};
 ghost use Rattle.draft.specs.Limits.{allowed as allowedBy};
@@ -10,7 +12,7 @@ pub const MOST_NESTING: usize = 32;
 pub const USUAL_NESTING: usize = 8;
 
 // Why a message or a table is refused, in the order of the papers' numbers.
-#[derive(Drop)]
+#[derive(Clone, Copy)]
 pub enum Refusal {
     Ended,
     WrongPrefix,
@@ -38,7 +40,7 @@ pub enum Verdict {
 }
 
 // The items whose rows name content bytes.
-#[derive(Drop)]
+#[derive(Clone, Copy)]
 pub enum Content {
     Double,
     DateTime,
@@ -84,7 +86,7 @@ pub enum Entry {
 }
 
 // A row of a table: four words.
-#[derive(Drop)]
+#[derive(Clone, Copy)]
 pub struct Row {
     pub kind: u32,
     pub a: u32,

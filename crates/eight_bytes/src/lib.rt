@@ -1,4 +1,6 @@
 // Eight bytes of a text into a lent output, with no loop.
+#![tactic(auto)]
+
 ghost use Rattle.std.specs.Prelude.{◌≡◌, ◌+◌, ◌≤◌, length};
 ghost use Rattle.eight_bytes.specs.Contract.{eight_at};
 

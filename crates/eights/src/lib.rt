@@ -1,4 +1,6 @@
 // Eight bytes looked at as one number, to see whether all are below 128. Assumes that eight bytes stand there.
+#![tactic(auto)]
+
 ghost use Rattle.std.specs.Prelude.{◌≡◌, ◌+◌, ◌*◌, ◌≤◌, ◌<◌, length, take, drop};
 ghost use Rattle.text.specs.Texts.{ascii};
 ghost use Rattle.text.specs.Runs.{number};

@@ -1,4 +1,6 @@
 // The items of rows that are no strings, one behind the other, put to the front of a lent output as far as they have at most so many bytes.
+#![tactic(auto)]
+
 ghost use Rattle.std.specs.Prelude.{◌≡◌, ◌≤◌, ◌<◌, length};
 ghost use Rattle.draft.specs.Table.{row_at};
 ghost use Rattle.extents.specs.Asked.{Ready};

@@ -20,13 +20,12 @@ use Rattle.draft.specs.declared.Tag.TheVariants as tag
 use Rattle.draft.specs.declared.Plain.TheVariants as plain
 use Rattle.draft.specs.declared.Form.{Form}
 use Rattle.draft.specs.declared.Form.TheVariants.{Regular, Recorded, Recalled}
-use Rattle.draft.specs.declared.Entry.TheVariants.{Text}
 use Rattle.draft.specs.Bytes.{byte_at, part}
 use Rattle.draft.specs.Rows.{row, below, kind_of}
 use Rattle.draft.specs.Content.{verdict, name_rule, key_rule, fault_rule}
 use Rattle.draft.specs.Codebook.{Book, clear, recorded as record-text}
 use Rattle.draft.specs.Read.{Reading, got, Reader, over, pair as read-pair, items, alike, leaf, tag_of, present, opened, contents as read-contents, integer_item, boolean_item, short_item, long_item, recorded_item, recalled as recalledEntry, recalled_item, string_item, string as read-string, only, first_text, string_by, name, Texts, nothing, key, member, keeping, other_item, counted, array_item, struct_item, item, value, nested, call_item, fault_struct, response_item, call_or_response, prefix, agree, message}
-use Rattle.draft.specs.Grammar.{Cell, cell, holding, number, content_cell, held_cells, Sent, regular, recorded, recalled, LSB, Keeps, Message, call_message, response_message, Call, call, Response, value_response, fault_response, fault, Value, integer_value, boolean_value, double_value, datetime_value, binary_value, array_value, struct_value, string_value, other_value, Integer, integer, boolean_true, boolean_false, Double, double, datetime, Binary, binary, Array, array, Values, no_values, more_values, Struct, struct, Pairs, no_pairs, more_pairs, Pair, pair, Other, other, String, regular_string, recorded_string, recalled_string, string_data, Recording, look, after, Legal, legal_recalled}
+use Rattle.draft.specs.Grammar.{Cell, cell, holding, number, content_cell, held_cells, Sent, regular, recorded, recalled, LSB, Keeps, Message, call_message, response_message, Call, call, Response, value_response, fault_response, fault, Value, integer_value, boolean_value, double_value, datetime_value, binary_value, array_value, struct_value, string_value, other_value, integer, boolean_true, boolean_false, double, datetime, Binary, binary, Array, array, Values, no_values, more_values, Struct, struct, Pairs, no_pairs, more_pairs, Pair, pair, Other, other, String, regular_string, recorded_string, recalled_string, string_data, Recording, look, after, Legal, legal_recalled}
 use Rattle.draft.specs.Meaning.{has_number, has_content, says_contents, Means, means, Realises, no_more, and_then}
 use Rattle.exact.proofs.Standing.{Here, ends, front, back, byte_of, second, four, part_here}
 use Rattle.exact.proofs.Replaying.{after_append, legal_front, legal_back, Agrees, agrees_clear, agrees_recorded, found}
@@ -272,6 +271,7 @@ module _ (s : List ℕ) (room : ℕ) where
   pub first_text_lem :
       (rows : List Row) {r : ℕ} {t : List ℕ} {cs : List Cell} (c : Content) → Realises s r rows (content_cell c t ∷ cs) → first_text s room rows ≡ t
   first_text_lem (x ∷ rows) c (and_then (means k e (says_contents l i j)) m) = j
+  first_text_lem [] {r = r} {t = t} {cs = cs} c x' = elim x' [ ]
 
   string_by_read :
       (rule : List ℕ → Verdict) {xs t : List ℕ} {f : Sent} → String xs t f → rule t ≡ Fine → (o : ℕ)

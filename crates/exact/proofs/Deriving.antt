@@ -30,7 +30,7 @@ use Rattle.draft.specs.Rows.{row, below, kind_of}
 use Rattle.draft.specs.Content.{content_rule, all_there, verdict, name_rule, key_rule, fault_rule}
 use Rattle.draft.specs.Codebook.{Book, clear, recorded as record-text}
 use Rattle.draft.specs.Read.{Reading, got, refused, then, judged, Reader, behind, over, pair as read-pair, items, alike, leaf, tag_of, Nest, floor, under, present, opened, contents as read-contents, integer_item, boolean_item, short_item, long_item, recorded_item, recalled as recalledEntry, recalled_item, string_item, if_string, string as read-string, only, first_text, string_by, name, Texts, nothing, key, member, keeping, other_item, counted, array_item, struct_item, item, value, nested, call_item, held_rows, fault_struct, response_item, call_or_response, prefix, agree, message}
-use Rattle.draft.specs.Grammar.{Cell, cell, holding, content_cell, held_cells, Sent, regular, LSB, Keeps, Message, call_message, response_message, Call, call, Response, value_response, fault_response, fault, Value, integer_value, boolean_value, double_value, datetime_value, binary_value, array_value, struct_value, string_value, other_value, Integer, integer, Boolean, boolean_true, boolean_false, Double, double, datetime, Binary, binary, Array, array, Values, no_values, more_values, Struct, struct, Pairs, no_pairs, more_pairs, Pair, pair, Other, other, String, regular_string, recorded_string, recalled_string, string_data, Recording, after, Legal, legal_none, legal_regular, legal_recorded, legal_recalled}
+use Rattle.draft.specs.Grammar.{Cell, cell, holding, content_cell, held_cells, Sent, regular, LSB, Keeps, Message, call_message, response_message, Call, call, Response, value_response, fault_response, fault, Value, integer_value, boolean_value, double_value, datetime_value, binary_value, array_value, struct_value, string_value, other_value, integer, Boolean, boolean_true, boolean_false, double, datetime, Binary, binary, Array, array, Values, no_values, more_values, Struct, struct, Pairs, no_pairs, more_pairs, Pair, pair, other, String, regular_string, recorded_string, recalled_string, string_data, Recording, after, Legal, legal_none, legal_regular, legal_recorded, legal_recalled}
 use Rattle.draft.specs.Meaning.{has_number, has_content, Means, Realises, no_more, and_then}
 use Rattle.exact.proofs.Standing.{Here, nothing_here, ends, join, bytes_at_lem, long, byte_before, two_before, five_before, six_before}
 use Rattle.exact.proofs.Replaying.{after_append, legal_join, Agrees, agrees_clear, agrees_recorded, said}

@@ -24,7 +24,6 @@ use Rattle.draft.specs.declared.Content.{Content}
 use Rattle.draft.specs.declared.Content.TheVariants as content
 use Rattle.draft.specs.declared.Tag.{Tag}
 use Rattle.draft.specs.declared.Tag.TheVariants as tag
-use Rattle.draft.specs.declared.Plain.{Plain}
 use Rattle.draft.specs.declared.Plain.TheVariants as plain
 use Rattle.draft.specs.declared.Form.{Form}
 use Rattle.draft.specs.declared.Form.TheVariants.{Regular, Recorded, Recalled}

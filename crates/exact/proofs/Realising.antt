@@ -129,6 +129,8 @@ module _ {s t : List ℕ} where
   equal_cells : {r : ℕ} {xs ys : List Row} {cs ds : List Cell} → Realises s r xs cs → Realises t r ys ds → MeanSame s t xs ys → cs ≡ ds
   equal_cells no_more no_more no_rows = refl
   equal_cells (and_then m a) (and_then n b) (and_row e z) = ap₂ (λ (c : Cell) (l : List Cell). c ∷ l) (cell_equal m n e) (equal_cells a b z)
+  equal_cells (no_more {r = r}) (and_then {c = c} {xs = xs} {cs = cs} n b) x22 = elim x22 [ ]
+  equal_cells (and_then {r = r} {c = c} {xs = xs} {cs = cs} m a) no_more x16 = elim x16 [ ]
 
   same_rows : {r : ℕ} {xs ys : List Row} {cs : List Cell} → Realises s r xs cs → Realises t r ys cs → MeanSame s t xs ys
   same_rows no_more no_more = no_rows

@@ -1,1 +1,2 @@
 // That reading is the draft's grammar, proved in proofs/: no function.
+#![tactic(auto)]

@@ -1,5 +1,7 @@
 // The rows of content: it lies inside the text bytes and keeps its rule, and the row ends where the next begins. A walk answers with the row
 // behind what it walked, or 0 where that does not fit. Long Strings in rows before row `good` were checked before.
+#![tactic(auto)]
+
 ghost use Rattle.std.specs.Prelude.{◌≡◌, ◌<◌};
 ghost use Rattle.draft.specs.Rows.{kind_of};
 ghost use Rattle.draft.specs.Table.{row_at};

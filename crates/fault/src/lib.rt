@@ -1,4 +1,6 @@
 // The rule for a fault's members, over the rows that stand below its Struct in a lent table, with the bytes that their texts lie in.
+#![tactic(auto)]
+
 ghost use Rattle.std.specs.Prelude.{◌≡◌, ◌+◌, ◌*◌, ◌-◌, ◌≤◌, ◌<◌, eqb, length};
 ghost use Rattle.draft.specs.Content.{is_text, is_code, is_message, fault_rule};
 ghost use Rattle.draft.specs.Table.{row_at, rows_at};

@@ -1,5 +1,7 @@
 // The first item of a message, a Call or a Response, with notes on keys for as many rows as there can be.
 // Assumes that the place is in the message, the rows fit the table and the codebook has its 256 words.
+#![tactic(auto)]
+
 ghost use Rattle.std.specs.Prelude.{◌≡◌, ◌+◌, ◌≤◌, min, length, replicate};
 ghost use Rattle.draft.specs.Read.{call_or_response};
 ghost use Rattle.codebook.specs.Words.{book_of};

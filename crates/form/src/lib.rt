@@ -1,5 +1,7 @@
 // The written form of a writable table's rows, into a lent output: how each string is sent is found first, in arrays that lie in the frame
 // of one of three functions and are lent to all the others.
+#![tactic(auto)]
+
 ghost use Rattle.std.specs.Prelude.{◌≡◌, ◌≤◌, ◌<◌, length, replicate};
 ghost use Rattle.draft.specs.Table.{row_at, from};
 ghost use Rattle.draft.specs.Written.{written};

@@ -1,9 +1,11 @@
 // The declared types that the definitions in specs/ cite: hyperglyph 1.0 and its old depot's glyph 0.5, read into the rows of `draft`.
+#![tactic(auto)]
+
 ghost use Rattle.std.specs.Prelude.{◌≡◌};
 ghost use Rattle.glyph.specs.Refusals.{number_of};
 
 // The caller names it: `New` is hyperglyph 1.0 (document 003), `Old` is glyph 0.5 (document 000).
-#[derive(Drop)]
+#[derive(Clone, Copy)]
 pub enum Edition {
     New,
     Old,
@@ -21,7 +23,7 @@ pub enum Leaf {
 }
 
 // The objects that hold others until their `;`.
-#[derive(Drop)]
+#[derive(Clone, Copy)]
 pub enum Many {
     List,
     Dict,
@@ -29,7 +31,7 @@ pub enum Many {
 }
 
 // The objects that hold three others: a name, attributes and content.
-#[derive(Drop)]
+#[derive(Clone, Copy)]
 pub enum Three {
     Extension,
     Node,
@@ -45,7 +47,7 @@ pub enum Letter {
 }
 
 // Which objects may stand at a place.
-#[derive(Drop)]
+#[derive(Clone, Copy)]
 pub enum Want {
     Any,
     Text,

@@ -1,4 +1,6 @@
 // The bytes of a glyph message: what a byte begins, and the blanks and digits at a place.
+#![tactic(auto)]
+
 ghost use Rattle.std.specs.Prelude.{◌≡◌, ◌+◌, ◌*◌, ◌≤◌, ◌<◌, min, eqb, length, get_or};
 ghost use Rattle.lexical.specs.Digits.{digit};
 ghost use Rattle.glyph.specs.Letters.{letter_of, only_text, only_dict, wanted, many_kind, keyed_by, three_kind, name_want, attributes_want};

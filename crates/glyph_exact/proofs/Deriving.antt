@@ -2,7 +2,7 @@
 use mathlib.Core.Path.{◌≡◌, refl, sym, ap, ◌∙◌}
 use mathlib.Core.Bool.{Bool, true, false, ◌&&◌, cond}
 use mathlib.Core.List.{List, [], ◌∷◌, ◌++◌, append_assoc, append-nil}
-use Prim.Native.Nat.{ℕ, zero, suc, ◌+◌, ◌-◌, ◌*◌, ◌≤◌, ◌<◌}
+use Prim.Native.Nat.{ℕ, zero, suc, ◌+◌, ◌*◌, ◌≤◌, ◌<◌}
 use native.Mathlib.Omega.{arith}
 use native.Mathlib.Nat.{add-zero, zero-add}
 use lib.Dec.{eqb, ltb, leb}
@@ -421,6 +421,9 @@ key_of {e} {s} {d} {at} {r} {rows} {to} g = go g.tree g.meets g.object g.realise
   where
     go : (t : Tree) → Meets Text t → Object e d g.used t → Realises s r rows (cells t) → Key e s d at r rows to
     go (leaf kind load) unicode_met o z = record { used = g.used; text = _; object = o; here = g.here; ends = g.ends; realises = z }
+    go (many _ _) m o z = elim m [ ]
+    go (plain _) m o z = elim m [ ]
+    go (ordered _) m o z = elim m [ ]
 
 module _ (e : Edition) (s : List ℕ) where
   unfoldable pub Sound : (Want → Reader) → ℕ → Type 0

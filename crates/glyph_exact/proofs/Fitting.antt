@@ -9,7 +9,6 @@ use lib.ListN.{length, length-append}
 use borrow.Author.Tests.{ltb-true}
 use Rattle.draft.specs.declared.Row.{Row}
 use Rattle.draft.specs.Bytes.{byte_at}
-use Rattle.draft.specs.Rows.{row}
 use Rattle.glyph.specs.declared.Refusal.TheVariants.{UnexpectedByte, NoRow}
 use Rattle.glyph.specs.declared.Edition.{Edition}
 use Rattle.glyph.specs.declared.Leaf.{Leaf as LeafLetter}

@@ -221,7 +221,7 @@ module _ (s : List ℕ) where
   key_at_lem : {e : Edition} {d at r : ℕ} {rows : List Row} {to : ℕ} (k : Key e s d at r rows to) → TextAt s at k.text × (at < to)
   key_at_lem {e} {d} {at} {r} {rows} {to} k = go k.used k.object k.here k.ends
     where
-      go : (used : List ℕ) → Object e d used (leaf 11 (contents k.text)) → Here s at used → to ≡ at + length used → TextAt s at k.text × (at < to)
+      go : {d' : ℕ} (used : List ℕ) → Object e d' used (leaf 11 (contents k.text)) → Here s at used → to ≡ at + length used → TextAt s at k.text × (at < to)
       go used (unicode {zs = zs} c g) h n = (record { bytes = zs; content = c; stands = part_here h refl }, omega (arith, n))
 
   -- the text of a key's row, with others behind it

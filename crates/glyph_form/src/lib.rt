@@ -1,4 +1,6 @@
 // What a table of glyph rows is written from and to: definitions. See specs/.
+#![tactic(auto)]
+
 use draft::{Content, Refusal};
 use glyph::{Many, Three};
 

@@ -1,5 +1,7 @@
 // Reading a glyph integer: its sign, its digits and its range.
 // Assumes that the place is in the message and the rows fit the table.
+#![tactic(auto)]
+
 ghost use Rattle.std.specs.Prelude.{◌≡◌, ◌+◌, ◌≤◌, ◌<◌, length};
 ghost use Rattle.glyph.specs.Numbers.{in_range, word};
 ghost use Rattle.glyph.specs.Read.{number_from, integer};

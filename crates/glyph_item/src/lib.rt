@@ -1,4 +1,6 @@
 // What the functions that read a glyph object share: a refusal as an answer. What they promise is in specs/Contract.antt.
+#![tactic(auto)]
+
 ghost use Rattle.std.specs.Prelude.{◌≡◌};
 ghost use Rattle.glyph_item.specs.Contract.{refused_at};
 

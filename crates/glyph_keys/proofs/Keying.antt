@@ -18,9 +18,9 @@ use Rattle.keys.proofs.Chaining.{keys_move}
 use Rattle.keys.proofs.Keeping.{noted_move, key_below}
 use Rattle.member_keys.specs.Contract.{Joined}
 use Rattle.glyph.specs.declared.Refusal.TheVariants.{Ended, UnexpectedByte, RepeatedKey}
-use Rattle.glyph.specs.Read.{Reading, got, refused, Texts, opened, text, first_text, distinct}
+use Rattle.glyph.specs.Read.{Reading, got, Texts, opened, text, first_text, distinct}
 use Rattle.glyph_bytes.specs.Places.{Skipped}
-use Rattle.glyph_item.specs.Contract.{refused_at, answer, Leaves, Did}
+use Rattle.glyph_item.specs.Contract.{refused_at, Leaves, Did}
 use Rattle.glyph_item.proofs.Readings.{Got, did_next, did_not, done, did_no, number_some}
 use Rattle.glyph_keys.specs.Contract.{name, Prepared, KeyDone, KeyIf}
 use Rattle.glyph_keys.proofs.Ones.{name_one}

@@ -1,5 +1,7 @@
 // Reading a dict's key: a unicode, noted with those of its dict before it. See specs/Contract.antt for what becomes of the notes.
 // Assumes that the place is in the message, the rows fit the table, and the notes have an entry for each row.
+#![tactic(auto)]
+
 ghost use Rattle.std.specs.Prelude.{◌+◌, ◌≤◌, ◌<◌, length};
 ghost use Rattle.item.specs.Contract.{Fitting};
 ghost use Rattle.glyph_item.specs.Contract.{Did};

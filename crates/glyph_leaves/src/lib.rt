@@ -1,5 +1,7 @@
 // Reading the glyph objects without children by their letters: integers, unicode and bytearrays, T, F and N.
 // Assumes that the place is in the message and the rows fit the table.
+#![tactic(auto)]
+
 ghost use Rattle.std.specs.Prelude.{◌+◌, ◌<◌, length, get_or};
 ghost use Rattle.glyph.specs.Read.{opened, single, leaf_of};
 ghost use Rattle.item.specs.Contract.{Fitting};

@@ -2,6 +2,8 @@
 // `read_many` what a list or a dict holds, `read_entry` one thing of it, `read_thing` that without its key, `read_three` what an extension or a
 // node holds, and `read_next` one object of it behind blanks; they call one another in a cycle, in which `deep`, the nesting left, falls at each
 // object with children, and the bytes left at each thing. The keys of all dicts are noted in the lent words `notes`.
+#![tactic(auto)]
+
 ghost use Rattle.std.specs.Prelude.{◌≡◌, ◌+◌, ◌-◌, ◌≤◌, ◌<◌};
 ghost use Rattle.glyph.specs.Read.{object};
 ghost use Rattle.glyph_keys.specs.Contract.{Prepared, Done};

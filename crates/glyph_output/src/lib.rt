@@ -1,5 +1,7 @@
 // The bytes of glyph objects without children, put into a lent output from a place on, if they end at `most` at the latest. A function answers
 // where they end, also where they were not put; all places past 65,536 are told as 65,537.
+#![tactic(auto)]
+
 ghost use Rattle.std.specs.Prelude.{◌≡◌, [], ◌∷◌, ◌++◌, ◌-◌, ◌≤◌, ◌<◌, length};
 ghost use Rattle.glyph_form.specs.Form.{digits_before, number_before, integer_bytes, boolean_bytes, content_bytes};
 ghost use Rattle.glyph_output.specs.Contract.{reached as reachedBy, Open, Adds, four_digits};

@@ -2,6 +2,8 @@
 // some, one after the other: those without children in its loop, those with children by functions that call one another in a cycle, in which
 // `deep`, the nesting left, falls. The rows of a plain dict's keys are put in order in the lent words `order`: a dict of n pairs takes the
 // first n, and its values the words behind them.
+#![tactic(auto)]
+
 ghost use Rattle.std.specs.Prelude.{◌≡◌, true, [], ◌∷◌, ◌++◌, ◌+◌, ◌-◌, ◌*◌, ◌/◌, ◌≤◌, ◌<◌, length, take};
 ghost use Rattle.draft.specs.Read.{text_of};
 ghost use Rattle.draft.specs.Table.{row_at};

@@ -1,4 +1,6 @@
 // Reading a whole glyph message into a lent table of rows. `read` assumes nothing.
+#![tactic(auto)]
+
 ghost use Rattle.std.specs.Prelude.{◌≡◌, ◌≤◌, min, length, replicate};
 ghost use Rattle.draft.specs.Table.{room_of};
 ghost use Rattle.glyph.specs.Read.{root};

@@ -1,5 +1,7 @@
 // What reading a glyph message answered, reported to programs in C and Rust: every number that they lend is set, and the result is 0 or the
 // refusal's number.
+#![tactic(auto)]
+
 pub mod writing; // writing.rt: of writing
 
 ghost use Rattle.std.specs.Prelude.{◌≡◌};

@@ -1,4 +1,6 @@
 // Rows of objects with children: which they are, whether such a row may hold what it says in an edition, and an extension's letter.
+#![tactic(auto)]
+
 ghost use Rattle.std.specs.Prelude.{◌≡◌, ◌*◌, ◌≤◌, ◌<◌, length};
 ghost use Rattle.draft.specs.Table.{row_at};
 ghost use Rattle.glyph_form.specs.Form.{letter_for};

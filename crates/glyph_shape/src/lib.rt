@@ -1,4 +1,6 @@
 // Whether a table is writable for an edition: its rows are walked as one object, from the first row to the last that is stated.
+#![tactic(auto)]
+
 ghost use Rattle.std.specs.Prelude.{◌≡◌, ◌≤◌, length, replicate};
 ghost use Rattle.draft.specs.Table.{row_at};
 ghost use Rattle.row_ends.specs.Ends.{extent_of};

@@ -1,5 +1,7 @@
 // A glyph message read for a station into the station's share of one table, and written from it. The share is lent on to the functions that take a whole
 // table.
+#![tactic(auto)]
+
 ghost use Rattle.glyph_stations.specs.Answers.{ReadFor, WroteFor};
 
 use glyph::Edition;

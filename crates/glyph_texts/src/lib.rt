@@ -1,5 +1,7 @@
 // Reading a glyph unicode or bytearray: its length and its content.
 // Assumes that the place is in the message and the rows fit the table.
+#![tactic(auto)]
+
 ghost use Rattle.std.specs.Prelude.{◌≡◌, true, ◌+◌, ◌≤◌, ◌<◌, length};
 ghost use Rattle.text.specs.Utf8.{well_formed};
 ghost use Rattle.draft.specs.Bytes.{part};

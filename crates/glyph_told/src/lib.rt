@@ -1,1 +1,2 @@
 // That the tree which a table's rows tell is the one that they realise: theorems. See proofs/.
+#![tactic(auto)]

@@ -2,6 +2,8 @@
 // of a dict, and `walk_container` an object with children; they call one another in a cycle, in which `deep`, the nesting left, falls at
 // each. The keys of all dicts are noted in the lent words `notes`. Objects without children are walked in the loop: a function of a
 // cycle is never inlined.
+#![tactic(auto)]
+
 ghost use Rattle.std.specs.Prelude.{◌≡◌, true, ◌+◌, ◌<◌};
 ghost use Rattle.draft.specs.Table.{row_at};
 ghost use Rattle.row_ends.specs.Ends.{extent_of};

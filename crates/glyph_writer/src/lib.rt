@@ -1,5 +1,7 @@
 // The writer of an edition: a table of rows and the bytes that its texts lie in, into a lent output, in the written form. Here are the
 // refusals and their order; the form itself is put by `glyph_puts`.
+#![tactic(auto)]
+
 ghost use Rattle.std.specs.Prelude.{◌≡◌, true, min, length};
 ghost use Rattle.draft.specs.Limits.{allowed};
 ghost use Rattle.draft.specs.Table.{row_at};

@@ -1,1 +1,2 @@
 // What writing glyph tables promises, of tables and of the writer's own answer and output: theorems. See specs/.
+#![tactic(auto)]

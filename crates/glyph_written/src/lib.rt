@@ -1,1 +1,2 @@
 // What is promised of writing glyph messages, as statements over the definitions: see specs/.
+#![tactic(auto)]

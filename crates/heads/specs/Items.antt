@@ -1,6 +1,6 @@
 -- What the functions here read: items with keys or without, one after the other, and what an Array or a Struct begins with and holds.
 -- Assumes nothing.
-use Rattle.std.specs.Prelude.{ℕ, ◌+◌, ◌≤◌, ◌<◌, ◌≡◌, Bool, true, false, ◌||◌, cond, List, [], length, leb, ltb, eqb}
+use Rattle.std.specs.Prelude.{ℕ, ◌+◌, ◌≤◌, ◌<◌, Bool, true, false, ◌||◌, cond, List, [], length, leb, ltb, eqb}
 use Rattle.draft.specs.declared.Refusal.TheVariants.{Ended, TooDeep, NoRow}
 use Rattle.draft.specs.declared.Row.{Row}
 use Rattle.draft.specs.Bytes.{unsigned_at}

@@ -1,5 +1,7 @@
 // What is looked at of an item before it is read: whether it is an Array or a Struct, and the head of one.
 // Assumes that the place is in the message.
+#![tactic(auto)]
+
 ghost use Rattle.std.specs.Prelude.{◌≡◌, ◌<◌, length};
 ghost use Rattle.heads.specs.Items.{holds_items, head_of};
 

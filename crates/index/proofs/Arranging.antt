@@ -1,4 +1,4 @@
--- What answers the needs of the functions that put a Struct's key rows in order. Assumes nothing.
+-- What answers the goals of the functions that put a Struct's key rows in order. Assumes nothing.
 use mathlib.Core.Path.{◌≡◌, refl, sym, ap, ◌∙◌}
 use mathlib.Core.Bool.{Bool, true, false}
 use mathlib.Core.List.{List, [], ◌∷◌, ◌++◌, append_assoc, append-nil}

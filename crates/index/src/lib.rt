@@ -1,5 +1,7 @@
 // An index of a Struct's members, on plain slices and numbers: the key rows in byte order of their texts, and the entry of each. The function that has
 // the list itself is in `binmode`; each turn of its loop calls one function of these, which decides everything.
+#![tactic(auto)]
+
 ghost use Rattle.std.specs.Prelude.{◌≡◌, [], ◌*◌, ◌≤◌, length, get_or};
 ghost use Rattle.draft.specs.Table.{row_at, from};
 ghost use Rattle.member.specs.Members.{members_from};
@@ -16,7 +18,7 @@ const KEPT: usize = 2112;
 
 // The key rows of a Struct's members in byte order of their texts, zeros behind them; and 0, or why there are none. It is copied for each
 // entry, so a key row has two bytes here.
-#[derive(Drop)]
+#[derive(Clone, Copy)]
 pub struct Order {
     pub rows: [u16; 2112],
     pub answer: u8,

@@ -15,7 +15,7 @@ use Rattle.lookup_answer.specs.declared.Answer.TheVariants.{Refused}
 use Rattle.lookup_answer.specs.declared.Refusal.TheVariants.{NotWritable}
 use Rattle.seeking.specs.declared.Search.{Search}
 use Rattle.seeking.specs.Seeking.{over, begun, unused}
-use Rattle.seeking.proofs.Narrowing.{Seeking, seeking_first, seeking_next, seeking_done}
+use Rattle.seeking.proofs.Narrowing.{span, narrows, Seeking, seeking_first, seeking_next, seeking_done}
 use Rattle.index_search.specs.declared.Question.{Question}
 use Rattle.index_search.specs.Through.{its_relation, its_member, found_row, row_answer, through_if, through, key_at, reports_of, judgement, judged_of, question_at, asks, key_of, Rightly, step_for, answer_for, answered}
 
@@ -33,6 +33,11 @@ module _ (T s keys : List ℕ) (q : Question) (es : List Member) where
 
   pub looking_less : {left : ℕ} {st : Search} → Looking left st → st.at < over → left - 1 < left
   looking_less k i = omega (arith, k.enough, (k.fine.inside i).0, (k.fine.inside i).1)
+
+  -- a step comes nearer
+  pub looking_nearer : {left : ℕ} {st : Search} → Looking left st → st.at < over → span (step_for T s keys q st (get_or es st.at unused)) < span st
+  unfolding step_for
+  looking_nearer {left} {st} k i = (narrows (its_relation T s (key_of keys q)) (its_member T s q.rows q.row) st (get_or es st.at unused) (k.fine.inside i).0 (k.fine.inside i).1).1
 
   pub looking_writable : {left : ℕ} {st : Search} → Looking left st → Rightly T s q → st.at < over → writable T q.rows s ≡ true
   looking_writable k r h = r.rightly (eqb-true q.number 0 (k.asked h))

@@ -1,4 +1,4 @@
--- What answers the needs of the functions that take a search a step on, and say what it found. Assumes nothing.
+-- What answers the goals of the functions that take a search a step on, and say what it found. Assumes nothing.
 use mathlib.Core.Path.{◌≡◌, refl, sym, ◌∙◌}
 use mathlib.Core.Bool.{Bool, true, false}
 use mathlib.Core.List.{List}

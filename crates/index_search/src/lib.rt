@@ -1,5 +1,7 @@
 // A key looked up through entries, on plain slices and numbers: the steps of a search, and what it answers. The functions that have the list itself are
 // in `binmode`; each turn of theirs calls one function of these, which decides everything.
+#![tactic(auto)]
+
 ghost use Rattle.std.specs.Prelude.{◌≡◌, true, ◌-◌, ◌*◌, ◌≤◌, ◌<◌, length, get_or};
 ghost use Rattle.draft.specs.Table.{row_at};
 ghost use Rattle.draft.specs.Writable.{writable as writableIn};
@@ -13,7 +15,7 @@ use order::Relation;
 use seeking::Search;
 
 // A key asked for: among how many rows, of the Struct of which row, and where it lies among the keys; and 0, or 11 if the table is not writable.
-#[derive(Drop)]
+#[derive(Clone, Copy)]
 pub struct Question {
     pub rows: usize,
     pub row: usize,

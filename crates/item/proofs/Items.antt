@@ -32,7 +32,7 @@ use Rattle.draft.specs.Read.{Reading, got, refused, opened, then, judged, leaf, 
 use Rattle.codebook.specs.Words.{book_of}
 use Rattle.table.proofs.Stored.{first_row}
 use Rattle.item.specs.declared.Step.{Step}
-use Rattle.item.specs.Contract.{refused_at, read_to, judged_at, answer, Did, Stored, Closed, Ends}
+use Rattle.item.specs.Contract.{refused_at, read_to, judged_at, Did, Stored, Closed, Ends}
 use Rattle.item.proofs.Tags.{tag_regular, tag_recorded, tag_recalled}
 use Rattle.item.proofs.Readings.{Got, did_next, did_not, done, did_no, held, opened_full, opened_cut, opened_on, leaf_got, judged_bad, judged_fine, judged_did, only_short, only_no, only_on, pair_first, pair_both, over_closed, did_ends, at_in, row_in, only_held, pair_held}
 
@@ -264,6 +264,6 @@ judged_bad_is m at step i e = rw i e
 pub judged_fine_is : (at : ℕ) (step : Step) {v : Verdict} → v ≡ Fine → step ≡ judged_at v at step
 judged_fine_is at step i = rw i
 
-pub ruleset rules = (judged_bad_is, judged_fine_is)
+pub ruleset judging = (judged_bad_is, judged_fine_is)
 
 pub ruleset others = (string_row, name_refused, name_judged, pair_first, pair_both, pair_held, at_in, row_in, did_ends, row_text_is, opened_full, opened_on, over_closed, one_in, ahead_next, close_refused, close_next, end_word_lem)

@@ -1,5 +1,7 @@
 // What the functions that read an item share: their answer, numbers, and a row stored. What they promise is in specs/Contract.antt.
 // `room` is the number of rows that the table has room for.
+#![tactic(auto)]
+
 ghost use Rattle.std.specs.Prelude.{◌≡◌, ◌+◌, ◌*◌, ◌≤◌, ◌<◌, length};
 ghost use Rattle.draft.specs.Bytes.{unsigned_at};
 ghost use Rattle.draft.specs.Table.{set_row};

@@ -1,6 +1,6 @@
 -- What asking for a card of a job file gives: its answer, and the table after it. Both depend on the file, the card's number and the table's
 -- length alone. 'The job file reader states 32' (02, E11). Assumes nothing.
-use Rattle.std.specs.Prelude.{◌≡◌, List, ℕ, length, replicate}
+use Rattle.std.specs.Prelude.{◌≡◌, List, ℕ, replicate}
 use Rattle.draft.specs.Bytes.{part}
 use Rattle.draft.specs.Refusals.{number_of}
 use Rattle.read_answer.specs.declared.Answer.{Answer as ReaderAnswer}

@@ -1,4 +1,6 @@
 // Reading the cards of a job file, each by its number, from the part of the file where its message lies.
+#![tactic(auto)]
+
 ghost use Rattle.std.specs.Prelude.{◌≡◌, length};
 ghost use Rattle.records.specs.Job.{body_of};
 ghost use Rattle.job.specs.Cards.{located, Reads};

@@ -1,4 +1,6 @@
 // The rows of a dict's keys, put in byte order of their texts.
+#![tactic(auto)]
+
 ghost use Rattle.std.specs.Prelude.{◌≡◌, ◌+◌, ◌*◌, ◌/◌, ◌≤◌, length};
 ghost use Rattle.draft.specs.Table.{row_at};
 ghost use Rattle.sorting.specs.Sorting.{key_text};

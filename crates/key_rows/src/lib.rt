@@ -1,5 +1,7 @@
 // The row of a Struct's key, as the writer walks it: a String, noted with those of its Struct before it.
 // Assumes that the notes have an entry for each of the stated rows.
+#![tactic(auto)]
+
 ghost use Rattle.std.specs.Prelude.{◌≡◌, true, ◌≤◌, ◌<◌};
 ghost use Rattle.key_rows.specs.Contract.{Prepared, KeyDone, KeyIf};
 

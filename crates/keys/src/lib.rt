@@ -1,6 +1,8 @@
 // Which keys of a Struct come again. The keys of all Structs of a message are noted in one lent slice of words, at their rows and with the
 // Struct that owns them, and are chained in buckets: a key is compared with the few keys of its Struct that are in its bucket.
 // Nothing is taken out: keys of Structs that are done stay where they are, and are passed over. See specs/Notes.antt for the words.
+#![tactic(auto)]
+
 ghost use Rattle.std.specs.Prelude.{◌≡◌, ◌&&◌, ◌+◌, ◌*◌, ◌<◌, ◌/◌, length, eqb, ltb};
 ghost use Rattle.text.specs.Texts.{same, among};
 ghost use Rattle.keys.specs.Notes.{head_of, owner_of, named, keys_of, joined, Noted, Rows, Entry, Placed, Noting, Ahead};

@@ -10,7 +10,6 @@ use lib.Dec.{lit<, eqb}
 use lib.Seq.{get_or-set_same, get_or-set_other}
 use lib.ListN.{length, get_or, set, replicate, length-set, length-replicate}
 use Rattle.draft.specs.declared.Row.{Row}
-use Rattle.draft.specs.Rows.{row}
 use Rattle.draft.specs.Table.{room_of, place, from}
 use Rattle.draft.specs.Read.{Reading, got, refused}
 use Rattle.table.proofs.Rows.{place_in, place_one}

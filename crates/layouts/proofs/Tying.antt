@@ -21,7 +21,6 @@ use Rattle.plan_writer.specs.declared.Answer.TheVariants as p
 use Rattle.plan_writer.specs.Answers as plan_writer
 use Rattle.certificate.specs.Certificate.{certified_texts}
 use Rattle.member.specs.declared.Member.{Member}
-use Rattle.lookup_answer.specs.declared.Answer.{Answer}
 use Rattle.lookup_answer.specs.declared.Answer.TheVariants as l
 use Rattle.lookup_answer.specs.declared.Refusal.TheVariants as why
 use Rattle.lookup_answer.specs.Answers.{look, answer_at}

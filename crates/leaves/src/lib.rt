@@ -1,5 +1,7 @@
 // Reading the items of one row that use no codebook: Integer, Boolean, Double, DateTime, Binary and a regular String.
 // Assumes that the place is in the message and the rows fit the table.
+#![tactic(auto)]
+
 ghost use Rattle.std.specs.Prelude.{◌+◌, ◌*◌, ◌≤◌, ◌<◌, length};
 ghost use Rattle.draft.specs.Read.{contents, integer_item, boolean_item, short_item, long_item};
 ghost use Rattle.item.specs.Contract.{Fitting, Stored};

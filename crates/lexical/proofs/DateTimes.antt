@@ -1,4 +1,4 @@
--- The test `isDateTime` and the grammar agree: bytes pass exactly if the grammar derives them. What passes is ASCII. Assumes nothing.
+-- The test `is_date_time` and the grammar agree: bytes pass exactly if the grammar derives them. What passes is ASCII. Assumes nothing.
 use mathlib.Core.Path.{◌≡◌, refl}
 use mathlib.Core.Bool.{Bool, true, false, cond, not, ◌&&◌, ◌||◌}
 use mathlib.Core.List.{List, [], ◌∷◌}
@@ -8,7 +8,7 @@ use Prim.Native.Char.{code}
 use native.Mathlib.Omega.{arith}
 use lib.ListN.{length, get_or}
 use lib.Dec.{leb, eqb}
-use borrow.Author.Tests.{leb-true, le-leb, eqb-true, eqb-false, eq-eqb, ne_eqb, not_true}
+use borrow.Author.Tests.{leb-true, le-leb, eqb-true, eqb-false, eq-eqb, ne_eqb, not-true}
 use Rattle.text.specs.Texts.{ascii}
 use Rattle.text.proofs.Comparing.{both, clash}
 use Rattle.lexical.specs.Digits.{digit, pair, two as twoAt}
@@ -38,7 +38,7 @@ leap_is year e = go (eqb (year % 400) 0) refl e
         early : (t : Bool) → (eqb (year % 4) 0 && not (eqb (year % 100) 0)) ≡ t → (t || false) ≡ true → Leap year
         early true h i =
             let k = both (eqb (year % 4) 0) (not (eqb (year % 100) 0)) h in
-            fourth (eqb-true _ _ k.0) (eqb-false _ _ (not_true _ k.1))
+            fourth (eqb-true _ _ k.0) (eqb-false _ _ (not-true _ k.1))
         early false h i = clash i refl
 
 not_leap : (year : ℕ) → (Leap year → ⊥) → leap year ≡ false

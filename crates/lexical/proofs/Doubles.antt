@@ -1,4 +1,4 @@
--- The test `isDouble` and the grammar agree: bytes pass exactly if the grammar derives them. What passes is ASCII. Assumes nothing.
+-- The test `is_double` and the grammar agree: bytes pass exactly if the grammar derives them. What passes is ASCII. Assumes nothing.
 use mathlib.Core.Path.{◌≡◌, refl, ap, ◌∙◌}
 use mathlib.Core.Bool.{Bool, true, false, cond, ◌&&◌, ◌||◌}
 use mathlib.Core.List.{List, [], ◌∷◌, ◌++◌}

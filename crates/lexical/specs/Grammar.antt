@@ -1,4 +1,4 @@
--- Document 02's Double and DateTime as productions over bytes, in its words. The tests `isDouble` and `isDateTime` take exactly what these derive
+-- Document 02's Double and DateTime as productions over bytes, in its words. The tests `is_double` and `is_date_time` take exactly what these derive
 -- (`proofs/Doubles`, `proofs/DateTimes`). Assumes nothing.
 use Rattle.std.specs.Prelude.{◌≡◌, List, [], ◌∷◌, ◌++◌, ◌≢◌, ℕ, ◌+◌, ◌*◌, ◌%◌, ◌≤◌}
 use Prim.Native.Char.{code}

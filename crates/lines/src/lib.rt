@@ -1,5 +1,7 @@
 // The lines that the programs print, each put into a lent line, from its front or from a place on. A function answers where what it put
 // ends; what the line has no room for is dropped.
+#![tactic(auto)]
+
 ghost use Rattle.spelling.specs.Line.{Puts, pairs};
 ghost use Rattle.lines.specs.Lines.{space, refusal_line, accepted_line, card_accepted_line, row_line, card_answer, card_line, count_line};
 

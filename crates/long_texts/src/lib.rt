@@ -1,4 +1,6 @@
 // The long Strings of a table, all checked before its rows are walked: many may lie in the same text bytes, and those are checked once.
+#![tactic(auto)]
+
 ghost use Rattle.std.specs.Prelude.{true, ◌+◌, ◌≤◌, ◌<◌, length};
 ghost use Rattle.draft.specs.Table.{row_at};
 ghost use Rattle.passages.specs.Notes.{Notes};

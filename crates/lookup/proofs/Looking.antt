@@ -1,4 +1,4 @@
--- What answers the needs and returns of the functions that look a member up. Assumes nothing.
+-- What answers the goals of the functions that look a member up. Assumes nothing.
 use mathlib.Core.Path.{◌≡◌}
 use mathlib.Core.Bool.{Bool, true, false}
 use mathlib.Core.List.{List}

@@ -1,4 +1,6 @@
 // Looking up a member of a Struct. The table is judged first, once; after that one pass over the Struct's members finds the one with the key.
+#![tactic(auto)]
+
 ghost use Rattle.std.specs.Prelude.{◌≡◌, ◌*◌, ◌≤◌, length};
 ghost use Rattle.draft.specs.Table.{row_at};
 ghost use Rattle.lookup_answer.specs.Answers.{look as lookIn, lookup as lookupIn};

@@ -1,4 +1,4 @@
--- What answers the needs and returns of the functions that say what a row answers. Assumes nothing.
+-- What answers the goals of the functions that say what a row answers. Assumes nothing.
 use mathlib.Core.Path.{◌≡◌, ap, ◌∙◌}
 use mathlib.Core.List.{List}
 use Prim.Native.Nat.{ℕ, suc, ◌-◌, ◌≤◌, ◌<◌}

@@ -1,4 +1,6 @@
 // What a member of a Struct answers, by its row: a whole number, a decimal, a yes or no, a text, or another item's row; and that in numbers.
+#![tactic(auto)]
+
 ghost use Rattle.std.specs.Prelude.{◌≡◌, ◌*◌, ◌≤◌, ◌<◌, length};
 ghost use Rattle.draft.specs.Table.{row_at};
 ghost use Rattle.lookup_answer.specs.Reports.{plus_zero, reported, report_of};
@@ -8,7 +10,7 @@ use decimal::Decimal;
 use draft::{Content, Item, Row};
 
 // Why nothing is answered: the table is not writable; the row is no Struct, or has no such member, or it is of the wrong sort; too many digits.
-#[derive(Drop)]
+#[derive(Clone, Copy)]
 pub enum Refusal {
     NotWritable,
     NoMember,
@@ -16,7 +18,7 @@ pub enum Refusal {
 }
 
 // What a member answers. Any item that is no number, yes or no, or text answers with its row.
-#[derive(Drop)]
+#[derive(Clone, Copy)]
 pub enum Answer {
     Whole(i64),
     Decimal(f64),

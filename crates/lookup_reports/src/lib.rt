@@ -1,4 +1,6 @@
 // What a lookup answered, reported to programs in C and Rust: every number that they lend is set, and the result is 0 or the refusal's number.
+#![tactic(auto)]
+
 ghost use Rattle.std.specs.Prelude.{◌≡◌};
 ghost use Rattle.lookup_answer.specs.Reports.{reported};
 ghost use Rattle.placing.specs.Placing.{at};

@@ -16,7 +16,7 @@ use Rattle.draft.specs.Bytes.{part}
 use Rattle.draft.specs.Rows.{item_of}
 use Rattle.draft.specs.Table.{from}
 use Rattle.draft.specs.Read.{Texts}
-use Rattle.draft.specs.Grammar.{Payload, holding, Cell, cell, Sent, content_cell, struct_cell, Value, integer_value, boolean_value, double_value, datetime_value, binary_value, array_value, struct_value, string_value, other_value, array, Struct, struct, Pairs, no_pairs, more_pairs, pair, other, Derives}
+use Rattle.draft.specs.Grammar.{Payload, holding, Cell, cell, Sent, content_cell, struct_cell, Value, integer_value, boolean_value, double_value, datetime_value, binary_value, array_value, struct_value, string_value, other_value, array, struct, Pairs, no_pairs, more_pairs, pair, other, Derives}
 use Rattle.draft.specs.Meaning.{says_holding, says_number, says_contents, Means, means, Realises, no_more, and_then}
 use Rattle.member.specs.declared.Found.TheVariants.{At}
 use Rattle.member.specs.Members.{member_of, members_from, is_struct, members, has_key, find}

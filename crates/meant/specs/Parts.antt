@@ -1,4 +1,4 @@
--- What the digits, places and sign of a Double's text are, by the parts that the grammar gives it. `digitsOf`, `places` and `negative` are defined for
+-- What the digits, places and sign of a Double's text are, by the parts that the grammar gives it. `digits_of`, `places` and `negative` are defined for
 -- any bytes; of a Double they are these. Assumes nothing.
 use Rattle.std.specs.Prelude.{◌≡◌, List, [], ◌∷◌, ◌++◌, ℕ, length}
 use Prim.Native.Char.{code}

@@ -1,13 +1,15 @@
 // The members of a Struct in a lent table: how many, whether two rows are one's, and the one that has a key. A member is a key's row and, behind it,
 // its value's row; the value's `end` leads to the next key. Rows are looked at by their numbers and need not be those of a writable table, in
 // which keys are distinct: where several members have the key, the first is found.
+#![tactic(auto)]
+
 ghost use Rattle.std.specs.Prelude.{◌≡◌, ◌+◌, ◌*◌, ◌≤◌, ◌<◌, length};
 ghost use Rattle.draft.specs.Table.{row_at};
 ghost use Rattle.member.specs.Members.{member_of, is_struct, has_key, members_from, members, find as findIn, same_member, is_among};
 
 // A member: the row of its key and the row of its value.
 #[repr(C)]
-#[derive(Drop)]
+#[derive(Clone, Copy)]
 pub struct Member {
     pub key: u32,
     pub value: u32,

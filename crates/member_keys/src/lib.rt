@@ -1,5 +1,7 @@
 // Reading a Struct's key: a String, noted with those of its Struct before it. See specs/Contract.antt for what becomes of the notes.
 // Assumes that the place is in the message, the rows fit the table, the codebook has its 256 words and the notes an entry for each row.
+#![tactic(auto)]
+
 ghost use Rattle.std.specs.Prelude.{◌≡◌, ◌&&◌, ◌+◌, ◌≤◌, ◌<◌, length, get_or, ltb, eqb};
 ghost use Rattle.draft.specs.Read.{string};
 ghost use Rattle.codebook.specs.Words.{book_of};

@@ -1,5 +1,7 @@
 // Many rows put in byte order of their texts: those of each half, and then both merged. `sort_front` sorts the first words of a lent slice, and
 // uses half as many behind them. n rows take n log n comparisons; where the second half belongs behind the first, one is enough.
+#![tactic(auto)]
+
 ghost use Rattle.std.specs.Prelude.{◌≡◌, ◌+◌, ◌*◌, ◌/◌, ◌≤◌, ◌<◌, length, take, drop};
 ghost use Rattle.draft.specs.Table.{row_at};
 ghost use Rattle.sorting.specs.Sorting.{key_text, sorted};

@@ -1,5 +1,7 @@
 // The message of rows of which it is known how each string is sent: how many bytes it has, its bytes into a lent output, and
 // an output filled with it and with zeros behind it.
+#![tactic(auto)]
+
 ghost use Rattle.std.specs.Prelude.{◌≡◌, ◌++◌, ◌≤◌, length, take};
 ghost use Rattle.draft.specs.Table.{row_at, from};
 ghost use Rattle.draft.specs.Written.{written};

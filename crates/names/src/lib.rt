@@ -1,4 +1,6 @@
 // Equal texts, and the names of the standard types. Assumes nothing.
+#![tactic(auto)]
+
 ghost use Rattle.std.specs.Prelude.{◌≡◌, ◌≤◌, length};
 ghost use Rattle.text.specs.Texts.{same, standard_name};
 
@@ -57,7 +59,7 @@ pub fn is_standard_name(s: &[u8]) -> bool
         | equal(s, b"boolean")
         | equal(s, b"string")
         | equal(s, b"double")
-        | equal(s, b"date_time.iso8601")
+        | equal(s, b"dateTime.iso8601")
         | equal(s, b"base64")
         | equal(s, b"struct")
         | equal(s, b"array")

@@ -1,4 +1,6 @@
 // Byte order of texts: byte by byte, and where one text begins the other, the shorter first. Eight bytes are compared as one number.
+#![tactic(auto)]
+
 ghost use Rattle.std.specs.Prelude.{◌≡◌, ◌+◌, ◌≤◌, ◌<◌, min, length};
 ghost use Rattle.order.specs.ByteOrder.{compared};
 ghost use Rattle.order.specs.Alike.{Least, Alike, Ranked};

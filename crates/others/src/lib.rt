@@ -1,5 +1,7 @@
 // Reading an Other: its type name, a String that is judged as soon as it is read, and its Binary.
 // Assumes that the place is in the message and the rows fit the table.
+#![tactic(auto)]
+
 ghost use Rattle.std.specs.Prelude.{◌≡◌, ◌+◌, ◌*◌, ◌≤◌, ◌<◌, length};
 ghost use Rattle.draft.specs.Table.{row_at};
 ghost use Rattle.draft.specs.Read.{text_of, pair, long_item, only, string, name, other_item};

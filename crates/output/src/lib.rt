@@ -1,5 +1,7 @@
 // Bytes, numbers and texts into a lent output. Each function that puts something puts its bytes to the front of the output that it is
 // lent, leaves the rest as it was, and answers how many bytes they are. One that tries puts them only if they are at most so many.
+#![tactic(auto)]
+
 ghost use Rattle.std.specs.Prelude.{[], ◌∷◌, ◌+◌, ◌≤◌, length};
 ghost use Rattle.draft.specs.Written.{lsb, counted, size};
 ghost use Rattle.copying.specs.Contract.{Front};

@@ -1,6 +1,8 @@
 // Whether parts of some bytes are well-formed UTF-8, with notes on what was passed before, so that bytes that many parts share are
 // checked once: a part costs at most 518 bytes checked and 256 notes read. See specs/Notes.antt for the notes.
 // Assumes an entry for each 256 bytes, and notes that are true.
+#![tactic(auto)]
+
 ghost use Rattle.std.specs.Prelude.{◌≡◌, ◌+◌, ◌*◌, ◌%◌, ◌≤◌, ◌<◌, length};
 ghost use Rattle.text.specs.Utf8.{well_formed};
 ghost use Rattle.passages.specs.Notes.{noted as notedBy, Notes, Passed, Judged};

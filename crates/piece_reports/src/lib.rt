@@ -1,5 +1,7 @@
 // A message in pieces, reported to programs in C and Rust. The state is six words that the caller keeps: the answer (255 if more is wanted), the rows,
 // the bytes used, the place, the bytes held and the bytes wanted.
+#![tactic(auto)]
+
 ghost use Rattle.std.specs.Prelude.{◌≡◌};
 ghost use Rattle.piece_reports.specs.Words.{answer_for, words_of, state_for, state_of, Kept};
 

@@ -1,4 +1,6 @@
 // A message in pieces: they are held in one lent room, and each is answered with more wanted, accepted or refused.
+#![tactic(auto)]
+
 ghost use Rattle.std.specs.Prelude.{◌≡◌, true, ◌≤◌, length};
 ghost use Rattle.draft.specs.Limits.{allowed};
 ghost use Rattle.pieces.specs.Steps.{number_for, refusal_for, still_more, wanted_of, Settled, Went, Closed};
@@ -8,7 +10,7 @@ use draft::Refusal;
 use read_answer::Answer;
 
 // Why a message in pieces is refused: as a whole message is, or with 4.
-#[derive(Drop)]
+#[derive(Clone, Copy)]
 pub enum PieceRefusal {
     Message(Refusal),
     ShortRoom,
@@ -16,7 +18,7 @@ pub enum PieceRefusal {
 
 // Where the reading of the pieces stands. If more is wanted: so many bytes are held; no other answer is possible while fewer than `wanted` are,
 // which is at most 65,537; and the place is that of refusal 1, if no more came.
-#[derive(Drop)]
+#[derive(Clone, Copy)]
 pub enum State {
     More {
         held: usize,

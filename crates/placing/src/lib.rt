@@ -1,4 +1,6 @@
 // What three answers are as a position for the laser station: x, y and turn, each from a Double, or why there is none.
+#![tactic(auto)]
+
 ghost use Rattle.std.specs.Prelude.{◌≡◌};
 ghost use Rattle.placing.specs.Placing.{outcome_number, coordinate_number, coordinate_value, is_any, accepted_at, refused_with, settled};
 

@@ -1,5 +1,7 @@
 // The message of rows whose strings a plan sends: how many bytes it has, its bytes into a lent output, and an output filled with it and
 // with zeros behind it. Strings are numbered in row order; of string j a lent word has the row, and the plan two bytes.
+#![tactic(auto)]
+
 ghost use Rattle.std.specs.Prelude.{◌≡◌, ◌+◌, ◌*◌, ◌≤◌, ◌<◌, length};
 ghost use Rattle.draft.specs.Table.{row_at, from};
 ghost use Rattle.draft.specs.Written.{string_bytes};

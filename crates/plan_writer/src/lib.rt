@@ -1,5 +1,7 @@
 // The writer with a plan: a table of rows and the bytes that its texts lie in, into a lent output, as the shorter of the plan's message and
 // document 01's form. Here are the refusals and their order, and which of the two is written.
+#![tactic(auto)]
+
 ghost use Rattle.std.specs.Prelude.{◌≡◌, true, ◌≤◌, length};
 ghost use Rattle.draft.specs.Limits.{allowed};
 ghost use Rattle.draft.specs.Table.{row_at, from};

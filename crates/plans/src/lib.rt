@@ -1,5 +1,7 @@
 // A plan: two bytes for each string, its form and its position. Whether it is taken, and what its strings take. Strings are numbered in
 // row order; of string j a lent word has the row.
+#![tactic(auto)]
+
 ghost use Rattle.std.specs.Prelude.{◌≡◌, ◌+◌, ◌*◌, ◌≤◌, ◌<◌, length};
 ghost use Rattle.draft.specs.Table.{row_at, from};
 ghost use Rattle.draft.specs.Strings.{costs};

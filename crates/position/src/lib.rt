@@ -1,5 +1,7 @@
 // A position for the laser station: the members x, y and turn of one Struct, each from a Double. It is what three lookups give; the table is
 // judged once for all three.
+#![tactic(auto)]
+
 ghost use Rattle.std.specs.Prelude.{◌≡◌};
 ghost use Rattle.placing.specs.Placing.{position as positionIn};
 

@@ -1,5 +1,7 @@
 // The positions of the texts that come again, and how each string is sent. Strings are numbered in row order; of each it is known which is
 // the first of its text.
+#![tactic(auto)]
+
 ghost use Rattle.std.specs.Prelude.{◌≡◌, ◌≤◌, length};
 ghost use Rattle.positions.specs.Contract.{Marked, Numbered, Placed, Ready, SentBy};
 

@@ -1,4 +1,6 @@
 // The 12 bytes with which every message begins.
+#![tactic(auto)]
+
 ghost use Rattle.std.specs.Prelude.{◌≡◌};
 ghost use Rattle.draft.specs.Read.{prefix, agree};
 

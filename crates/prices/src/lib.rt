@@ -1,5 +1,7 @@
 // What prices prove that strings cost. Strings are numbered in row order; of string j a lent word has the row, one says which string is the
 // first with its text, and one is the price of the gap after it.
+#![tactic(auto)]
+
 ghost use Rattle.std.specs.Prelude.{◌≡◌, ◌+◌, ◌≤◌, ◌<◌, length};
 ghost use Rattle.draft.specs.Table.{row_at};
 ghost use Rattle.buckets.specs.Numbered.{numbered_text, Strings, Through, Firsts};

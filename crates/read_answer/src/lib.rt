@@ -1,4 +1,6 @@
 // What reading a message answers: here is the type, in specs what a message, a limit and a table's length give.
+#![tactic(auto)]
+
 use draft::Refusal;
 
 #[derive(Drop)]

@@ -1,4 +1,6 @@
 // What reading answered, reported to programs in C and Rust: every number that they lend is set, and the result is 0 or the refusal's number.
+#![tactic(auto)]
+
 ghost use Rattle.std.specs.Prelude.{◌≡◌};
 ghost use Rattle.read_answer.specs.Answers as readers;
 ghost use Rattle.job.specs.Cards as jobs;

@@ -1,4 +1,6 @@
 // Reading a whole message into a lent table of rows. `read` assumes nothing.
+#![tactic(auto)]
+
 ghost use Rattle.std.specs.Prelude.{◌≡◌, true, length, replicate};
 ghost use Rattle.draft.specs.Limits.{allowed};
 ghost use Rattle.read_answer.specs.Answers.{reading, Answers};

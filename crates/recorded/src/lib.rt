@@ -1,5 +1,7 @@
 // Reading a String that is recorded. `book` is the codebook's 256 words.
 // Assumes that the place is in the message and the rows fit the table.
+#![tactic(auto)]
+
 ghost use Rattle.std.specs.Prelude.{◌+◌, ◌<◌, length};
 ghost use Rattle.draft.specs.Read.{recorded_item};
 ghost use Rattle.codebook.specs.Words.{book_of};

@@ -1,17 +1,15 @@
 -- A card's body lies in the file, and it is found whatever stands behind it; the next card is found from its end. Assumes nothing.
-use mathlib.Core.Path.{◌≡◌, refl, sym, ap, ◌∙◌}
+use mathlib.Core.Path.{◌≡◌, ap, ◌∙◌}
 use mathlib.Core.List.{List, ◌++◌}
-use Prim.Native.Nat.{ℕ, ◌+◌, ◌-◌, ◌≤◌, ◌<◌}
+use Prim.Native.Nat.{ℕ, ◌+◌, ◌≤◌}
 use native.Mathlib.Omega.{arith}
-use native.Mathlib.Nat.{sub-zero}
-use lib.ListN.{length, take, drop, length-append, length-drop, get_or-append}
-use lib.Seq.{drop-append-le, take-append-le, drop-drop}
-use Rattle.draft.specs.Bytes.{byte_at, part}
-use Rattle.records.specs.declared.Kind.TheVariants.{Card, Other}
+use lib.ListN.{length, take, drop, length-drop}
+use lib.Seq.{drop-append-le, take-append-le}
+use Rattle.draft.specs.Bytes.{part}
 use Rattle.records.specs.declared.Found.{Found}
 use Rattle.records.specs.declared.Found.TheVariants.{Body}
-use Rattle.records.specs.Job.{kind_at, body_length, record_length, find, body_of}
-use Rattle.records.proofs.Trails.{Trail, cut, asked, ended, wrong, passed, other, trail, step_asked, step_passed, step_other}
+use Rattle.records.specs.Job.{body_length, record_length, find, body_of}
+use Rattle.records.proofs.Trails.{Trail, cut, asked, ended, wrong, passed, other, trail}
 
 -- a body lies behind its record's first six bytes, and in the file
 pub record Lies (at start size : ℕ) (s : List ℕ) : Type 0 where

@@ -1,4 +1,6 @@
 // The records of a job file, and what one of them says to one who asks for a card.
+#![tactic(auto)]
+
 ghost use Rattle.std.specs.Prelude.{◌≡◌, cond, ◌+◌, ◌≤◌, ◌<◌, length};
 ghost use Rattle.records.specs.Job.{refusal_number, kind_at, record_length, ends_with, look_at};
 

@@ -1,5 +1,7 @@
 // Reading the bytes of a message again that was refused with 1 when there were fewer of them. A row takes a byte at least, so no more words of
 // the table are used than four for each byte until there is another answer.
+#![tactic(auto)]
+
 ghost use Rattle.std.specs.Prelude.{◌≤◌, length};
 ghost use Rattle.rereading.specs.Rereading.{table_tried, table_read, PartRead, Reread};
 

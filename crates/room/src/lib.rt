@@ -1,4 +1,6 @@
 // The room that the pieces of a message are held in: lent bytes, of which the first 65,536 are used.
+#![tactic(auto)]
+
 ghost use Rattle.std.specs.Prelude.{◌≡◌, ◌+◌, ◌≤◌, length};
 ghost use Rattle.std.proofs.Math.Seq.{paste};
 ghost use Rattle.room.specs.Room.{Held};

@@ -1,5 +1,7 @@
 // What a row says of where its item ends: where the next row begins, or, if the item holds others, where these end. The answer is the row
 // behind the item, or 0 where its row does not fit: a number stays in a register where an enum would lie in memory.
+#![tactic(auto)]
+
 ghost use Rattle.std.specs.Prelude.{◌≡◌, ◌<◌};
 ghost use Rattle.draft.specs.Writable.{closed, leaf, over, holding, integer_item, boolean_item};
 ghost use Rattle.row_ends.specs.Ends.{extent_of};

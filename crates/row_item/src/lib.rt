@@ -1,5 +1,7 @@
 // A row's item without the items that it holds, as the draft has it, put to the front of a lent output if it has at most so many bytes.
 // A string's row is none of these: how it is sent depends on those before it.
+#![tactic(auto)]
+
 ghost use Rattle.std.specs.Prelude.{◌≡◌, ◌≤◌, length, eqb};
 ghost use Rattle.draft.specs.Written.{letter as letter_of, content_bytes, item_bytes};
 ghost use Rattle.output.specs.Contract.{Tried};

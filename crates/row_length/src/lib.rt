@@ -1,5 +1,7 @@
 // How many bytes a row's item has, as the draft has it, without the items that it holds. A string's row is none of these: how it is sent
 // depends on those before it.
+#![tactic(auto)]
+
 ghost use Rattle.std.specs.Prelude.{◌≡◌, ◌≤◌, length};
 ghost use Rattle.draft.specs.Written.{content_bytes, item_bytes};
 

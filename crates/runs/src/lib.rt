@@ -1,5 +1,7 @@
 // Runs of bytes below 128, passed many at a time. Each function that passes some gives the place after them. Those that begin at a place
 // assume that it is none past the end.
+#![tactic(auto)]
+
 ghost use Rattle.std.specs.Prelude.{◌≡◌, ◌+◌, ◌≤◌, length, take, drop};
 ghost use Rattle.text.specs.Texts.{ascii};
 ghost use Rattle.text.specs.Runs.{Run};

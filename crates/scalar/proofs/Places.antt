@@ -1,13 +1,12 @@
 -- Where the reading of a Value that nests nothing ends, or is refused, is in the message. Assumes nothing.
-use mathlib.Core.Path.{◌≡◌, refl, sym, ap, ◌∙◌}
+use mathlib.Core.Path.{◌≡◌, refl}
 use mathlib.Core.Bool.{Bool, true, false, cond}
 use mathlib.Core.List.{List}
 use Prim.Native.Nat.{ℕ, ◌+◌, ◌≤◌, ◌<◌}
-use native.Mathlib.Omega.{arith}
 use lib.Dec.{leb, ltb, eqb}
 use lib.ListN.{length}
 use borrow.Author.Tests.{leb-true, ltb-true}
-use Rattle.draft.specs.declared.Refusal.TheVariants.{Ended, UnexpectedByte, NoRow}
+use Rattle.draft.specs.declared.Refusal.TheVariants.{Ended, NoRow}
 use Rattle.draft.specs.declared.Verdict.{Verdict}
 use Rattle.draft.specs.declared.Verdict.TheVariants.{Fine, Bad}
 use Rattle.draft.specs.declared.Content.{Content}

@@ -1,6 +1,5 @@
 -- A step of such a reading fits one word, and is given back by it. Assumes nothing.
-use mathlib.Core.Path.{◌≡◌, refl, sym, ap, ◌∙◌}
-use mathlib.Core.Bool.{Bool, true, false}
+use mathlib.Core.Path.{◌≡◌}
 use mathlib.Core.List.{List}
 use Prim.Native.Nat.{ℕ, ◌+◌, ◌*◌, ◌/◌, ◌%◌, ◌≤◌, ◌<◌}
 use native.Mathlib.Omega.{arith}
@@ -11,7 +10,7 @@ use Rattle.draft.specs.Refusals.{number_of}
 use Rattle.draft.specs.Codebook.{Book}
 use Rattle.draft.specs.Read.{Reading, got, refused, floor, item, tag_of}
 use Rattle.item.specs.declared.Step.{Step}
-use Rattle.item.specs.Contract.{answer, Leaves, Did, Ready}
+use Rattle.item.specs.Contract.{Did, Ready}
 use Rattle.scalar.specs.Words.{step_of}
 use Rattle.scalar.proofs.Places.{In, item_in}
 

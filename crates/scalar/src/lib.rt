@@ -2,6 +2,8 @@
 // part of each loop, all others by a call, which answers in one word: an answer of three lies in memory. Where `s` is lent on, it is a copy
 // (`let t = s;`), as in `value`.
 // Assumes that such a byte stands there, the rows fit the table and the codebook has its 256 words.
+#![tactic(auto)]
+
 ghost use Rattle.std.specs.Prelude.{◌≡◌, true, false, ◌+◌, ◌<◌, length, get_or};
 ghost use Rattle.draft.specs.Read.{floor, item, tag_of};
 ghost use Rattle.codebook.specs.Words.{book_of};

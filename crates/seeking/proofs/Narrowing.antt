@@ -64,7 +64,7 @@ Next st r = Fine r × (span r < span st)
 
 module _ (relation : Member → Relation) (named : Member → Bool) where
   module _ (st : Search) (e : Member) (low : st.low ≤ st.at) (high : st.at < st.high) where
-    narrows : Next st (stepped relation named st e)
+    pub narrows : Next st (stepped relation named st e)
     unfolding stepped
     narrows = go (relation e)
       where

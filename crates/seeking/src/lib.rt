@@ -1,11 +1,13 @@
 // A search by halves through a list of entries, as a state: which entry to look at next, between which, and what was found. The list itself is with
 // the caller, who may have one that is not in order: whatever it holds, a search ends.
+#![tactic(auto)]
+
 ghost use Rattle.std.specs.Prelude.{◌≡◌};
 ghost use Rattle.seeking.specs.Seeking.{between as betweenOf, ended as endedWith, begun};
 
 // Where a search stands: `at` is the entry to look at, between `low` and `high`, or no entry's number if the search is over; `value` is the row that
 // was found, 0 if none.
-#[derive(Drop)]
+#[derive(Clone, Copy)]
 pub struct Search {
     pub at: usize,
     pub low: usize,

@@ -1,5 +1,7 @@
 // The strings of a table's rows: their rows collected, and each string put into an output as it is sent. Strings are numbered in row
 // order; of string j a lent word has the row.
+#![tactic(auto)]
+
 ghost use Rattle.std.specs.Prelude.{◌≤◌, length};
 ghost use Rattle.draft.specs.Table.{row_at};
 ghost use Rattle.draft.specs.Written.{string_bytes};

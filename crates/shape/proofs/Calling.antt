@@ -21,7 +21,7 @@ use Rattle.draft.specs.Rows.{item_of}
 use Rattle.draft.specs.Table.{room_of, row_at, from}
 use Rattle.draft.specs.Content.{fault_rule}
 use Rattle.draft.specs.Read.{held_rows}
-use Rattle.draft.specs.Writable.{only, string, struct_item, item, nested, fault_struct, first, call_or_response, wholly, writable_within, writable, writable_to}
+use Rattle.draft.specs.Writable.{only, string, struct_item, nested, fault_struct, first, call_or_response, wholly, writable_within, writable, writable_to}
 use Rattle.row_ends.specs.Ends.{extent_of}
 use Rattle.row_ends.proofs.Ending.{none_found, some_found}
 use Rattle.extents.specs.Asked.{Ready, Checked, Walkable}

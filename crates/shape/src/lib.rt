@@ -1,4 +1,6 @@
 // Whether a table is writable: its rows are walked as a Call or a Response, from the first row to the last that is stated.
+#![tactic(auto)]
+
 ghost use Rattle.std.specs.Prelude.{◌≡◌, ◌+◌, ◌≤◌, ◌<◌, length, replicate};
 ghost use Rattle.draft.specs.Table.{row_at};
 ghost use Rattle.draft.specs.Writable.{only, string, array_item, nested, pair, fault_struct, call_or_response, writable_to, writable as writable_by};

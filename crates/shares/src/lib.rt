@@ -1,5 +1,7 @@
 // One table for two stations: rows below a row number are station four's, the rest of the whole rows five's. Here it is judged whether a row
 // number splits a table, and where a station's share of it lies. Programs in C and Rust name a station by the number 4 or 5.
+#![tactic(auto)]
+
 ghost use Rattle.std.specs.Prelude.{◌≡◌};
 ghost use Rattle.shares.specs.Share.{station_of, split_for, share_for};
 

@@ -1,5 +1,7 @@
 // Few bytes below 128: single ones from a place on, and those at the front of a text of up to 16 bytes. Each function that passes some gives
 // the place after them. A place to begin at is assumed to be none past the end.
+#![tactic(auto)]
+
 ghost use Rattle.std.specs.Prelude.{◌≡◌, ◌+◌, ◌≤◌, length, take, drop};
 ghost use Rattle.text.specs.Texts.{ascii};
 ghost use Rattle.text.specs.Runs.{Run};

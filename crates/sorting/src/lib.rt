@@ -1,5 +1,7 @@
 // Rows by the byte order of their texts: the text of a row, whether it is before another's, and few rows put in order by insertion. Many are
 // put in order by `merging`. Numbers are moved, no text is.
+#![tactic(auto)]
+
 ghost use Rattle.std.specs.Prelude.{◌≡◌, ◌*◌, ◌≤◌, ◌<◌, length, get_or};
 ghost use Rattle.draft.specs.Table.{row_at};
 ghost use Rattle.sorting.specs.Sorting.{key_text, before, settled, sorted};

@@ -1,5 +1,7 @@
 // Bytes, texts and decimal numbers put into a lent line from a place on, and the number that a word is. A function that puts something
 // answers where it ends; what the line has no room for is dropped.
+#![tactic(auto)]
+
 ghost use Rattle.std.specs.Prelude.{◌≡◌, [], ◌∷◌};
 ghost use Rattle.spelling.specs.Number.{with_digit, number_of};
 ghost use Rattle.spelling.specs.Line.{Puts, digits, pair, pairs};

@@ -1,4 +1,6 @@
 // A text's bucket: a number by which texts are spread, so that one is compared with few others.
+#![tactic(auto)]
+
 ghost use Rattle.std.specs.Prelude.{◌≡◌, ◌+◌, ◌*◌, ◌-◌, ◌≤◌, ◌<◌, ◌/◌, min, length};
 ghost use Rattle.draft.specs.Bytes.{unsigned_at, byte_at};
 ghost use Rattle.spread.specs.Buckets.{mixed, five, short, three, folded, lanes, long, rest, mixed_of, whole_of, scaled_by, bucket_of, whole_bucket_of};

@@ -1,5 +1,7 @@
 // A message in pieces for a station: into the station's share of one table. The share is lent on to the functions that take a whole table; a message
 // begins with `pieces::start`, which takes none.
+#![tactic(auto)]
+
 ghost use Rattle.std.specs.Prelude.{length};
 ghost use Rattle.station_pieces.specs.Steps.{NextFor, EndFor};
 

@@ -1,4 +1,6 @@
 // A station's share written with a plan. The share is lent on to the writer that takes a whole table.
+#![tactic(auto)]
+
 ghost use Rattle.station_plans.specs.Answers.{WroteFor};
 
 use shares::{Share, Station};

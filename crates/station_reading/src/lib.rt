@@ -1,5 +1,7 @@
 // Reading for a station: a message, or a card of a job, into the station's share of one table. The share is lent on to the functions that read into
 // a whole table.
+#![tactic(auto)]
+
 ghost use Rattle.station_reading.specs.Answers.{ReadFor, CardFor};
 
 use shares::{Share, Station};

@@ -1,5 +1,7 @@
 // What a call for a station answered, reported to programs in C and Rust: as for the call without stations; or 22, and then every number that they lend
 // is 0, but the words of a state are as they were. A station is the number 4 or 5.
+#![tactic(auto)]
+
 ghost use Rattle.std.specs.Prelude.{◌≡◌};
 ghost use Rattle.shares.specs.Share.{station_of, split_for, share_for};
 ghost use Rattle.lookup_answer.specs.Reports.{reported};
@@ -103,7 +105,7 @@ pub fn planned(answer: station_plans::Answer, size: &mut u64) -> u8
     ensures { writing.plan_report result size.new ≡ plans.report_of answer }
 {
     match answer {
-        station_plans::Answer::Answered(own) => write_reports::plans::planned(own, size),
+        station_plans::Answer::Answered(own) => write_reports::by_plan::planned(own, size),
         station_plans::Answer::NotSplit => {
             *size = 0;
             22

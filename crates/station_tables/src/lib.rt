@@ -1,4 +1,6 @@
 // A station's share as a table that stands: written, and looked up in. The share is lent on to the functions that take a whole table.
+#![tactic(auto)]
+
 ghost use Rattle.std.specs.Prelude.{◌≡◌};
 ghost use Rattle.shares.specs.Share.{on_share};
 ghost use Rattle.station_tables.specs.Answers.{WroteFor, lookup_answer, position_answer};

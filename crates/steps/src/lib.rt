@@ -1,6 +1,8 @@
 // A byte's step: from what was due of the character begun to what is due after the byte, as numbers, with no branch. What is due is a state,
 // and states are numbered by sixes: then one word has, for a class of bytes, the state after each state, six bits for each.
 // Assumes that the table of classes and the words are lent, as `byte_classes` and STEPS have them.
+#![tactic(auto)]
+
 ghost use Rattle.std.specs.Prelude.{◌≡◌, ◌+◌, ◌≤◌, length};
 ghost use Rattle.text.specs.Classes.{class_table};
 ghost use Rattle.steps.specs.States.{State, Step, Stepped, step_table};

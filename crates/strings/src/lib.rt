@@ -1,5 +1,7 @@
 // Reading a String, where nothing else is allowed: regular, recorded or recalled. `book` is the codebook's 256 words.
 // Assumes that the place is in the message and the rows fit the table.
+#![tactic(auto)]
+
 ghost use Rattle.std.specs.Prelude.{◌≡◌, ◌+◌, length, get_or};
 ghost use Rattle.draft.specs.Read.{string};
 ghost use Rattle.codebook.specs.Words.{book_of};

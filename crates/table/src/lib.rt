@@ -1,5 +1,7 @@
 // Rows in a lent table of words: its room, where a word of a row stands, a row stored and fetched, and clearing.
 // A table with room for `room` rows has four columns of so many words, kinds, a's, b's and ends; `room` is at most 4,096.
+#![tactic(auto)]
+
 ghost use Rattle.std.specs.Prelude.{◌≡◌, ◌+◌, ◌*◌, ◌≤◌, ◌<◌, length, replicate};
 ghost use Rattle.draft.specs.Table.{room_of, place, set_row, row_at};
 

@@ -1,4 +1,4 @@
--- The test `wellFormed` and RFC 3629's grammar agree: bytes are well-formed exactly if the grammar derives them. Assumes nothing.
+-- The test `well_formed` and RFC 3629's grammar agree: bytes are well-formed exactly if the grammar derives them. Assumes nothing.
 use mathlib.Core.Path.{◌≡◌, refl, sym, ap, ◌∙◌}
 use mathlib.Core.Bool.{Bool, true, false, cond}
 use mathlib.Core.List.{List, [], ◌∷◌, ◌++◌}
@@ -104,6 +104,7 @@ formed (there (there (there (there (there (here a)))))) (fit_more b (fit_more c 
 formed (there (there (there (there (there (there (here a))))))) (fit_more b (fit_more c (fit_more d fit_none))) = rw (only a) (char_4 (from_F0 (octet b) (octet c) (octet d)))
 formed (there (there (there (there (there (there (there (here a)))))))) (fit_more b (fit_more c (fit_more d fit_none))) = char_4 (from_F1_F3 a (octet b) (octet c) (octet d))
 formed (there (there (there (there (there (there (there (there (here a))))))))) (fit_more b (fit_more c (fit_more d fit_none))) = rw (only a) (char_4 (from_F4 (octet b) (octet c) (octet d)))
+formed (there (there (there (there (there (there (there (there (there x))))))))) _ = elim x [ ]
 
 -- the bytes s are what is due, and then what the grammar derives
 record Derived (ranges : List Range) (s : List ℕ) : Type 0 where

@@ -1,5 +1,7 @@
 // The text check: well-formed UTF-8 by RFC 3629, with runs of bytes below 128 passed eight at a time, and byte by byte; and that the
 // two answer the same. What a user calls assumes nothing.
+#![tactic(auto)]
+
 ghost use Rattle.std.specs.Prelude.{◌≡◌, true, drop};
 ghost use Rattle.text.specs.Utf8.{well_formed};
 ghost use Rattle.text.specs.Classes.{class_table};

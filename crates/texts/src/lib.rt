@@ -1,5 +1,7 @@
 // The texts of a message's strings: the first string of each.
 // Strings are numbered in row order; of string j a lent word has the row.
+#![tactic(auto)]
+
 ghost use Rattle.std.specs.Prelude.{◌≡◌, ◌≤◌, ◌<◌, length, replicate};
 ghost use Rattle.draft.specs.Table.{row_at};
 ghost use Rattle.buckets.specs.Numbered.{numbered_text, Strings, Through};

@@ -1,10 +1,9 @@
 -- What becomes of the notes on keys while items are read, and where the loop over them stands. Assumes nothing.
 use mathlib.Core.Path.{◌≡◌, refl, ap, ◌∙◌}
 use mathlib.Core.Bool.{Bool, true, false}
-use mathlib.Core.List.{List, [], ◌∷◌, ◌++◌}
+use mathlib.Core.List.{List, [], ◌∷◌}
 use Prim.Native.Nat.{ℕ, zero, suc, ◌+◌, ◌-◌, ◌*◌, ◌≤◌, ◌<◌, min}
 use native.Mathlib.Omega.{arith}
-use native.Mathlib.Nat.{add-zero}
 use lib.ListN.{length, get_or}
 use Rattle.draft.specs.declared.Row.{Row}
 use Rattle.draft.specs.Bytes.{unsigned_at}
@@ -12,7 +11,7 @@ use Rattle.draft.specs.Codebook.{Book}
 use Rattle.draft.specs.Strings.{Text}
 use Rattle.draft.specs.Table.{put_rows}
 use Rattle.draft.specs.Rows.{row}
-use Rattle.draft.specs.Read.{Reading, got, refused, then, Reader, floor, over, items, alike, nothing, key as key_of, member, keeping, first_text, item, tag_of}
+use Rattle.draft.specs.Read.{Reading, got, refused, Reader, floor, over, alike, key as key_of, member, keeping, first_text, item, tag_of}
 use Rattle.codebook.specs.Words.{book_of}
 use Rattle.table.proofs.Rows.{length_put_rows}
 use Rattle.table.proofs.Stored.{first_row, row_other}

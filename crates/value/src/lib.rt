@@ -5,6 +5,8 @@
 // them while it is small; so `read_value` calls what that calls: `read_sized`, called once, would become part of it.
 // Before a call in the cycle the slice is copied, `let t = s;`: `s` itself came in as two words stored singly,
 // and to lend it on from where it lies loads both at once, which waits for the stores; the copy is made of registers.
+#![tactic(auto)]
+
 ghost use Rattle.std.specs.Prelude.{◌≡◌, true, false, ◌+◌, ◌<◌, min, length, get_or};
 ghost use Rattle.draft.specs.Read.{value};
 ghost use Rattle.codebook.specs.Words.{book_of};

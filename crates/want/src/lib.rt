@@ -1,5 +1,7 @@
 // How many bytes a message that was refused with 1 has at least when its answer changes: found by the item at the refusal's place, without
 // reading again. A message has at most 65,536 bytes.
+#![tactic(auto)]
+
 ghost use Rattle.std.specs.Prelude.{◌≡◌, ◌+◌, ◌≤◌, ◌<◌, length};
 ghost use Rattle.wanting.specs.Want.{want_of};
 ghost use Rattle.want.specs.Ends.{short_end, long_end};

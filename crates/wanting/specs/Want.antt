@@ -2,7 +2,6 @@
 use Rattle.std.specs.Prelude.{ℕ, ◌+◌, cond, List, length, leb}
 use Rattle.draft.specs.declared.Tag.{Tag}
 use Rattle.draft.specs.declared.Tag.TheVariants as tag
-use Rattle.draft.specs.declared.Plain.{Plain}
 use Rattle.draft.specs.declared.Plain.TheVariants as plain
 use Rattle.draft.specs.declared.Form.TheVariants.{Regular, Recorded, Recalled}
 use Rattle.draft.specs.Bytes.{byte_at, unsigned_at}

@@ -1,5 +1,7 @@
 // What writing a table answers, and of a form that may be put how long it is or why not; in specs what a limit, a table, its texts and an output's
 // length give.
+#![tactic(auto)]
+
 ghost use Rattle.std.specs.Prelude.{◌≡◌};
 ghost use Rattle.write_answer.specs.Answers.{answer_for};
 

@@ -1,5 +1,7 @@
 // What writing answered, reported to programs in C and Rust: the length is set, and the result is 0 or the refusal's number.
-pub mod plans; // plans.rt: of writing by a plan
+#![tactic(auto)]
+
+pub mod by_plan; // by_plan.rt: of writing by a plan
 
 ghost use Rattle.std.specs.Prelude.{◌≡◌};
 ghost use Rattle.write_answer.specs.Answers as writers;

@@ -1,5 +1,7 @@
 // The writer: a table of rows and the bytes that its texts lie in, into a lent output, in the written form. Here are the refusals and their
 // order; the form itself is put by `form`.
+#![tactic(auto)]
+
 ghost use Rattle.std.specs.Prelude.{◌≡◌, true};
 ghost use Rattle.draft.specs.Limits.{allowed};
 ghost use Rattle.write_answer.specs.Answers.{Did};

@@ -24,7 +24,7 @@ use Rattle.draft.specs.Table.{from}
 use Rattle.draft.specs.Read.{Texts, text_of, held_rows}
 use Rattle.draft.specs.Writable.{fit, Walk, pair as walk_pair, items, alike, nothing, leaf, over, holding as walk-holding, integer_item, boolean_item, sized, Nest, floor, under, content_item, counted as walk-counted, array_item, only, string as walk-string, string_by, member, keeping, other_item, struct_item, item as walk-item, value, nested, fault_struct, first, call_or_response}
 use Rattle.draft.specs.Written.{lsb, counted, string_bytes}
-use Rattle.draft.specs.Grammar.{holding, number, Cell, cell, content_cell, held_cells, Sent, regular, recorded, recalled, Keeps, Call, Response, value_response, fault_response, fault, Value, integer_value, boolean_value, double_value, datetime_value, array_value, struct_value, integer, boolean_true, boolean_false, double, datetime, binary, Array, array, Values, no_values, more_values, Struct, struct, Pairs, no_pairs, more_pairs, pair, String, regular_string, recorded_string, recalled_string, string_data}
+use Rattle.draft.specs.Grammar.{holding, number, Cell, cell, content_cell, held_cells, Sent, regular, recorded, recalled, Keeps, value_response, fault_response, fault, Value, integer_value, boolean_value, double_value, datetime_value, array_value, struct_value, integer, boolean_true, boolean_false, double, datetime, binary, Array, array, Values, no_values, more_values, Struct, struct, Pairs, no_pairs, more_pairs, pair, String, regular_string, recorded_string, recalled_string, string_data}
 use Rattle.draft.specs.Meaning.{has_number, has_content, says_holding, says_number, says_contents, Means, means}
 use Rattle.exact.proofs.Standing.{long}
 use Rattle.exact.proofs.Realising.{content_has}

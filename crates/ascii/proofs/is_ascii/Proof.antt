@@ -7,16 +7,16 @@ use Rattle.text.proofs.Comparing.{Left, comparing}
 use Rattle.ascii.proofs.is_ascii.Statement.{statement}
 use Rattle.ascii.proofs.is_ascii.Tie as tie
 
-abbrev invariant-loop : tie.invariant-loop
-invariant-loop s i₀ i = Left ascii s i
+abbrev invariant-loop-i : tie.invariant-loop-i
+invariant-loop-i s i₀ i = Left ascii s i
 
-abbrev decreases-loop : tie.decreases-loop
-decreases-loop s i₀ i = length s - i
+abbrev decreases-loop-i : tie.decreases-loop-i
+decreases-loop-i s i₀ i = length s - i
 
 pub is_ascii_spec : {M : Type 1} → statement M
 is_ascii_spec = tie.close (tie.spec
-    invariant-loop
-    decreases-loop
+    invariant-loop-i
+    decreases-loop-i
     (λ c. search rules)  -- loop-holds
     (λ c. search rules)  -- shared-slice-read-is-single
     (λ c κs. search rules)  -- is-single-requires

@@ -6,16 +6,16 @@ use Rattle.buckets.proofs.Chaining.{chaining}
 use Rattle.buckets.proofs.find.Statement.{statement}
 use Rattle.buckets.proofs.find.Tie as tie
 
-abbrev invariant-loop : tie.invariant-loop
-invariant-loop table room strings text nexts newest j c₀ c = Ahead (numbered_text (row_at room table) strings text) j nexts c
+abbrev invariant-loop-c : tie.invariant-loop-c
+invariant-loop-c table room strings text nexts newest j c₀ c = Ahead (numbered_text (row_at room table) strings text) j nexts c
 
-abbrev decreases-loop : tie.decreases-loop
-decreases-loop table room strings text nexts newest j c₀ c = c
+abbrev decreases-loop-c : tie.decreases-loop-c
+decreases-loop-c table room strings text nexts newest j c₀ c = c
 
 pub find_spec : {M : Type 1} → statement M
 find_spec = tie.close (tie.spec
-    invariant-loop
-    decreases-loop
+    invariant-loop-c
+    decreases-loop-c
     (λ c. search rules)  -- loop-holds
     (λ c. search rules)  -- sub-equal-texts
     (λ c κs. search rules)  -- equal-texts-requires

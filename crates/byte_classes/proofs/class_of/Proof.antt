@@ -6,7 +6,7 @@ use borrow.Author.Rules.{rules}
 use Rattle.byte_classes.proofs.class_of.Statement.{statement}
 use Rattle.byte_classes.proofs.class_of.Tie as tie
 
-class_in_requires : tie.Need-class-in-requires
+class_in_requires : tie.Need-class_in-requires
 unfolding class_table class_of class_by within
 class_in_requires c κs = refl
 

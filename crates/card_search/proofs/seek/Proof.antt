@@ -5,16 +5,16 @@ use Rattle.card_search.proofs.Seeking.{seeking, Seeking}
 use Rattle.card_search.proofs.seek.Statement.{statement}
 use Rattle.card_search.proofs.seek.Tie as tie
 
-abbrev invariant-loop : tie.invariant-loop
-invariant-loop file number before from cards₀ at₀ cards at = Seeking file number before from cards at
+abbrev invariant-loop-at : tie.invariant-loop-at
+invariant-loop-at file number before from cards₀ at₀ cards at = Seeking file number before from cards at
 
-abbrev decreases-loop : tie.decreases-loop
-decreases-loop file number before from cards₀ at₀ cards at = length file - at
+abbrev decreases-loop-at : tie.decreases-loop-at
+decreases-loop-at file number before from cards₀ at₀ cards at = length file - at
 
 pub seek_spec : {M : Type 1} → statement M
 seek_spec = tie.close (tie.spec
-    invariant-loop
-    decreases-loop
+    invariant-loop-at
+    decreases-loop-at
     (λ c. search rules)  -- loop-holds
     (λ c. search rules)  -- sub-look-at
     (λ c. search rules)  -- part-look-at-start

@@ -6,7 +6,7 @@ use Rattle.certificate.proofs.bound_reaches.Tie as tie
 pub bound_reaches_spec : {M : Type 1} → statement M
 bound_reaches_spec = tie.close (tie.spec
     (λ c κs. search rules)  -- scan-requires
-    (λ c κs. (search rules, search rules, search rules, search rules, search rules, firsts_known c.before.before.before.before.before.before.before.before.before.scan.ensures c.before.before.if1.true))  -- price-requires
+    (λ c κs. (search rules, search rules, search rules, search rules, search rules, firsts_known c.scan.ensures c.if-scan.true))  -- price-requires
     (λ c. search (prices_fit, few_strings))  -- mul-result
     (λ c. search (sum_fits, few_strings))  -- add-result
     (λ c. search rules)  -- same-length

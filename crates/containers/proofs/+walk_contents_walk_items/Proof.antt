@@ -53,15 +53,15 @@ walk_contents_calls t = (walk_items_below t, walk-items.Post, close-over-reads.A
 abbrev walk_items_calls : ℕ → walk-items-lts.Claims
 walk_items_calls t = (walk-key-if-reads.Asked, walk-key-if-reads.Learnt, get-row-reads.Asked, get-row-reads.Learnt, holds-items-reads.Asked, holds-items-reads.Learnt, walk_contents_below t, walk-contents.Post, walk-scalar-reads.Asked, walk-scalar-reads.Learnt)
 
-abbrev walk_items_Inv_loop : walk-items-lts.invariant-loop
+abbrev walk_items_Inv_loop : walk-items-lts.invariant-loop-left
 walk_items_Inv_loop table room rows text good deep n keyed first notes₀ left₀ here₀ notes left here =
     Going text room rows table keyed (value (row_at room table) rows text deep) n first notes₀ left here notes × (length notes ≡ length notes₀)
 
-abbrev walk-items-μ-loop : walk-items-lts.decreases-loop
+abbrev walk-items-μ-loop : walk-items-lts.decreases-loop-left
 walk-items-μ-loop table room rows text good deep n keyed first notes₀ left₀ here₀ notes left here = left
 
-pub +walk-contents-walk-items-spec : {M : Type 1} → statement M
-+walk-contents-walk-items-spec = close μ-walk-contents μ-walk-items (λ t. walk-contents-lts.spec (walk_contents_calls t)
+pub +walk_contents_walk_items_spec : {M : Type 1} → statement M
++walk_contents_walk_items_spec = close μ-walk-contents μ-walk-items (λ t. walk-contents-lts.spec (walk_contents_calls t)
     (walk_contents_at t)
     walk-contents.Post
     (λ c. search walked)  -- walk-contents-returns

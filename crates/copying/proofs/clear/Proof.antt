@@ -6,16 +6,16 @@ use Prim.Native.Nat.{◌-◌}
 use Rattle.copying.proofs.clear.Statement.{statement}
 use Rattle.copying.proofs.clear.Tie as tie
 
-abbrev invariant-loop : tie.invariant-loop
-invariant-loop out₀ i₀ out i = Clearing out₀ i out
+abbrev invariant-loop-i : tie.invariant-loop-i
+invariant-loop-i out₀ i₀ out i = Clearing out₀ i out
 
-abbrev decreases-loop : tie.decreases-loop
-decreases-loop out₀ i₀ out i = length out - i
+abbrev decreases-loop-i : tie.decreases-loop-i
+decreases-loop-i out₀ i₀ out i = length out - i
 
 pub clear_spec : {M : Type 1} → statement M
 clear_spec = tie.close (tie.spec
-    invariant-loop
-    decreases-loop
+    invariant-loop-i
+    decreases-loop-i
     (λ c. search rules)  -- loop-holds
     (λ c. search rules)  -- slice-write-out
     (λ c. search rules)  -- add-i

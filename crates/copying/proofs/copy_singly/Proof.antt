@@ -5,16 +5,16 @@ use lib.ListN.{length}
 use Rattle.copying.proofs.copy_singly.Statement.{statement}
 use Rattle.copying.proofs.copy_singly.Tie as tie
 
-abbrev invariant-loop : tie.invariant-loop
-invariant-loop out₀ t i₀ out i = Copying t out₀ i out
+abbrev invariant-loop-i : tie.invariant-loop-i
+invariant-loop-i out₀ t i₀ out i = Copying t out₀ i out
 
-abbrev decreases-loop : tie.decreases-loop
-decreases-loop out₀ t i₀ out i = length t - i
+abbrev decreases-loop-i : tie.decreases-loop-i
+decreases-loop-i out₀ t i₀ out i = length t - i
 
 pub copy_singly_spec : {M : Type 1} → statement M
 copy_singly_spec = tie.close (tie.spec
-    invariant-loop
-    decreases-loop
+    invariant-loop-i
+    decreases-loop-i
     (λ c. search rules)  -- loop-holds
     (λ c. search rules)  -- shared-slice-read-out
     (λ c. search rules)  -- slice-write-out

@@ -4,7 +4,7 @@ use borrow.Author.Rules.{rules}
 use Rattle.defaults.proofs.choose.Statement.{statement}
 use Rattle.defaults.proofs.choose.Tie as tie
 
-choose_judged_requires : tie.Need-choose-judged-requires
+choose_judged_requires : tie.Need-choose_judged-requires
 choose_judged_requires c κs = (search (rows_stated), search (room_most), search (room_inside), search (rows_stated), search (room_most), search (room_inside))
 
 pub choose_spec : {M : Type 1} → statement M

@@ -5,16 +5,16 @@ use borrow.Author.Rules.{rules}
 use Rattle.encoding.proofs.put_run.Statement.{statement}
 use Rattle.encoding.proofs.put_run.Tie as tie
 
-abbrev invariant-loop : tie.invariant-loop
-invariant-loop table room first rows text most out₀ at₀ r₀ out at r = Running (row_at room table) rows text first most out₀ r at out
+abbrev invariant-loop-r : tie.invariant-loop-r
+invariant-loop-r table room first rows text most out₀ at₀ r₀ out at r = Running (row_at room table) rows text first most out₀ r at out
 
-abbrev decreases-loop : tie.decreases-loop
-decreases-loop table room first rows text most out₀ at₀ r₀ out at r = rows - r
+abbrev decreases-loop-r : tie.decreases-loop-r
+decreases-loop-r table room first rows text most out₀ at₀ r₀ out at r = rows - r
 
 pub put_run_spec : {M : Type 1} → statement M
 put_run_spec = tie.close (tie.spec
-    invariant-loop
-    decreases-loop
+    invariant-loop-r
+    decreases-loop-r
     (λ c. search running)  -- loop-holds
     (λ c κs. search rules)  -- get-row-requires
     (λ c. search rules)  -- same-length

@@ -5,8 +5,7 @@ use Rattle.fault.proofs.is_code.Tie as tie
 
 pub is_code_spec : {M : Type 1} → statement M
 is_code_spec = tie.close (tie.spec
-    (λ c. search rules)  -- slice-aggregate-is-text
-    (λ c κs. search rules)  -- is-text-requires
-    (λ c. search rules)  -- add-is-kind
-    (λ c κs. search rules)  -- is-kind-requires
+    (λ c κs. search rules)  -- is_text-requires
+    (λ c. search rules)  -- overflow_add-r
+    (λ c κs. search rules)  -- is_kind-requires
     (λ c. search judging))  -- returns

@@ -3,8 +3,8 @@ use borrow.Author.Rules.{rules}
 use Rattle.fault_struct.proofs.read_fault_struct.Statement.{statement}
 use Rattle.fault_struct.proofs.read_fault_struct.Tie as tie
 
-returns-2 : tie.Need-returns-2
-returns-2 c = fault_judged _ _ _ _ c.before.before.before.before.before.before.before.before.before.before.before.read-struct-only.ensures c.before.before.before.if1.false c.before.before.before.before.before.before.before.before.before.before.before.before.before.before.before.before.before.before.before.requires.0.fitting.table c.before.judge.ensures c.judged.ensures
+returns-2 : tie.Need-returns
+returns-2 c = fault_judged _ _ _ _ c.read_struct_only-inside.ensures c.if-inside-ne0.false c.requires.0.fitting.table c.judge-verdict.ensures c.judged.ensures
 
 pub read_fault_struct_spec : {M : Type 1} → statement M
 read_fault_struct_spec = tie.close (tie.spec

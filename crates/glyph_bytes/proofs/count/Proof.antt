@@ -5,16 +5,16 @@ use borrow.Author.Rules.{rules}
 use Rattle.glyph_bytes.proofs.count.Statement.{statement}
 use Rattle.glyph_bytes.proofs.count.Tie as tie
 
-abbrev invariant-loop : tie.invariant-loop
-invariant-loop s at i₀ value₀ i value = Counting s at i value
+abbrev invariant-loop-value : tie.invariant-loop-value
+invariant-loop-value s at i₀ value₀ i value = Counting s at i value
 
-abbrev decreases-loop : tie.decreases-loop
-decreases-loop s at i₀ value₀ i value = length s - i
+abbrev decreases-loop-value : tie.decreases-loop-value
+decreases-loop-value s at i₀ value₀ i value = length s - i
 
 pub count_spec : {M : Type 1} → statement M
 count_spec = tie.close (tie.spec
-    invariant-loop
-    decreases-loop
+    invariant-loop-value
+    decreases-loop-value
     (λ c. count_first (search rules))  -- loop-holds
     (λ c κs. search bytes)  -- digit-at-requires
     (λ c. search bytes)  -- shared-slice-read-value-of

@@ -2,16 +2,13 @@ use Rattle.glyph_item.proofs.Readings.{refused_is}
 use borrow.Author.Rules.{rules}
 use Rattle.glyph_item.proofs.refuse.Statement.{statement}
 use Rattle.glyph_item.proofs.refuse.Tie as tie
-use Rattle.glyph_item.proofs.refuse.Reads as reads
-use Rattle.glyph_item.proofs.refuse.Lts as lts
-use Rattle.glyph.proofs.number.Reads as number_reads
 
 -- src/lib.rt:12:17
 number_requires : tie.Need-number-requires
 number_requires c κs = search rules
 
 -- src/lib.rt:12:17
-cast_t4 : tie.Need-overflow-cast-t4
+cast_t4 : tie.Need-overflow_cast-result
 cast_t4 c = search rules
 
 -- src/lib.rt:8:1

@@ -3,8 +3,8 @@ use borrow.Author.Rules.{rules}
 use Rattle.glyph_keys.proofs.read_key.Statement.{statement}
 use Rattle.glyph_keys.proofs.read_key.Tie as tie
 
-returns-3 : tie.Need-returns-3
-returns-3 c = search (key_new, c.if2.false, c.before.before.before.note.ensures)
+returns-3 : tie.Need-returns
+returns-3 c = search (key_new, c.if-note.false, c.before.before.before.note.ensures)
 
 pub read_key_spec : {M : Type 1} → statement M
 read_key_spec = tie.close (tie.spec

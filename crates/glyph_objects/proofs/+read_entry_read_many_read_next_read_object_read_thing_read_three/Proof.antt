@@ -133,31 +133,31 @@ read_thing_calls t = (leaf-at-reads.Asked, leaf-at-reads.Learnt, read-in-run-rea
 abbrev read_three_calls : ℕ → read-three-lts.Claims
 read_three_calls t = (part-want-reads.Asked, part-want-reads.Learnt, read_next_below t, read_next.Post, three-kind-reads.Asked, three-kind-reads.Learnt, end-three-reads.Asked, end-three-reads.Learnt)
 
-abbrev read_many_Inv_loop : read-many-lts.invariant-loop
+abbrev read_many_Inv_loop : read-many-lts.invariant-loop-edition
 read_many_Inv_loop s at row edition many deep room table₀ notes₀ keyed owner free₀ n₀ here₀ table notes free n here =
     Going s room edition deep many here₀ row table₀ notes₀ n here free table notes × (length table ≡ length table₀) × (length notes ≡ length notes₀)
 
-abbrev read-many-μ-loop : read-many-lts.decreases-loop
+abbrev read-many-μ-loop : read-many-lts.decreases-loop-edition
 read-many-μ-loop s at row edition many deep room table₀ notes₀ keyed owner free₀ n₀ here₀ table notes free n here =
     length s - here
 
-read_many_past_blanks_requires_2 : (t : ℕ) → read-many-lts.Need-past-blanks-requires-2 (read_many_calls t) (read_many_at t) read-many.Post read_many_Inv_loop read-many-μ-loop
+read_many_past_blanks_requires_2 : (t : ℕ) → read-many-lts.Need-past_blanks-here-requires-in-loop-edition (read_many_calls t) (read_many_at t) read-many.Post read_many_Inv_loop read-many-μ-loop
 read_many_past_blanks_requires_2 t c κs =
-    thing_in c.before.before.before.before.before.before.before.before.before.before.before.loop.invariant.0 c.before.before.before.before.before.before.before.before.before.before.before.before.before.is-keyed.ensures refl c.before.before.before.before.before.before.read-entry.ensures c.if2.false
+    thing_in c.loop-edition.invariant.0 c.is_keyed-keyed.ensures refl c.read_entry-step.ensures c.if-step-ne0.false
 
-read_many_add_n : (t : ℕ) → read-many-lts.Need-overflow-add-n (read_many_calls t) (read_many_at t) read-many.Post read_many_Inv_loop read-many-μ-loop
+read_many_add_n : (t : ℕ) → read-many-lts.Need-overflow_add-n (read_many_calls t) (read_many_at t) read-many.Post read_many_Inv_loop read-many-μ-loop
 read_many_add_n t c =
-    search (rules, count_next c.before.before.before.before.before.before.before.before.before.before.before.before.loop.invariant.0 c.before.before.before.before.before.before.before.before.before.before.before.before.before.before.before.before.before.before.requires.1.1.fitting.message)
+    search (rules, count_next c.loop-edition.invariant.0 c.requires.1.1.fitting.message)
 
-abbrev read_three_Inv_loop : read-three-lts.invariant-loop
+abbrev read_three_Inv_loop : read-three-lts.invariant-loop-k
 read_three_Inv_loop s at row edition three deep room table₀ notes₀ step₀ k₀ table notes step k =
     Done (parts s (object s room edition deep) three at row k) s room (at + 1) (row + 1) table₀ table notes₀ notes step × (k ≤ 3) × (length table ≡ length table₀) × (length notes ≡ length notes₀)
 
-abbrev read-three-μ-loop : read-three-lts.decreases-loop
+abbrev read-three-μ-loop : read-three-lts.decreases-loop-k
 read-three-μ-loop s at row edition three deep room table₀ notes₀ step₀ k₀ table notes step k = 3 - k
 
-pub +read-entry-read-many-read-next-read-object-read-thing-read-three-spec : {M : Type 1} → statement M
-+read-entry-read-many-read-next-read-object-read-thing-read-three-spec =
+pub +read_entry_read_many_read_next_read_object_read_thing_read_three_spec : {M : Type 1} → statement M
++read_entry_read_many_read_next_read_object_read_thing_read_three_spec =
     close
     μ-read-entry
     μ-read-many

@@ -159,44 +159,44 @@ put_pairs_calls t = (put_pair_below t, put-pair.Post, next-row-reads.Asked, next
 abbrev put_ranked_calls : ℕ → put-ranked-lts.Claims
 put_ranked_calls t = (wide-reads.Asked, wide-reads.Learnt, put_pair_below t, put-pair.Post, put-byte-reads.Asked, put-byte-reads.Learnt)
 
-put_dict_put_ranked_requires : (t : ℕ) → put-dict-lts.Need-put-ranked-requires (put_dict_calls t) (put_dict_at t) put-dict.Post
-put_dict_put_ranked_requires t c κs = (search rules, (search rules, search adding, search rules, dict_values_ready c.before.before.before.before.before.before.before.before.before.before.before.before.before.before.requires.1.3 c.before.before.before.before.before.before.before.before.arrange.ensures (search rules)))
+put_dict_put_ranked_requires : (t : ℕ) → put-dict-lts.Need-put_ranked-requires (put_dict_calls t) (put_dict_at t) put-dict.Post
+put_dict_put_ranked_requires t c κs = (search rules, (search rules, search adding, search rules, dict_values_ready c.requires.1.3 c.arrange.ensures (search rules)))
 
-abbrev put_entries_Inv_loop : put-entries-lts.invariant-loop
+abbrev put_entries_Inv_loop : put-entries-lts.invariant-loop-left
 put_entries_Inv_loop edition table room text deep n first order₀ most at out₀ left₀ here₀ stop₀ order out left here stop =
     Listing (row_at room table) room text edition deep n first most out₀ at order₀ left here order out stop
 
-abbrev put-entries-μ-loop : put-entries-lts.decreases-loop
+abbrev put-entries-μ-loop : put-entries-lts.decreases-loop-left
 put-entries-μ-loop edition table room text deep n first order₀ most at out₀ left₀ here₀ stop₀ order out left here stop =
     left
 
-put_entries_put_container_requires : (t : ℕ) → put-entries-lts.Need-put-container-requires (put_entries_calls t) (put_entries_at t) put_entries.Post put_entries_Inv_loop put-entries-μ-loop
+put_entries_put_container_requires : (t : ℕ) → put-entries-lts.Need-put_container-stop-requires (put_entries_calls t) (put_entries_at t) put_entries.Post put_entries_Inv_loop put-entries-μ-loop
 put_entries_put_container_requires t c κs = (search rules, (search rules, search listing, search listing, search rules, search listing))
 
-put_list_put_byte_requires_2 : (t : ℕ) → put-list-lts.Need-put-byte-requires-2 (put_list_calls t) (put_list_at t) put-list.Post
-put_list_put_byte_requires_2 t c κs = run_open c.before.before.before.before.before.before.before.before.before.before.before.before.before.before.before.before.requires.1.1 c.before.before.before.before.before.before.before.before.before.before.put_byte.ensures (search rules) c.before.before.before.before.before.put_entries.ensures (search rules)
+put_list_put_byte_requires_2 : (t : ℕ) → put-list-lts.Need-put_byte-requires (put_list_calls t) (put_list_at t) put-list.Post
+put_list_put_byte_requires_2 t c κs = run_open c.requires.1.1 c.put_byte-start.ensures (search rules) c.put_entries-stop.ensures (search rules)
 
-abbrev put_pairs_Inv_loop : put-pairs-lts.invariant-loop
+abbrev put_pairs_Inv_loop : put-pairs-lts.invariant-loop-left
 put_pairs_Inv_loop edition table room text deep n first order₀ most at out₀ left₀ here₀ stop₀ order out left here stop =
     Pairing (row_at room table) room text edition deep n first most out₀ at order₀ left here order out stop
 
-abbrev put-pairs-μ-loop : put-pairs-lts.decreases-loop
+abbrev put-pairs-μ-loop : put-pairs-lts.decreases-loop-left
 put-pairs-μ-loop edition table room text deep n first order₀ most at out₀ left₀ here₀ stop₀ order out left here stop =
     left
 
-abbrev put_ranked_Inv_loop : put-ranked-lts.invariant-loop
+abbrev put_ranked_Inv_loop : put-ranked-lts.invariant-loop-i
 put_ranked_Inv_loop edition table room text deep n order₀ most at out₀ i₀ stop₀ order out i stop =
     Ranks (row_at room table) room text edition deep n most out₀ at order₀ i order out stop
 
-abbrev put-ranked-μ-loop : put-ranked-lts.decreases-loop
+abbrev put-ranked-μ-loop : put-ranked-lts.decreases-loop-i
 put-ranked-μ-loop edition table room text deep n order₀ most at out₀ i₀ stop₀ order out i stop = n - i
 
-put_ranked_loop_again : (t : ℕ) → put-ranked-lts.Need-loop-preserved (put_ranked_calls t) (put_ranked_at t) put-ranked.Post put_ranked_Inv_loop put-ranked-μ-loop
-put_ranked_loop_again t c = ranks_again c.before.before.before.before.before.before.before.before.before.before.loop.invariant c.before.before.before.before.before.before.before.before.before.loop-test.true c.before.before.before.before.before.before.before.wide.ensures c.before.before.before.before.before.before.before.before.before.before.before.before.before.before.before.requires.1.1 c.before.before.before.before.put-pair.ensures (search rules)
+put_ranked_loop_again : (t : ℕ) → put-ranked-lts.Need-loop-i-preserved (put_ranked_calls t) (put_ranked_at t) put-ranked.Post put_ranked_Inv_loop put-ranked-μ-loop
+put_ranked_loop_again t c = ranks_again c.loop-i.invariant c.loop-i-test.true c.wide-k.ensures c.requires.1.1 c.put_pair-stop.ensures (search rules)
 
-pub +put-container-put-dict-put-entries-put-list-put-ordered-put-pair-put-pairs-put-ranked-spec :
+pub +put_container_put_dict_put_entries_put_list_put_ordered_put_pair_put_pairs_put_ranked_spec :
     {M : Type 1} → statement M
-+put-container-put-dict-put-entries-put-list-put-ordered-put-pair-put-pairs-put-ranked-spec =
++put_container_put_dict_put_entries_put_list_put_ordered_put_pair_put_pairs_put_ranked_spec =
     close
     μ-put-container
     μ-put-dict

@@ -3,7 +3,7 @@ use borrow.Author.Rules.{rules}
 use Rattle.glyph_reader.proofs.read_many.Statement.{statement}
 use Rattle.glyph_reader.proofs.read_many.Tie as tie
 
-read_root_requires : tie.Need-read-root-requires
+read_root_requires : tie.Need-read_root-requires
 read_root_requires c κs = (search rules, record { behind = search rules; enough = search whole; most = search rules }, search rules)
 
 pub read_many_spec : {M : Type 1} → statement M

@@ -2,16 +2,13 @@ use Rattle.glyph_shape.proofs.Whole.{whole}
 use borrow.Author.Rules.{rules}
 use Rattle.glyph_shape.proofs.walk_root.Statement.{statement}
 use Rattle.glyph_shape.proofs.walk_root.Tie as tie
-use Rattle.glyph_shape.proofs.walk_root.Reads as reads
-use Rattle.glyph_shape.proofs.walk_root.Lts as lts
-use Rattle.glyph_walks.proofs.walk_object.Reads as walk-object-reads
 
 -- src/lib.rt:33:5
-walk_object_requires : tie.Need-walk-object-requires
+walk_object_requires : tie.Need-walk_object-requires
 walk_object_requires c κs = search whole
 
 -- src/lib.rt:20:1
-same_length : tie.Need-same-length
+same_length : tie.Need-shape_of-notes
 same_length c = search rules
 
 -- src/lib.rt:20:1

@@ -65,16 +65,16 @@ walk_container_calls t = (may-hold-reads.Asked, may-hold-reads.Learnt, is-dict-r
 abbrev walk_entries_calls : ℕ → walk-entries-lts.Claims
 walk_entries_calls t = (dict-key-if-reads.Asked, dict-key-if-reads.Learnt, get-row-reads.Asked, get-row-reads.Learnt, holds-reads.Asked, holds-reads.Learnt, walk_container_below t, walk-container.Post, walk-leaf-reads.Asked, walk-leaf-reads.Learnt)
 
-abbrev walk_entries_Inv_loop : walk-entries-lts.invariant-loop
+abbrev walk_entries_Inv_loop : walk-entries-lts.invariant-loop-left
 walk_entries_Inv_loop edition table room rows text good deep n keyed first notes₀ left₀ here₀ notes left here =
     Going text room rows table keyed (object (row_at room table) rows text edition deep Any) n first notes₀ left here notes × (length notes ≡ length notes₀)
 
-abbrev walk-entries-μ-loop : walk-entries-lts.decreases-loop
+abbrev walk-entries-μ-loop : walk-entries-lts.decreases-loop-left
 walk-entries-μ-loop edition table room rows text good deep n keyed first notes₀ left₀ here₀ notes left here =
     left
 
-pub +walk-container-walk-entries-spec : {M : Type 1} → statement M
-+walk-container-walk-entries-spec =
+pub +walk_container_walk_entries_spec : {M : Type 1} → statement M
++walk_container_walk_entries_spec =
     close μ-walk-container μ-walk-entries (λ t. walk-container-lts.spec (walk_container_calls t)
     (walk_container_at t)
     walk-container.Post

@@ -3,8 +3,8 @@ use borrow.Author.Rules.{rules}
 use Rattle.index.proofs.entry_in.Statement.{statement}
 use Rattle.index.proofs.entry_in.Tie as tie
 
-returns : tie.Need-returns
-returns c = entry_past c.before.args.t1.rows c.before.args.i (search rules) (search rules)
+returns : tie.Need-returns-then-i-ge-KEPT
+returns c = entry_past c.args.order.rows c.args.i (search rules) (search rules)
 
 pub entry_in_spec : {M : Type 1} → statement M
 entry_in_spec = tie.close (tie.spec

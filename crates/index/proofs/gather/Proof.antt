@@ -4,16 +4,16 @@ use Rattle.index.proofs.Arranging.{Gathering, gathering}
 use Rattle.index.proofs.gather.Statement.{statement}
 use Rattle.index.proofs.gather.Tie as tie
 
-abbrev invariant-loop : tie.invariant-loop
-invariant-loop table room rows n first order₀ left₀ here₀ c₀ order left here c = Gathering (row_at room table) rows n first left here c order
+abbrev invariant-loop-left : tie.invariant-loop-left
+invariant-loop-left table room rows n first order₀ left₀ here₀ c₀ order left here c = Gathering (row_at room table) rows n first left here c order
 
-abbrev decreases-loop : tie.decreases-loop
-decreases-loop table room rows n first order₀ left₀ here₀ c₀ order left here c = left
+abbrev decreases-loop-left : tie.decreases-loop-left
+decreases-loop-left table room rows n first order₀ left₀ here₀ c₀ order left here c = left
 
 pub gather_spec : {M : Type 1} → statement M
 gather_spec = tie.close (tie.spec
-    invariant-loop
-    decreases-loop
+    invariant-loop-left
+    decreases-loop-left
     (λ c. search gathering)  -- loop-holds
     (λ c. search gathering)  -- same-length
     (λ c. search gathering)  -- returns

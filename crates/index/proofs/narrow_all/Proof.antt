@@ -6,16 +6,16 @@ use Rattle.index.proofs.Storing.{Narrowing, all_narrowed}
 use Rattle.index.proofs.narrow_all.Statement.{statement}
 use Rattle.index.proofs.narrow_all.Tie as tie
 
-abbrev invariant-loop : tie.invariant-loop
-invariant-loop words rows₀ i₀ rows i = Narrowing (λ j. narrowed (get_or words j 0)) rows₀ i rows
+abbrev invariant-loop-i : tie.invariant-loop-i
+invariant-loop-i words rows₀ i₀ rows i = Narrowing (λ j. narrowed (get_or words j 0)) rows₀ i rows
 
-abbrev decreases-loop : tie.decreases-loop
-decreases-loop words rows₀ i₀ rows i = length rows₀ - i
+abbrev decreases-loop-i : tie.decreases-loop-i
+decreases-loop-i words rows₀ i₀ rows i = length rows₀ - i
 
 pub narrow_all_spec : {M : Type 1} → statement M
 narrow_all_spec = tie.close (tie.spec
-    invariant-loop
-    decreases-loop
+    invariant-loop-i
+    decreases-loop-i
     (λ c. search all_narrowed)  -- loop-holds
     (λ c. search rules)  -- mul-narrow
     (λ c. search all_narrowed)  -- shared-slice-read-narrow

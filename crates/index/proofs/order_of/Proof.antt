@@ -5,12 +5,12 @@ use Rattle.index.proofs.order_of.Statement.{statement}
 use Rattle.index.proofs.order_of.Tie as tie
 
 -- the new array holds no key row
-judged_order_requires : tie.Need-judged-order-requires
+judged_order_requires : tie.Need-judged_order-answer-requires
 unfolding padded
 judged_order_requires c κs = search rules
 
 returns : tie.Need-returns
-returns c = ordered_so c.before.before.before.before.before.judged-order.ensures c.before.narrow-all.ensures
+returns c = ordered_so c.before.before.before.before.before.judged_order-answer.ensures c.before.narrow_all.ensures
 
 pub order_of_spec : {M : Type 1} → statement M
 order_of_spec = tie.close (tie.spec

@@ -9,5 +9,5 @@ number_at_spec = tie.close (tie.spec
     (λ c. search asking)  -- returns
     (λ c. search rules)  -- mul-result
     (λ c. search rules)  -- shared-slice-read-result
-    (λ c. omega (arith, c.shared-slice-known.given c.before.before.args.i))  -- cast-result
+    (λ c. omega (arith, c.shared_slice_known-1.given c.args.i))  -- cast-result
     (λ c. search rules))  -- returns-2

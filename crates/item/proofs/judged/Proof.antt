@@ -1,4 +1,4 @@
-use Rattle.item.proofs.Items.{rules}
+use Rattle.item.proofs.Items.{judging}
 use borrow.Author.Rules.{rules}
 use Rattle.item.proofs.judged.Statement.{statement}
 use Rattle.item.proofs.judged.Tie as tie
@@ -8,5 +8,5 @@ judged_spec = tie.close (tie.spec
     (λ c. search rules)  -- enum-known-verdict
     (λ c κs. search rules)  -- refuse-requires
     (λ c. search rules)  -- enum-told
-    (λ c. search rules)  -- returns
+    (λ c. search judging)  -- returns
     (λ c. search rules))  -- returns-2

@@ -7,16 +7,16 @@ use borrow.Author.Rules.{rules}
 use Rattle.key_order.proofs.gather.Statement.{statement}
 use Rattle.key_order.proofs.gather.Tie as tie
 
-abbrev invariant-loop : tie.invariant-loop
-invariant-loop table room first rows₀ i₀ here₀ rows i here = Gathering (row_at room table) room (length rows₀) first i here rows
+abbrev invariant-loop-i : tie.invariant-loop-i
+invariant-loop-i table room first rows₀ i₀ here₀ rows i here = Gathering (row_at room table) room (length rows₀) first i here rows
 
-abbrev decreases-loop : tie.decreases-loop
-decreases-loop table room first rows₀ i₀ here₀ rows i here = length rows - i
+abbrev decreases-loop-i : tie.decreases-loop-i
+decreases-loop-i table room first rows₀ i₀ here₀ rows i here = length rows - i
 
 pub gather_spec : {M : Type 1} → statement M
 gather_spec = tie.close (tie.spec
-    invariant-loop
-    decreases-loop
+    invariant-loop-i
+    decreases-loop-i
     (λ c. search gathering)  -- loop-holds
     (λ c. search gathering)  -- cast-rows
     (λ c. search rules)  -- mul-rows

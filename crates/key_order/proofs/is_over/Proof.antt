@@ -7,16 +7,16 @@ use Rattle.sorting.specs.Sorting.{key_text}
 use Rattle.key_order.proofs.is_over.Statement.{statement}
 use Rattle.key_order.proofs.is_over.Tie as tie
 
-abbrev invariant-loop : tie.invariant-loop
-invariant-loop table room text most rows left₀ i₀ left i = Counting (key_text room (row_at room table) text) most rows i left
+abbrev invariant-loop-i : tie.invariant-loop-i
+invariant-loop-i table room text most rows left₀ i₀ left i = Counting (key_text room (row_at room table) text) most rows i left
 
-abbrev decreases-loop : tie.decreases-loop
-decreases-loop table room text most rows left₀ i₀ left i = length rows - i
+abbrev decreases-loop-i : tie.decreases-loop-i
+decreases-loop-i table room text most rows left₀ i₀ left i = length rows - i
 
 pub is_over_spec : {M : Type 1} → statement M
 is_over_spec = tie.close (tie.spec
-    invariant-loop
-    decreases-loop
+    invariant-loop-i
+    decreases-loop-i
     (λ c. search counting)  -- loop-holds
     (λ c. search rules)  -- mul-wide
     (λ c. search rules)  -- shared-slice-read-wide

@@ -4,16 +4,16 @@ use Rattle.keys.specs.Notes.{named, Ahead}
 use Rattle.keys.proofs.find.Statement.{statement}
 use Rattle.keys.proofs.find.Tie as tie
 
-abbrev invariant-loop : tie.invariant-loop
-invariant-loop s table room notes owner row newest key c₀ c = Ahead (named s room table) notes owner row c key
+abbrev invariant-loop-c : tie.invariant-loop-c
+invariant-loop-c s table room notes owner row newest key c₀ c = Ahead (named s room table) notes owner row c key
 
-abbrev decreases-loop : tie.decreases-loop
-decreases-loop s table room notes owner row newest key c₀ c = c
+abbrev decreases-loop-c : tie.decreases-loop-c
+decreases-loop-c s table room notes owner row newest key c₀ c = c
 
 pub find_spec : {M : Type 1} → statement M
 find_spec = tie.close (tie.spec
-    invariant-loop
-    decreases-loop
+    invariant-loop-c
+    decreases-loop-c
     (λ c. search rules)  -- loop-holds
     (λ c. search rules)  -- sub-k
     (λ c κs. (search noting, search rules))  -- is-key-requires

@@ -3,11 +3,11 @@ use borrow.Author.Rules.{rules}
 use Rattle.keys.proofs.note_in.Statement.{statement}
 use Rattle.keys.proofs.note_in.Tie as tie
 
-returns-2 : tie.Need-returns-2
+returns-2 : tie.Need-returns
 returns-2 c =
-    let found = c.before.before.before.before.before in
-    let pre = found.before.before.before.before.before.before.before.before.requires in
-    note_new pre.2 pre.1 pre.3 found.before.before.text_of.ensures found.find.ensures c.before.before.before.before.if1.false c.before.before.join.ensures
+    let found = c in
+    let pre = found.requires in
+    note_new pre.2 pre.1 pre.3 found.text_of-key.ensures found.find.ensures c.if-find.false c.join.ensures
 
 pub note_in_spec : {M : Type 1} → statement M
 note_in_spec = tie.close (tie.spec

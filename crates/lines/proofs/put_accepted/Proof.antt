@@ -5,9 +5,7 @@ use Rattle.lines.proofs.put_accepted.Tie as tie
 
 pub put_accepted_spec : {M : Type 1} → statement M
 put_accepted_spec = tie.close (tie.spec
-    (λ c. search rules)  -- slice-aggregate-put-pairs
-    (λ c. search rules)  -- slice-aggregate-put-pairs-2
-    (λ c κs. search rules)  -- put-pairs-requires
-    (λ c κs. search rules)  -- put-byte-requires
-    (λ c. search rules)  -- same-length
+    (λ c κs. search rules)  -- put_pairs-end-requires
+    (λ c κs. search rules)  -- put_byte-requires
+    (λ c. search rules)  -- shape_of-line
     (λ c. search joining))  -- returns

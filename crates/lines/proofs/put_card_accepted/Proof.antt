@@ -5,11 +5,8 @@ use Rattle.lines.proofs.put_card_accepted.Tie as tie
 
 pub put_card_accepted_spec : {M : Type 1} → statement M
 put_card_accepted_spec = tie.close (tie.spec
-    (λ c. search rules)  -- slice-aggregate-put-pairs
-    (λ c. search rules)  -- slice-aggregate-put-pairs-2
-    (λ c κs. search rules)  -- put-pairs-requires
-    (λ c. search rules)  -- slice-aggregate-put-pair
-    (λ c κs. search rules)  -- put-pair-requires
-    (λ c κs. search rules)  -- put-byte-requires
-    (λ c. search rules)  -- same-length
+    (λ c κs. search rules)  -- put_pairs-end-requires
+    (λ c κs. search rules)  -- put_pair-end-requires
+    (λ c κs. search rules)  -- put_byte-requires
+    (λ c. search rules)  -- shape_of-line
     (λ c. search joining))  -- returns

@@ -5,8 +5,7 @@ use Rattle.lines.proofs.put_count.Tie as tie
 
 pub put_count_spec : {M : Type 1} → statement M
 put_count_spec = tie.close (tie.spec
-    (λ c. search rules)  -- slice-aggregate-put-pair
-    (λ c κs. search rules)  -- put-pair-requires
-    (λ c κs. search rules)  -- put-byte-requires
-    (λ c. search rules)  -- same-length
+    (λ c κs. search rules)  -- put_pair-end-requires
+    (λ c κs. search rules)  -- put_byte-requires
+    (λ c. search rules)  -- shape_of-line
     (λ c. search joining))  -- returns

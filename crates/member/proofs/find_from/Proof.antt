@@ -4,16 +4,16 @@ use Rattle.draft.specs.Table.{row_at}
 use Rattle.member.proofs.find_from.Statement.{statement}
 use Rattle.member.proofs.find_from.Tie as tie
 
-abbrev invariant-loop : tie.invariant-loop
-invariant-loop table room rows text key n first left₀ here₀ left here = Left (row_at room table) rows text key n first left here
+abbrev invariant-loop-left : tie.invariant-loop-left
+invariant-loop-left table room rows text key n first left₀ here₀ left here = Left (row_at room table) rows text key n first left here
 
-abbrev decreases-loop : tie.decreases-loop
-decreases-loop table room rows text key n first left₀ here₀ left here = left
+abbrev decreases-loop-left : tie.decreases-loop-left
+decreases-loop-left table room rows text key n first left₀ here₀ left here = left
 
 pub find_from_spec : {M : Type 1} → statement M
 find_from_spec = tie.close (tie.spec
-    invariant-loop
-    decreases-loop
+    invariant-loop-left
+    decreases-loop-left
     (λ c. search walking)  -- loop-holds
     (λ c. search walking)  -- returns
     (λ c. search rules)  -- add-value

@@ -4,16 +4,16 @@ use Rattle.draft.specs.Table.{row_at}
 use Rattle.member.proofs.is_among.Statement.{statement}
 use Rattle.member.proofs.is_among.Tie as tie
 
-abbrev invariant-loop : tie.invariant-loop
-invariant-loop table room rows m n first left₀ here₀ left here = Seeking (row_at room table) rows m n first left here
+abbrev invariant-loop-left : tie.invariant-loop-left
+invariant-loop-left table room rows m n first left₀ here₀ left here = Seeking (row_at room table) rows m n first left here
 
-abbrev decreases-loop : tie.decreases-loop
-decreases-loop table room rows m n first left₀ here₀ left here = left
+abbrev decreases-loop-left : tie.decreases-loop-left
+decreases-loop-left table room rows m n first left₀ here₀ left here = left
 
 pub is_among_spec : {M : Type 1} → statement M
 is_among_spec = tie.close (tie.spec
-    invariant-loop
-    decreases-loop
+    invariant-loop-left
+    decreases-loop-left
     (λ c. search seeking)  -- loop-holds
     (λ c. search seeking)  -- returns
     (λ c. search rules)  -- add-value

@@ -23,8 +23,8 @@ sort_below t = and 3 sort-kinds.ps (falls 3 sort-kinds.ps ◌<◌ μ-sort t) sor
 abbrev sort_calls : ℕ → sort-lts.Claims
 sort_calls t = (sort-few-reads.Asked, sort-few-reads.Learnt, sort_below t, sort.Post, join-reads.Asked, join-reads.Learnt)
 
-pub +sort-spec : {M : Type 1} → statement M
-+sort-spec = close μ-sort λ t. sort-lts.spec (sort_calls t)
+pub +sort_spec : {M : Type 1} → statement M
++sort_spec = close μ-sort λ t. sort-lts.spec (sort_calls t)
     (sort_at t)
     sort.Post
     (λ c. search rules)  -- sort-sub-sort-few

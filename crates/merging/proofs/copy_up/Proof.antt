@@ -4,16 +4,16 @@ use Rattle.merging.proofs.Words.{Copying, copying}
 use Rattle.merging.proofs.copy_up.Statement.{statement}
 use Rattle.merging.proofs.copy_up.Tie as tie
 
-abbrev invariant-loop : tie.invariant-loop
-invariant-loop words₀ n z i₀ words i = Copying words₀ n z i words
+abbrev invariant-loop-i : tie.invariant-loop-i
+invariant-loop-i words₀ n z i₀ words i = Copying words₀ n z i words
 
-abbrev decreases-loop : tie.decreases-loop
-decreases-loop words₀ n z i₀ words i = n - i
+abbrev decreases-loop-i : tie.decreases-loop-i
+decreases-loop-i words₀ n z i₀ words i = n - i
 
 pub copy_up_spec : {M : Type 1} → statement M
 copy_up_spec = tie.close (tie.spec
-    invariant-loop
-    decreases-loop
+    invariant-loop-i
+    decreases-loop-i
     (λ c. search copying)  -- loop-holds
     (λ c. search rules)  -- mul-words
     (λ c. search copying)  -- slice-read-words

@@ -6,16 +6,16 @@ use Rattle.merging.proofs.Words.{Merging, merging}
 use Rattle.merging.proofs.merge_runs.Statement.{statement}
 use Rattle.merging.proofs.merge_runs.Tie as tie
 
-abbrev invariant-loop : tie.invariant-loop
-invariant-loop table room text words₀ half n z i₀ j₀ words i j = Merging (key_text room (row_at room table) text) half n z words₀ i j words
+abbrev invariant-loop-i : tie.invariant-loop-i
+invariant-loop-i table room text words₀ half n z i₀ j₀ words i j = Merging (key_text room (row_at room table) text) half n z words₀ i j words
 
-abbrev decreases-loop : tie.decreases-loop
-decreases-loop table room text words₀ half n z i₀ j₀ words i j = (half + n) - (i + j)
+abbrev decreases-loop-i : tie.decreases-loop-i
+decreases-loop-i table room text words₀ half n z i₀ j₀ words i j = (half + n) - (i + j)
 
 pub merge_runs_spec : {M : Type 1} → statement M
 merge_runs_spec = tie.close (tie.spec
-    invariant-loop
-    decreases-loop
+    invariant-loop-i
+    decreases-loop-i
     (λ c. search merging)  -- loop-holds
     (λ c κs. (search rules, search rules, search merging, search rules))  -- take-next-requires
     (λ c. search (rules, merging))  -- add-j

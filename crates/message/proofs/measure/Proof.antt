@@ -5,16 +5,16 @@ use Rattle.message.proofs.Writing.{measuring, Measuring}
 use Rattle.message.proofs.measure.Statement.{statement}
 use Rattle.message.proofs.measure.Tie as tie
 
-abbrev invariant-loop : tie.invariant-loop
-invariant-loop table room rows text strings firsts spots sum₀ j₀ r₀ sum j r = Measuring (row_at room table) rows text strings firsts spots r j sum
+abbrev invariant-loop-r : tie.invariant-loop-r
+invariant-loop-r table room rows text strings firsts spots sum₀ j₀ r₀ sum j r = Measuring (row_at room table) rows text strings firsts spots r j sum
 
-abbrev decreases-loop : tie.decreases-loop
-decreases-loop table room rows text strings firsts spots sum₀ j₀ r₀ sum j r = rows - r
+abbrev decreases-loop-r : tie.decreases-loop-r
+decreases-loop-r table room rows text strings firsts spots sum₀ j₀ r₀ sum j r = rows - r
 
 pub measure_spec : {M : Type 1} → statement M
 measure_spec = tie.close (tie.spec
-    invariant-loop
-    decreases-loop
+    invariant-loop-r
+    decreases-loop-r
     (λ c. search measuring)  -- loop-holds
     (λ c κs. search rules)  -- get-row-requires
     (λ c κs. search measuring)  -- row-length-requires

@@ -5,16 +5,16 @@ use Rattle.message.proofs.Writing.{writing, Writing}
 use Rattle.message.proofs.put_items.Statement.{statement}
 use Rattle.message.proofs.put_items.Tie as tie
 
-abbrev invariant-loop : tie.invariant-loop
-invariant-loop table room rows text strings firsts spots most output₀ at₀ j₀ sent₀ output at j sent = Writing (row_at room table) rows text strings firsts spots most output₀ sent j at output
+abbrev invariant-loop-sent : tie.invariant-loop-sent
+invariant-loop-sent table room rows text strings firsts spots most output₀ at₀ j₀ sent₀ output at j sent = Writing (row_at room table) rows text strings firsts spots most output₀ sent j at output
 
-abbrev decreases-loop : tie.decreases-loop
-decreases-loop table room rows text strings firsts spots most output₀ at₀ j₀ sent₀ output at j sent = rows - sent
+abbrev decreases-loop-sent : tie.decreases-loop-sent
+decreases-loop-sent table room rows text strings firsts spots most output₀ at₀ j₀ sent₀ output at j sent = rows - sent
 
 pub put_items_spec : {M : Type 1} → statement M
 put_items_spec = tie.close (tie.spec
-    invariant-loop
-    decreases-loop
+    invariant-loop-sent
+    decreases-loop-sent
     (λ c. search writing)  -- loop-holds
     (λ c κs. search rules)  -- get-row-requires
     (λ c. search writing)  -- sub-left

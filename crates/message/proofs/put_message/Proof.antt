@@ -5,9 +5,8 @@ use Rattle.message.proofs.put_message.Tie as tie
 
 pub put_message_spec : {M : Type 1} → statement M
 put_message_spec = tie.close (tie.spec
-    (λ c. search whole)  -- returns
-    (λ c. search rules)  -- slice-aggregate-put-bytes
-    (λ c κs. search rules)  -- put-bytes-requires
-    (λ c κs. (search rules, search rules, search whole, search rules))  -- put-items-requires
-    (λ c. search rules)  -- same-length
-    (λ c. search whole))  -- returns-2
+    (λ c. search whole)  -- returns-then-most-lt12
+    (λ c κs. search rules)  -- put_bytes-requires
+    (λ c κs. (search rules, search rules, search whole, search rules))  -- put_items-requires
+    (λ c. search rules)  -- shape_of-output
+    (λ c. search whole))  -- returns

@@ -6,16 +6,16 @@ use Rattle.text.proofs.Comparing.{BothLeft, comparing}
 use Rattle.names.proofs.equal_short.Statement.{statement}
 use Rattle.names.proofs.equal_short.Tie as tie
 
-abbrev invariant-loop : tie.invariant-loop
-invariant-loop a b k₀ k = BothLeft a b k
+abbrev invariant-loop-k : tie.invariant-loop-k
+invariant-loop-k a b k₀ k = BothLeft a b k
 
-abbrev decreases-loop : tie.decreases-loop
-decreases-loop a b k₀ k = length a - k
+abbrev decreases-loop-k : tie.decreases-loop-k
+decreases-loop-k a b k₀ k = length a - k
 
 pub equal_short_spec : {M : Type 1} → statement M
 equal_short_spec = tie.close (tie.spec
-    invariant-loop
-    decreases-loop
+    invariant-loop-k
+    decreases-loop-k
     (λ c. search rules)  -- loop-holds
     (λ c. search rules)  -- shared-slice-read-if2
     (λ c. search rules)  -- shared-slice-read-if2-2

@@ -6,22 +6,13 @@ use Rattle.names.proofs.is_standard_name.Tie as tie
 
 pub is_standard_name_spec : {M : Type 1} → statement M
 is_standard_name_spec = tie.close (tie.spec
-    (λ c. search rules)  -- slice-aggregate-equal
     (λ c κs. search rules)  -- equal-requires
-    (λ c. search rules)  -- slice-aggregate-equal-2
     (λ c κs. search rules)  -- equal-requires-2
-    (λ c. search rules)  -- slice-aggregate-equal-3
     (λ c κs. search rules)  -- equal-requires-3
-    (λ c. search rules)  -- slice-aggregate-equal-4
     (λ c κs. search rules)  -- equal-requires-4
-    (λ c. search rules)  -- slice-aggregate-equal-5
     (λ c κs. search rules)  -- equal-requires-5
-    (λ c. search rules)  -- slice-aggregate-equal-6
     (λ c κs. search rules)  -- equal-requires-6
-    (λ c. search rules)  -- slice-aggregate-equal-7
     (λ c κs. search rules)  -- equal-requires-7
-    (λ c. search rules)  -- slice-aggregate-equal-8
     (λ c κs. search rules)  -- equal-requires-8
-    (λ c. search rules)  -- slice-aggregate-equal-9
     (λ c κs. search rules)  -- equal-requires-9
     (λ c. search comparing))  -- returns

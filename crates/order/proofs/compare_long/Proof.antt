@@ -4,16 +4,16 @@ use borrow.Author.Rules.{rules}
 use Rattle.order.proofs.compare_long.Statement.{statement}
 use Rattle.order.proofs.compare_long.Tie as tie
 
-abbrev invariant-loop : tie.invariant-loop
-invariant-loop a b least last k₀ k = ByEights a b least last k
+abbrev invariant-loop-k : tie.invariant-loop-k
+invariant-loop-k a b least last k₀ k = ByEights a b least last k
 
-abbrev decreases-loop : tie.decreases-loop
-decreases-loop a b least last k₀ k = last - k
+abbrev decreases-loop-k : tie.decreases-loop-k
+decreases-loop-k a b least last k₀ k = last - k
 
 pub compare_long_spec : {M : Type 1} → statement M
 compare_long_spec = tie.close (tie.spec
-    invariant-loop
-    decreases-loop
+    invariant-loop-k
+    decreases-loop-k
     (λ c. search rules)  -- sub-last
     (λ c. search (rules, by_eights))  -- loop-holds
     (λ c κs. search (rules, by_eights))  -- rank-at-requires

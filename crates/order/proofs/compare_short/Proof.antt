@@ -4,16 +4,16 @@ use borrow.Author.Rules.{rules}
 use Rattle.order.proofs.compare_short.Statement.{statement}
 use Rattle.order.proofs.compare_short.Tie as tie
 
-abbrev invariant-loop : tie.invariant-loop
-invariant-loop a b least k₀ k = Bytewise a b least k
+abbrev invariant-loop-k : tie.invariant-loop-k
+invariant-loop-k a b least k₀ k = Bytewise a b least k
 
-abbrev decreases-loop : tie.decreases-loop
-decreases-loop a b least k₀ k = least - k
+abbrev decreases-loop-k : tie.decreases-loop-k
+decreases-loop-k a b least k₀ k = least - k
 
 pub compare_short_spec : {M : Type 1} → statement M
 compare_short_spec = tie.close (tie.spec
-    invariant-loop
-    decreases-loop
+    invariant-loop-k
+    decreases-loop-k
     (λ c. search bytewise)  -- loop-holds
     (λ c. search bytewise)  -- shared-slice-read-if1
     (λ c. search bytewise)  -- shared-slice-read-if1-2

@@ -3,7 +3,7 @@ use borrow.Author.Rules.{rules}
 use Rattle.others.proofs.read_name_and_binary.Statement.{statement}
 use Rattle.others.proofs.read_name_and_binary.Tie as tie
 
-read_binary_requires : tie.Need-read-binary-requires
+read_binary_requires : tie.Need-read_binary-requires
 read_binary_requires c κs = record { within = search others; fits = search others; rows = search rules; table = search rules; message = search rules }
 
 pub read_name_and_binary_spec : {M : Type 1} → statement M

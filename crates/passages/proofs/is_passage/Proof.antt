@@ -6,16 +6,16 @@ use Rattle.passages.proofs.Passing.{passing, Going}
 use Rattle.passages.proofs.is_passage.Statement.{statement}
 use Rattle.passages.proofs.is_passage.Tie as tie
 
-abbrev invariant-loop : tie.invariant-loop
-invariant-loop s from to notes₀ here₀ notes here = Going s notes from to here × (length notes ≡ length notes₀)
+abbrev invariant-loop-here : tie.invariant-loop-here
+invariant-loop-here s from to notes₀ here₀ notes here = Going s notes from to here × (length notes ≡ length notes₀)
 
-abbrev decreases-loop : tie.decreases-loop
-decreases-loop s from to notes₀ here₀ notes here = to - here
+abbrev decreases-loop-here : tie.decreases-loop-here
+decreases-loop-here s from to notes₀ here₀ notes here = to - here
 
 pub is_passage_spec : {M : Type 1} → statement M
 is_passage_spec = tie.close (tie.spec
-    invariant-loop
-    decreases-loop
+    invariant-loop-here
+    decreases-loop-here
     (λ c. (search passing, refl))  -- loop-holds
     (λ c. search rules)  -- sub-loop
     (λ c κs. (search rules, search passing))  -- pass-requires

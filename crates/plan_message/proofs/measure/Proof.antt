@@ -5,19 +5,19 @@ use borrow.Author.Rules.{rules}
 use Rattle.plan_message.proofs.measure.Statement.{statement}
 use Rattle.plan_message.proofs.measure.Tie as tie
 
-abbrev invariant-loop : tie.invariant-loop
-invariant-loop table room rows text strings plan sum₀ j₀ r₀ sum j r = Measuring (row_at room table) rows text strings plan r j sum
+abbrev invariant-loop-r : tie.invariant-loop-r
+invariant-loop-r table room rows text strings plan sum₀ j₀ r₀ sum j r = Measuring (row_at room table) rows text strings plan r j sum
 
-abbrev decreases-loop : tie.decreases-loop
-decreases-loop table room rows text strings plan sum₀ j₀ r₀ sum j r = rows - r
+abbrev decreases-loop-r : tie.decreases-loop-r
+decreases-loop-r table room rows text strings plan sum₀ j₀ r₀ sum j r = rows - r
 
-loop-again : tie.Need-loop-preserved invariant-loop decreases-loop
-loop-again c = measure_string c.before.before.before.before.before.loop.invariant c.before.before.before.get-row.ensures c.before.before.before.before.loop-test.true c.before.if1.true c.string_length.ensures
+loop-again : tie.Need-loop-r-preserved-then-row-eq11 invariant-loop-r decreases-loop-r
+loop-again c = measure_string c.before.before.before.before.before.loop-r.invariant c.before.before.before.get_row-row.ensures c.before.before.before.before.loop-r-test.true c.before.if-row-eq11.true c.string_length-sum.ensures
 
 pub measure_spec : {M : Type 1} → statement M
 measure_spec = tie.close (tie.spec
-    invariant-loop
-    decreases-loop
+    invariant-loop-r
+    decreases-loop-r
     (λ c. search measure_first)  -- loop-holds
     (λ c κs. search rules)  -- get-row-requires
     (λ c κs. (search measure_through, search measure_plan, search measure_short))  -- string-length-requires

@@ -5,28 +5,28 @@ use borrow.Author.Rules.{rules}
 use Rattle.plan_message.proofs.put_items.Statement.{statement}
 use Rattle.plan_message.proofs.put_items.Tie as tie
 
-abbrev invariant-loop : tie.invariant-loop
-invariant-loop table room rows text strings plan most output₀ at₀ j₀ sent₀ output at j sent = Writing (row_at room table) rows text strings plan most output₀ sent j at output
+abbrev invariant-loop-sent : tie.invariant-loop-sent
+invariant-loop-sent table room rows text strings plan most output₀ at₀ j₀ sent₀ output at j sent = Writing (row_at room table) rows text strings plan most output₀ sent j at output
 
-abbrev decreases-loop : tie.decreases-loop
-decreases-loop table room rows text strings plan most output₀ at₀ j₀ sent₀ output at j sent = rows - sent
+abbrev decreases-loop-sent : tie.decreases-loop-sent
+decreases-loop-sent table room rows text strings plan most output₀ at₀ j₀ sent₀ output at j sent = rows - sent
 
-add_at : tie.Need-overflow-add-at invariant-loop decreases-loop
-add_at c = write_fits c.before.before.before.before.before.before.before.before.loop.invariant c.before.before.before.before.before.before.get-row.ensures c.before.before.before.before.before.before.before.loop-test.true c.before.before.before.before.if1.true c.before.before.put-string.ensures
+add_at : tie.Need-overflow_add-at invariant-loop-sent decreases-loop-sent
+add_at c = write_fits c.before.before.before.before.before.before.before.before.loop-sent.invariant c.before.before.before.before.before.before.get_row-row.ensures c.before.before.before.before.before.before.before.loop-sent-test.true c.before.before.before.before.if-row-eq11.true c.before.before.put_string-at.ensures
 
-loop-again : tie.Need-loop-preserved invariant-loop decreases-loop
-loop-again c = write_string c.before.before.before.before.before.before.before.before.loop.invariant c.before.before.before.before.before.before.get-row.ensures c.before.before.before.before.before.before.before.loop-test.true c.before.before.before.before.if1.true c.before.before.put-string.ensures
+loop-again : tie.Need-loop-sent-preserved-then-row-eq11 invariant-loop-sent decreases-loop-sent
+loop-again c = write_string c.before.before.before.before.before.before.before.before.loop-sent.invariant c.before.before.before.before.before.before.get_row-row.ensures c.before.before.before.before.before.before.before.loop-sent-test.true c.before.before.before.before.if-row-eq11.true c.before.before.put_string-at.ensures
 
 pub put_items_spec : {M : Type 1} → statement M
 put_items_spec = tie.close (tie.spec
-    invariant-loop
-    decreases-loop
+    invariant-loop-sent
+    decreases-loop-sent
     (λ c. search write_first)  -- loop-holds
     (λ c κs. search rules)  -- get-row-requires
     (λ c. search write_start)  -- sub-put-string
     (λ c. search write_start)  -- part-put-string-start
     (λ c. search rules)  -- part-put-string-end
-    (λ c κs. (search write_through, search write_plan, search write_short, write_room c.before.before.before.before.before.loop.invariant c.before.before.before.get-row.ensures c.before.before.before.before.loop-test.true c.before.if1.true))  -- put-string-requires
+    (λ c κs. (search write_through, search write_plan, search write_short, write_room c.before.before.before.before.before.loop-sent.invariant c.before.before.before.get_row-row.ensures c.before.before.before.before.loop-sent-test.true c.before.if-row-eq11.true))  -- put-string-requires
     add_at
     (λ c. search rules)  -- add-j
     (λ c. search rules)  -- add-sent

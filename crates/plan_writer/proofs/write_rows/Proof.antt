@@ -8,7 +8,7 @@ pub write_rows_spec : {M : Type 1} → statement M
 write_rows_spec = tie.close (tie.spec
     (λ c κs. search rules)  -- collect-requires
     (λ c κs. search strings_there)  -- taken-requires
-    (λ c κs. (search rules, search rules, by_known _ _ c.before.before.before.before.before.before.before.collect.ensures c.before.before.before.taken.ensures c.before.before.if1.true (search rules)))  -- fill-shorter-requires
+    (λ c κs. (search rules, search rules, by_known _ _ c.collect-count.ensures c.taken.ensures c.if-taken.true (search rules)))  -- fill-shorter-requires
     (λ c κs. search rules)  -- answer-for-requires
     (λ c. search rules)  -- same-length
     (λ c. search rules)  -- same-length-2

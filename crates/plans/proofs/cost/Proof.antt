@@ -7,16 +7,16 @@ use borrow.Author.Rules.{rules}
 use Rattle.plans.proofs.cost.Statement.{statement}
 use Rattle.plans.proofs.cost.Tie as tie
 
-abbrev invariant-loop : tie.invariant-loop
-invariant-loop table room strings count text plan sum₀ j₀ sum j = Costing (numbered_text (row_at room table) strings text) plan count j sum
+abbrev invariant-loop-j : tie.invariant-loop-j
+invariant-loop-j table room strings count text plan sum₀ j₀ sum j = Costing (numbered_text (row_at room table) strings text) plan count j sum
 
-abbrev decreases-loop : tie.decreases-loop
-decreases-loop table room strings count text plan sum₀ j₀ sum j = count - j
+abbrev decreases-loop-j : tie.decreases-loop-j
+decreases-loop-j table room strings count text plan sum₀ j₀ sum j = count - j
 
 pub cost_spec : {M : Type 1} → statement M
 cost_spec = tie.close (tie.spec
-    invariant-loop
-    decreases-loop
+    invariant-loop-j
+    decreases-loop-j
     (λ c. search costing)  -- loop-holds
     (λ c κs. (search through, search rules, search rules))  -- string-length-requires
     (λ c. search costing)  -- add-sum

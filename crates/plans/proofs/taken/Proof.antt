@@ -7,22 +7,22 @@ use borrow.Author.Rules.{rules}
 use Rattle.plans.proofs.taken.Statement.{statement}
 use Rattle.plans.proofs.taken.Tie as tie
 
-abbrev invariant-loop : tie.invariant-loop
-invariant-loop table room strings count text plan book₀ j₀ book j = Taking (numbered_text (row_at room table) strings text) plan count book j
+abbrev invariant-loop-j : tie.invariant-loop-j
+invariant-loop-j table room strings count text plan book₀ j₀ book j = Taking (numbered_text (row_at room table) strings text) plan count book j
 
-abbrev decreases-loop : tie.decreases-loop
-decreases-loop table room strings count text plan book₀ j₀ book j = count - j
+abbrev decreases-loop-j : tie.decreases-loop-j
+decreases-loop-j table room strings count text plan book₀ j₀ book j = count - j
 
-loop-again : tie.Need-loop-preserved invariant-loop decreases-loop
-loop-again c = take_on c.before.before.before.before.before.before.before.before.loop.invariant c.before.before.before.before.before.before.before.loop-test.true c.before.before.before.before.before.byte.ensures.0 c.before.before.before.byte2.ensures.0 c.before.send.ensures c.if2.true
+loop-again : tie.Need-loop-j-preserved invariant-loop-j decreases-loop-j
+loop-again c = take_on c.before.before.before.before.before.before.before.before.loop-j.invariant c.before.before.before.before.before.before.before.loop-j-test.true c.before.before.before.before.before.byte-form.ensures.0 c.before.before.before.byte-p.ensures.0 c.before.send.ensures c.if-send.true
 
-returns-2 : tie.Need-returns-2 invariant-loop decreases-loop
-returns-2 c = take_no c.before.before.before.before.before.before.before.before.loop.invariant c.before.before.before.before.before.before.before.loop-test.true c.before.before.before.before.before.byte.ensures.0 c.before.before.before.byte2.ensures.0 c.before.send.ensures c.if2.false (search rules)
+returns-2 : tie.Need-returns-else-send invariant-loop-j decreases-loop-j
+returns-2 c = take_no c.before.before.before.before.before.before.before.before.loop-j.invariant c.before.before.before.before.before.before.before.loop-j-test.true c.before.before.before.before.before.byte-form.ensures.0 c.before.before.before.byte-p.ensures.0 c.before.send.ensures c.if-send.false (search rules)
 
 pub taken_spec : {M : Type 1} → statement M
 taken_spec = tie.close (tie.spec
-    invariant-loop
-    decreases-loop
+    invariant-loop-j
+    decreases-loop-j
     (λ c. search rules)  -- mul-if1
     (λ c. search taking)  -- returns
     (λ c. search taking)  -- loop-holds

@@ -6,16 +6,16 @@ use Rattle.positions.proofs.Placing.{marking, Marking}
 use Rattle.positions.proofs.mark.Statement.{statement}
 use Rattle.positions.proofs.mark.Tie as tie
 
-abbrev invariant-loop : tie.invariant-loop
-invariant-loop count firsts spots₀ j₀ spots j = Marking count firsts j spots × (length spots ≡ length spots₀)
+abbrev invariant-loop-j : tie.invariant-loop-j
+invariant-loop-j count firsts spots₀ j₀ spots j = Marking count firsts j spots × (length spots ≡ length spots₀)
 
-abbrev decreases-loop : tie.decreases-loop
-decreases-loop count firsts spots₀ j₀ spots j = count - j
+abbrev decreases-loop-j : tie.decreases-loop-j
+decreases-loop-j count firsts spots₀ j₀ spots j = count - j
 
 pub mark_spec : {M : Type 1} → statement M
 mark_spec = tie.close (tie.spec
-    invariant-loop
-    decreases-loop
+    invariant-loop-j
+    decreases-loop-j
     (λ c. (search marking, search rules))  -- loop-holds
     (λ c. search rules)  -- mul-wide
     (λ c. search rules)  -- shared-slice-read-wide

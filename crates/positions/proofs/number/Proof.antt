@@ -6,16 +6,16 @@ use Rattle.positions.proofs.Placing.{placing, Placing}
 use Rattle.positions.proofs.number.Statement.{statement}
 use Rattle.positions.proofs.number.Tie as tie
 
-abbrev invariant-loop : tie.invariant-loop
-invariant-loop count firsts spots₀ j₀ next₀ spots j next = Placing count firsts spots₀ j next spots × (length spots ≡ length spots₀)
+abbrev invariant-loop-j : tie.invariant-loop-j
+invariant-loop-j count firsts spots₀ j₀ next₀ spots j next = Placing count firsts spots₀ j next spots × (length spots ≡ length spots₀)
 
-abbrev decreases-loop : tie.decreases-loop
-decreases-loop count firsts spots₀ j₀ next₀ spots j next = count - j
+abbrev decreases-loop-j : tie.decreases-loop-j
+decreases-loop-j count firsts spots₀ j₀ next₀ spots j next = count - j
 
 pub number_spec : {M : Type 1} → statement M
 number_spec = tie.close (tie.spec
-    invariant-loop
-    decreases-loop
+    invariant-loop-j
+    decreases-loop-j
     (λ c. (search placing, search rules))  -- loop-holds
     (λ c. search rules)  -- mul-wide
     (λ c. search rules)  -- shared-slice-read-wide

@@ -4,16 +4,16 @@ use Rattle.prefix.proofs.Beginning.{beginning, Agreeing}
 use Rattle.prefix.proofs.agrees.Statement.{statement}
 use Rattle.prefix.proofs.agrees.Tie as tie
 
-abbrev invariant-loop : tie.invariant-loop
-invariant-loop s start i₀ i = Agreeing s i
+abbrev invariant-loop-i : tie.invariant-loop-i
+invariant-loop-i s start i₀ i = Agreeing s i
 
-abbrev decreases-loop : tie.decreases-loop
-decreases-loop s start i₀ i = 12 - i
+abbrev decreases-loop-i : tie.decreases-loop-i
+decreases-loop-i s start i₀ i = 12 - i
 
 pub agrees_spec : {M : Type 1} → statement M
 agrees_spec = tie.close (tie.spec
-    invariant-loop
-    decreases-loop
+    invariant-loop-i
+    decreases-loop-i
     (λ c. search rules)  -- loop-holds
     (λ c. search beginning)  -- returns
     (λ c. search rules)  -- shared-slice-read-if2

@@ -10,38 +10,38 @@ use borrow.Author.Rules.{rules}
 use Rattle.prices.proofs.price.Statement.{statement}
 use Rattle.prices.proofs.price.Tie as tie
 
-abbrev invariant-loop : tie.invariant-loop
-invariant-loop table room strings count text firsts prices marks₀ j₀ least₀ paid₀ marks j least paid = Going (numbered_text (row_at room table) strings text) prices marks count j least paid × (length marks ≡ length marks₀)
+abbrev invariant-loop-j : tie.invariant-loop-j
+invariant-loop-j table room strings count text firsts prices marks₀ j₀ least₀ paid₀ marks j least paid = Going (numbered_text (row_at room table) strings text) prices marks count j least paid × (length marks ≡ length marks₀)
 
-abbrev decreases-loop : tie.decreases-loop
-decreases-loop table room strings count text firsts prices marks₀ j₀ least₀ paid₀ marks j least paid = count - j
+abbrev decreases-loop-j : tie.decreases-loop-j
+decreases-loop-j table room strings count text firsts prices marks₀ j₀ least₀ paid₀ marks j least paid = count - j
 
-mul_marks : tie.Need-overflow-mul-marks invariant-loop decreases-loop
-mul_marks c = omega (arith, first_there _ c.before.before.before.before.before.before.before.before.before.before.before.before.before.before.before.requires.5 c.before.before.before.before.before.before.before.loop-test.true c.before.before.before.before.before.number.ensures)
+mul_marks : tie.Need-offset_bounds-marks-f invariant-loop-j decreases-loop-j
+mul_marks c = omega (arith, first_there _ c.requires.5 c.loop-j-test.true c.number-f.ensures)
 
-slice_write_marks : tie.Need-slice-write-marks invariant-loop decreases-loop
-slice_write_marks c = omega (arith, first_there _ c.before.before.before.before.before.before.before.before.before.before.before.before.before.before.before.requires.5 c.before.before.before.before.before.before.before.loop-test.true c.before.before.before.before.before.number.ensures)
+slice_write_marks : tie.Need-bounds-marks-f invariant-loop-j decreases-loop-j
+slice_write_marks c = omega (arith, first_there _ c.requires.5 c.loop-j-test.true c.number-f.ensures)
 
-loop-again : tie.Need-loop-preserved invariant-loop decreases-loop
+loop-again : tie.Need-loop-j-preserved invariant-loop-j decreases-loop-j
 loop-again c = (
-  going_on c.before.before.before.before.before.before.before.before.before.before.loop.invariant.0
+  going_on c.loop-j.invariant.0
       (record {
-        in_range_lem = c.before.before.before.before.before.before.before.before.before.loop-test.true;
-        room = omega (arith, first_there _ c.before.before.before.before.before.before.before.before.before.before.before.before.before.before.before.before.before.requires.5 c.before.before.before.before.before.before.before.before.before.loop-test.true c.before.before.before.before.before.before.before.number.ensures);
-        first = first_so _ c.before.before.before.before.before.before.before.before.before.before.before.before.before.before.before.before.before.requires.5 c.before.before.before.before.before.before.before.before.before.loop-test.true c.before.before.before.before.before.before.before.number.ensures;
-        size_is = c.before.before.before.before.before.before.type_size.ensures;
-        worth_is = c.before.before.before.before.worth-of.ensures;
-        share_is = c.before.before.before.share-of.ensures;
-        left_is = c.before.before.left-of.ensures;
-        price_is = c.wide.ensures;
+        in_range_lem = c.loop-j-test.true;
+        room = omega (arith, first_there _ c.requires.5 c.loop-j-test.true c.number-f.ensures);
+        first = first_so _ c.requires.5 c.loop-j-test.true c.number-f.ensures;
+        size_is = c.size_of-size.ensures;
+        worth_is = c.worth_of-w.ensures;
+        share_is = c.share_of-least.ensures;
+        left_is = c.left_of.ensures;
+        price_is = c.wide-paid.ensures;
       }),
   search rules,
 )
 
 pub price_spec : {M : Type 1} → statement M
 price_spec = tie.close (tie.spec
-    invariant-loop
-    decreases-loop
+    invariant-loop-j
+    decreases-loop-j
     (λ c. (search going_first, search rules))  -- loop-holds
     (λ c. search rules)  -- mul-number
     (λ c. search rules)  -- shared-slice-read-number

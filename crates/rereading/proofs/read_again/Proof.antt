@@ -12,39 +12,39 @@ read_requires : tie.Need-read-requires
 read_requires c κs = search rules
 
 -- src/lib.rt:39:9
-same_length : tie.Need-same-length
+same_length : tie.Need-shape_of-table-then-wanted-eq0
 same_length c = search rules
 
 -- src/lib.rt:39:9
-returns : tie.Need-returns
+returns : tie.Need-returns-then-wanted-eq0
 returns c = search trying
 
 -- src/lib.rt:42:9
-read_requires_2 : tie.Need-read-requires-2
+read_requires_2 : tie.Need-read-requires-then-table-message
 read_requires_2 c κs = search rules
 
 -- src/lib.rt:42:9
-same_length_2 : tie.Need-same-length-2
+same_length_2 : tie.Need-shape_of-table-then-table-message
 same_length_2 c = search rules
 
 -- src/lib.rt:42:9
-returns-2 : tie.Need-returns-2
+returns-2 : tie.Need-returns-then-table-message
 returns-2 c = search trying
 
 -- src/lib.rt:44:30
-mul_try_part : tie.Need-overflow-mul-try-part
+mul_try_part : tie.Need-overflow_mul-message
 mul_try_part c = search rules
 
 -- src/lib.rt:44:5
-try_part_requires : tie.Need-try-part-requires
+try_part_requires : tie.Need-try_part-requires
 try_part_requires c κs = search rules
 
 -- src/lib.rt:35:1
-same_length_3 : tie.Need-same-length-3
+same_length_3 : tie.Need-shape_of-table
 same_length_3 c = search rules
 
 -- src/lib.rt:35:1
-returns-3 : tie.Need-returns-3
+returns-3 : tie.Need-returns
 returns-3 c = search trying
 
 pub read_again_spec : {M : Type 1} → statement M

@@ -7,15 +7,15 @@ use Rattle.rereading.proofs.read_part.Lts as lts
 use Rattle.reader.proofs.read.Reads as read-reads
 
 -- src/lib.rt:14:27
-sub_read : tie.Need-overflow-sub-read
+sub_read : tie.Need-slice_bounds-read-count
 sub_read c = search rules
 
 -- src/lib.rt:14:27
-part_read_start : tie.Need-slice-bounds-read-start
+part_read_start : tie.Need-slice_bounds-read-start
 part_read_start c = search rules
 
 -- src/lib.rt:14:27
-part_read_end : tie.Need-slice-bounds-read-end
+part_read_end : tie.Need-slice_bounds-read-end
 part_read_end c = search rules
 
 -- src/lib.rt:14:5
@@ -23,7 +23,7 @@ read_requires : tie.Need-read-requires
 read_requires c κs = search rules
 
 -- src/lib.rt:10:1
-same_length : tie.Need-same-length
+same_length : tie.Need-shape_of-table
 same_length c = search rules
 
 -- src/lib.rt:10:1

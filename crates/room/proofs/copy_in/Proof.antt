@@ -4,16 +4,16 @@ use Rattle.room.proofs.Copying.{Copying, copying}
 use Rattle.room.proofs.copy_in.Statement.{statement}
 use Rattle.room.proofs.copy_in.Tie as tie
 
-abbrev invariant-loop : tie.invariant-loop
-invariant-loop bytes₀ at others n i₀ bytes i = Copying bytes₀ at others n i bytes
+abbrev invariant-loop-i : tie.invariant-loop-i
+invariant-loop-i bytes₀ at others n i₀ bytes i = Copying bytes₀ at others n i bytes
 
-abbrev decreases-loop : tie.decreases-loop
-decreases-loop bytes₀ at others n i₀ bytes i = n - i
+abbrev decreases-loop-i : tie.decreases-loop-i
+decreases-loop-i bytes₀ at others n i₀ bytes i = n - i
 
 pub copy_in_spec : {M : Type 1} → statement M
 copy_in_spec = tie.close (tie.spec
-    invariant-loop
-    decreases-loop
+    invariant-loop-i
+    decreases-loop-i
     (λ c. search copying)  -- loop-holds
     (λ c. search rules)  -- shared-slice-read-bytes
     (λ c. search rules)  -- add-bytes

@@ -7,16 +7,16 @@ use Rattle.text.specs.Runs.{Run}
 use Rattle.runs.proofs.past_eights.Statement.{statement}
 use Rattle.runs.proofs.past_eights.Tie as tie
 
-abbrev invariant-loop : tie.invariant-loop
-invariant-loop s from at₀ at = Run s from at
+abbrev invariant-loop-at : tie.invariant-loop-at
+invariant-loop-at s from at₀ at = Run s from at
 
-abbrev decreases-loop : tie.decreases-loop
-decreases-loop s from at₀ at = length s - at
+abbrev decreases-loop-at : tie.decreases-loop-at
+decreases-loop-at s from at₀ at = length s - at
 
 pub past_eights_spec : {M : Type 1} → statement M
 past_eights_spec = tie.close (tie.spec
-    invariant-loop
-    decreases-loop
+    invariant-loop-at
+    decreases-loop-at
     (λ c. search rules)  -- loop-holds
     (λ c. search rules)  -- sub-loop
     (λ c κs. search rules)  -- eight-below-requires

@@ -1,5 +1,4 @@
 use Rattle.scalar.proofs.Scalars.{fixing}
-use borrow.Author.Rules.{rules}
 use Rattle.scalar.proofs.is_fixed.Statement.{statement}
 use Rattle.scalar.proofs.is_fixed.Tie as tie
 

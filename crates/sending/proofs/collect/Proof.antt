@@ -7,16 +7,16 @@ use Rattle.sending.proofs.Collecting.{Collecting, collecting}
 use Rattle.sending.proofs.collect.Statement.{statement}
 use Rattle.sending.proofs.collect.Tie as tie
 
-abbrev invariant-loop : tie.invariant-loop
-invariant-loop table room rows strings₀ n₀ r₀ strings n r = Collecting (row_at room table) rows strings r n × (length strings ≡ length strings₀)
+abbrev invariant-loop-r : tie.invariant-loop-r
+invariant-loop-r table room rows strings₀ n₀ r₀ strings n r = Collecting (row_at room table) rows strings r n × (length strings ≡ length strings₀)
 
-abbrev decreases-loop : tie.decreases-loop
-decreases-loop table room rows strings₀ n₀ r₀ strings n r = rows - r
+abbrev decreases-loop-r : tie.decreases-loop-r
+decreases-loop-r table room rows strings₀ n₀ r₀ strings n r = rows - r
 
 pub collect_spec : {M : Type 1} → statement M
 collect_spec = tie.close (tie.spec
-    invariant-loop
-    decreases-loop
+    invariant-loop-r
+    decreases-loop-r
     (λ c. (search collecting, search rules))  -- loop-holds
     (λ c κs. search rules)  -- get-row-requires
     (λ c. search rules)  -- cast-strings

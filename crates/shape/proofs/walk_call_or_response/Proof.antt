@@ -5,38 +5,38 @@ use Rattle.shape.proofs.walk_call_or_response.Tie as tie
 
 pub walk_call_or_response_spec : {M : Type 1} → statement M
 walk_call_or_response_spec = tie.close (tie.spec
-    (λ c. search calling)  -- returns
-    (λ c κs. search rules)  -- get-row-requires
-    (λ c κs. search rules)  -- item-of-requires
-    (λ c. search rules)  -- enum-told
-    (λ c. search rules)  -- add-walk-method-and-array
-    (λ c κs. search calling)  -- walk-method-and-array-requires
-    (λ c κs. search rules)  -- close-holding-requires
-    (λ c. search rules)  -- enum-told-2
-    (λ c. search rules)  -- add-walk-value
-    (λ c κs. search calling)  -- walk-value-requires
-    (λ c κs. search rules)  -- close-holding-requires-2
-    (λ c. search rules)  -- enum-told-3
-    (λ c. search rules)  -- add-walk-fault-struct
-    (λ c κs. search calling)  -- walk-fault-struct-requires
-    (λ c κs. search rules)  -- close-holding-requires-3
-    (λ c. search rules)  -- enum-told-4
-    (λ c. search rules)  -- enum-told-5
-    (λ c. search rules)  -- enum-told-6
-    (λ c. search rules)  -- enum-told-7
-    (λ c. search rules)  -- enum-told-8
-    (λ c. search rules)  -- enum-told-9
-    (λ c. search rules)  -- enum-told-10
-    (λ c. search rules)  -- same-length-2
-    (λ c. search calling)  -- returns-2
-    (λ c. search rules)  -- same-length-3
-    (λ c. search calling)  -- returns-3
-    (λ c. search rules)  -- same-length-4
-    (λ c. search calling)  -- returns-4
-    (λ c. search calling)  -- returns-5
-    (λ c. search calling)  -- returns-6
-    (λ c. search calling)  -- returns-7
-    (λ c. search calling)  -- returns-8
-    (λ c. search calling)  -- returns-9
-    (λ c. search calling)  -- returns-10
-    (λ c. search calling))  -- returns-11
+    (λ c. search calling)  -- returns-then-rows-r
+    (λ c κs. search rules)  -- get_row-row-requires
+    (λ c κs. search rules)  -- item_of-item-requires
+    (λ c. search rules)  -- enum_told-1
+    (λ c. search rules)  -- overflow_add-r
+    (λ c κs. search calling)  -- walk_method_and_array-next-requires
+    (λ c κs. search rules)  -- close_holding-requires
+    (λ c. search rules)  -- enum_told-in-Response
+    (λ c. search rules)  -- overflow_add-r-in-Response
+    (λ c κs. search calling)  -- walk_value-next-requires
+    (λ c κs. search rules)  -- close_holding-requires-in-Response
+    (λ c. search rules)  -- enum_told-in-Fault
+    (λ c. search rules)  -- overflow_add-r-in-Fault
+    (λ c κs. search calling)  -- walk_fault_struct-next-requires
+    (λ c κs. search rules)  -- close_holding-requires-in-Fault
+    (λ c. search rules)  -- enum_told-in-Integer
+    (λ c. search rules)  -- enum_told-in-Boolean
+    (λ c. search rules)  -- enum_told-in-Content
+    (λ c. search rules)  -- enum_told-in-Array
+    (λ c. search rules)  -- enum_told-in-Struct
+    (λ c. search rules)  -- enum_told-in-Other
+    (λ c. search rules)  -- enum_told-in-Unknown
+    (λ c. search calling)  -- shape_of-notes-in-Call
+    (λ c. search calling)  -- returns-in-Call
+    (λ c. search rules)  -- shape_of-notes-in-Response
+    (λ c. search calling)  -- returns-in-Response
+    (λ c. search rules)  -- shape_of-notes-in-Fault
+    (λ c. search calling)  -- returns-in-Fault
+    (λ c. search calling)  -- returns-in-Integer
+    (λ c. search calling)  -- returns-in-Boolean
+    (λ c. search calling)  -- returns-in-Content
+    (λ c. search calling)  -- returns-in-Array
+    (λ c. search calling)  -- returns-in-Struct
+    (λ c. search calling)  -- returns-in-Other
+    (λ c. search calling))  -- returns-in-Unknown

@@ -3,8 +3,8 @@ use borrow.Author.Rules.{rules}
 use Rattle.shape.proofs.walk_fault_struct.Statement.{statement}
 use Rattle.shape.proofs.walk_fault_struct.Tie as tie
 
-returns-3 : tie.Need-returns-3
-returns-3 c = fault_fine _ _ _ _ _ c.before.before.before.before.before.before.before.walk-struct.ensures.says c.before.before.before.before.if1.false c.before.before.before.if2.false c.before.before.judge.ensures (search rules)
+returns-3 : tie.Need-returns-in-Fine
+returns-3 c = fault_fine _ _ _ _ _ c.walk_struct-next.ensures.says c.if-next-eq0.false c.if-rows-next.false c.judge-verdict.ensures (search rules)
 
 pub walk_fault_struct_spec : {M : Type 1} → statement M
 walk_fault_struct_spec = tie.close (tie.spec

@@ -8,16 +8,16 @@ use Rattle.sorting.proofs.Settling.{Settling, settling, settle_again}
 use Rattle.sorting.proofs.settle.Statement.{statement}
 use Rattle.sorting.proofs.settle.Tie as tie
 
-abbrev invariant-loop : tie.invariant-loop
-invariant-loop table room text rows₀ first k i₀ rows i = Settling (key_text room (row_at room table) text) rows₀ first k i rows
+abbrev invariant-loop-i : tie.invariant-loop-i
+invariant-loop-i table room text rows₀ first k i₀ rows i = Settling (key_text room (row_at room table) text) rows₀ first k i rows
 
-abbrev decreases-loop : tie.decreases-loop
-decreases-loop table room text rows₀ first k i₀ rows i = length rows - i
+abbrev decreases-loop-i : tie.decreases-loop-i
+decreases-loop-i table room text rows₀ first k i₀ rows i = length rows - i
 
 pub settle_spec : {M : Type 1} → statement M
 settle_spec = tie.close (tie.spec
-    invariant-loop
-    decreases-loop
+    invariant-loop-i
+    decreases-loop-i
     (λ c. search rules)  -- slice-read-first
     (λ c κs. search rules)  -- wide-requires
     (λ c. search settling)  -- loop-holds

@@ -5,16 +5,16 @@ use Rattle.sorting.proofs.Settling.{Sorting, sorting}
 use Rattle.sorting.proofs.sort_few.Statement.{statement}
 use Rattle.sorting.proofs.sort_few.Tie as tie
 
-abbrev invariant-loop : tie.invariant-loop
-invariant-loop table room text rows₀ i₀ rows i = Sorting (key_text room (row_at room table) text) rows₀ i rows
+abbrev invariant-loop-i : tie.invariant-loop-i
+invariant-loop-i table room text rows₀ i₀ rows i = Sorting (key_text room (row_at room table) text) rows₀ i rows
 
-abbrev decreases-loop : tie.decreases-loop
-decreases-loop table room text rows₀ i₀ rows i = i
+abbrev decreases-loop-i : tie.decreases-loop-i
+decreases-loop-i table room text rows₀ i₀ rows i = i
 
 pub sort_few_spec : {M : Type 1} → statement M
 sort_few_spec = tie.close (tie.spec
-    invariant-loop
-    decreases-loop
+    invariant-loop-i
+    decreases-loop-i
     (λ c. search sorting)  -- loop-holds
     (λ c. search rules)  -- sub-i
     (λ c. search rules)  -- mul-settle

@@ -24,8 +24,8 @@ put_digits_below t =
 abbrev calls : ℕ → put-digits-lts.Claims
 calls t = (put-byte-reads.Asked, put-byte-reads.Learnt, put_digits_below t, put-digits.Post)
 
-pub +put-digits-spec : {M : Type 1} → statement M
-+put-digits-spec = close μ-put-digits (λ t. put-digits-lts.spec (calls t)
+pub +put_digits_spec : {M : Type 1} → statement M
++put_digits_spec = close μ-put-digits (λ t. put-digits-lts.spec (calls t)
     (put_digits_at t)
     put-digits.Post
     (λ c. search spelling)  -- put-digits-returns

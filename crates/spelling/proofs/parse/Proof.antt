@@ -5,16 +5,16 @@ use borrow.Author.Rules.{rules}
 use Rattle.spelling.proofs.parse.Statement.{statement}
 use Rattle.spelling.proofs.parse.Tie as tie
 
-abbrev invariant-loop : tie.invariant-loop
-invariant-loop word value₀ i₀ value i = Parsing word i value
+abbrev invariant-loop-i : tie.invariant-loop-i
+invariant-loop-i word value₀ i₀ value i = Parsing word i value
 
-abbrev decreases-loop : tie.decreases-loop
-decreases-loop word value₀ i₀ value i = length word - i
+abbrev decreases-loop-i : tie.decreases-loop-i
+decreases-loop-i word value₀ i₀ value i = length word - i
 
 pub parse_spec : {M : Type 1} → statement M
 parse_spec = tie.close (tie.spec
-    invariant-loop
-    decreases-loop
+    invariant-loop-i
+    decreases-loop-i
     (λ c. search parsing)  -- returns
     (λ c. search parsing)  -- loop-holds
     (λ c. search rules)  -- shared-slice-read-with-digit

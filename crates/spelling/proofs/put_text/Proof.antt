@@ -6,16 +6,16 @@ use lib.ListN.{length}
 use Rattle.spelling.proofs.put_text.Statement.{statement}
 use Rattle.spelling.proofs.put_text.Tie as tie
 
-abbrev invariant-loop : tie.invariant-loop
-invariant-loop line₀ at text end₀ i₀ line end i = Putting text line₀ at i line end × (length line ≡ length line₀)
+abbrev invariant-loop-i : tie.invariant-loop-i
+invariant-loop-i line₀ at text end₀ i₀ line end i = Putting text line₀ at i line end × (length line ≡ length line₀)
 
-abbrev decreases-loop : tie.decreases-loop
-decreases-loop line₀ at text end₀ i₀ line end i = length text - i
+abbrev decreases-loop-i : tie.decreases-loop-i
+decreases-loop-i line₀ at text end₀ i₀ line end i = length text - i
 
 pub put_text_spec : {M : Type 1} → statement M
 put_text_spec = tie.close (tie.spec
-    invariant-loop
-    decreases-loop
+    invariant-loop-i
+    decreases-loop-i
     (λ c. search texts)  -- loop-holds
     (λ c. search rules)  -- shared-slice-read-put-byte
     (λ c κs. search rules)  -- put-byte-requires

@@ -4,13 +4,13 @@ use borrow.Author.Rules.{rules}
 use Rattle.spread.proofs.fold_lanes.Statement.{statement}
 use Rattle.spread.proofs.fold_lanes.Tie as tie
 
-abbrev invariant-loop : tie.invariant-loop
-invariant-loop t n a₀ b₀ c₀ d₀ i₀ a b c d i = Lanes t n a b c d i
+abbrev invariant-loop-i : tie.invariant-loop-i
+invariant-loop-i t n a₀ b₀ c₀ d₀ i₀ a b c d i = Lanes t n a b c d i
 
-abbrev decreases-loop : tie.decreases-loop
-decreases-loop t n a₀ b₀ c₀ d₀ i₀ a b c d i = n - i
+abbrev decreases-loop-i : tie.decreases-loop-i
+decreases-loop-i t n a₀ b₀ c₀ d₀ i₀ a b c d i = n - i
 
-loop-again : tie.Need-loop-preserved invariant-loop decreases-loop
+loop-again : tie.Need-loop-i-preserved invariant-loop-i decreases-loop-i
 loop-again c =
     let third = c.before.before in
     let second = third.before.before in
@@ -20,21 +20,21 @@ loop-again c =
     _
     _
     _
-    start.loop.invariant
-    first.before.before.loop-test.true
+    start.loop-i.invariant
+    first.before.before.loop-i-test.true
     first.before.four.ensures.0
-    second.before.four2.ensures.0
-    third.before.four3.ensures.0
-    c.before.four4.ensures.0
-    first.fold.ensures
-    second.fold2.ensures
-    third.fold3.ensures
-    c.fold4.ensures
+    second.before.four-in-loop-i.ensures.0
+    third.before.four-in-loop-i-2.ensures.0
+    c.before.four-in-loop-i-3.ensures.0
+    first.fold-a.ensures
+    second.fold-b.ensures
+    third.fold-c.ensures
+    c.fold-d.ensures
 
 pub fold_lanes_spec : {M : Type 1} → statement M
 fold_lanes_spec = tie.close (tie.spec
-    invariant-loop
-    decreases-loop
+    invariant-loop-i
+    decreases-loop-i
     (λ c. search mixing)  -- loop-holds
     (λ c. search rules)  -- mul-at
     (λ c κs. search rules)  -- four-requires

@@ -5,18 +5,18 @@ use Rattle.table.proofs.Clearing.{clearing, Clearing, clear_first}
 use Rattle.table.proofs.clear.Statement.{statement}
 use Rattle.table.proofs.clear.Tie as tie
 
-abbrev invariant-loop : tie.invariant-loop
-invariant-loop words₀ i₀ words i = Clearing words₀ i words
+abbrev invariant-loop-i : tie.invariant-loop-i
+invariant-loop-i words₀ i₀ words i = Clearing words₀ i words
 
-abbrev decreases-loop : tie.decreases-loop
-decreases-loop words₀ i₀ words i = length words₀ - i
+abbrev decreases-loop-i : tie.decreases-loop-i
+decreases-loop-i words₀ i₀ words i = length words₀ - i
 
 pub clear_spec : {M : Type 1} → statement M
 clear_spec =
     tie.close
     (tie.spec
-    invariant-loop
-    decreases-loop
+    invariant-loop-i
+    decreases-loop-i
     (λ c. clear_first)  -- loop-holds
     (λ c. search rules)  -- mul-table
     (λ c. search rules)  -- slice-write-table

@@ -6,10 +6,10 @@ use borrow.Author.Rules.{rules}
 use Rattle.table.proofs.word.Statement.{statement}
 use Rattle.table.proofs.word.Tie as tie
 
-mul_result : tie.Need-overflow-mul-result
+mul_result : tie.Need-overflow_mul-result
 mul_result c = omega (arith, column c.args.room c.args.j (search rules))
 
-add_result : tie.Need-overflow-add-result
+add_result : tie.Need-overflow_add-result
 add_result c = omega (arith, column c.args.room c.args.j (search rules))
 
 returns : tie.Need-returns

@@ -8,16 +8,16 @@ use Rattle.text.proofs.Walking.{walking, placing}
 use Rattle.text_check.proofs.walk.Statement.{statement}
 use Rattle.text_check.proofs.walk.Tie as tie
 
-abbrev invariant-loop : tie.invariant-loop
-invariant-loop table s at₀ at = Left well_formed s at
+abbrev invariant-loop-at : tie.invariant-loop-at
+invariant-loop-at table s at₀ at = Left well_formed s at
 
-abbrev decreases-loop : tie.decreases-loop
-decreases-loop table s at₀ at = length s - at
+abbrev decreases-loop-at : tie.decreases-loop-at
+decreases-loop-at table s at₀ at = length s - at
 
 pub walk_spec : {M : Type 1} → statement M
 walk_spec = tie.close (tie.spec
-    invariant-loop
-    decreases-loop
+    invariant-loop-at
+    decreases-loop-at
     (λ c. search rules)  -- loop-holds
     (λ c. search rules)  -- shared-slice-read-is-single
     (λ c κs. search rules)  -- is-single-requires

@@ -7,7 +7,7 @@ use borrow.Author.Rules.{rules}
 use Rattle.text_check.proofs.walk_from.Statement.{statement}
 use Rattle.text_check.proofs.walk_from.Tie as tie
 
-walk_runs_requires : tie.Need-walk-runs-requires
+walk_runs_requires : tie.Need-walk_runs-requires
 unfolding class_table class_of class_by within step_table
 walk_runs_requires c κs = (refl, refl, search rules)
 

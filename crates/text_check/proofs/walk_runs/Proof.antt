@@ -6,16 +6,16 @@ use Rattle.text_check.proofs.Turning.{At, at_run, turning}
 use Rattle.text_check.proofs.walk_runs.Statement.{statement}
 use Rattle.text_check.proofs.walk_runs.Tie as tie
 
-abbrev invariant-loop : tie.invariant-loop
-invariant-loop table words s from at₀ state₀ at state = At s at state
+abbrev invariant-loop-at : tie.invariant-loop-at
+invariant-loop-at table words s from at₀ state₀ at state = At s at state
 
-abbrev decreases-loop : tie.decreases-loop
-decreases-loop table words s from at₀ state₀ at state = length s - at
+abbrev decreases-loop-at : tie.decreases-loop-at
+decreases-loop-at table words s from at₀ state₀ at state = length s - at
 
 pub walk_runs_spec : {M : Type 1} → statement M
 walk_runs_spec = tie.close (tie.spec
-    invariant-loop
-    decreases-loop
+    invariant-loop-at
+    decreases-loop-at
     (λ c. search turning)  -- loop-holds
     (λ c. search rules)  -- sub-if1
     (λ c. search rules)  -- shared-slice-read-step
@@ -27,7 +27,7 @@ walk_runs_spec = tie.close (tie.spec
     (λ c. search rules)  -- add-past-more
     (λ c κs. search rules)  -- past-more-requires
     (λ c. search rules)  -- loop-less-2
-    (λ c. at_run {below = c.before.before.eight-below.result} c.before.before.before.before.before.loop.invariant (search rules) (search rules) (search rules) (search rules) (search rules))  -- loop-again-2
+    (λ c. at_run {below = c.eight_below.result} c.loop-at.invariant (search rules) (search rules) (search rules) (search rules) (search rules))  -- loop-again-2
     (λ c κs. search rules)  -- eight-steps-requires
     (λ c. search rules)  -- add-at-2
     (λ c. search rules)  -- loop-less-3

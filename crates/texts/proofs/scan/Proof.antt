@@ -11,22 +11,22 @@ use Rattle.texts.proofs.Scanning.{Scan, scanning, scan_again}
 use Rattle.texts.proofs.scan.Statement.{statement}
 use Rattle.texts.proofs.scan.Tie as tie
 
-abbrev invariant-loop : tie.invariant-loop
-invariant-loop table room strings count text firsts₀ heads₀ nexts₀ j₀ sum₀ firsts heads nexts j sum = Scan (numbered_text (row_at room table) strings text) count j sum firsts × Chains (numbered_text (row_at room table) strings text) j heads nexts × (length firsts ≡ length firsts₀) × (length heads ≡ length heads₀) × (length nexts ≡ length nexts₀)
+abbrev invariant-loop-j : tie.invariant-loop-j
+invariant-loop-j table room strings count text firsts₀ heads₀ nexts₀ j₀ sum₀ firsts heads nexts j sum = Scan (numbered_text (row_at room table) strings text) count j sum firsts × Chains (numbered_text (row_at room table) strings text) j heads nexts × (length firsts ≡ length firsts₀) × (length heads ≡ length heads₀) × (length nexts ≡ length nexts₀)
 
-abbrev decreases-loop : tie.decreases-loop
-decreases-loop table room strings count text firsts₀ heads₀ nexts₀ j₀ sum₀ firsts heads nexts j sum = count - j
+abbrev decreases-loop-j : tie.decreases-loop-j
+decreases-loop-j table room strings count text firsts₀ heads₀ nexts₀ j₀ sum₀ firsts heads nexts j sum = count - j
 
-loop-holds : tie.Need-loop-init invariant-loop decreases-loop
+loop-holds : tie.Need-loop-j-init invariant-loop-j decreases-loop-j
 loop-holds c = (search scanning, search chains_none, search rules, search rules, search rules)
 
-loop-again : tie.Need-loop-preserved invariant-loop decreases-loop
+loop-again : tie.Need-loop-j-preserved invariant-loop-j decreases-loop-j
 loop-again c = (search scan_again, search rules, search rules, search rules, search rules)
 
 pub scan_spec : {M : Type 1} → statement M
 scan_spec = tie.close (tie.spec
-    invariant-loop
-    decreases-loop
+    invariant-loop-j
+    decreases-loop-j
     loop-holds
     (λ c κs. (search through, search rules, search rules))  -- find-or-add-requires
     (λ c. search rules)  -- cast-firsts

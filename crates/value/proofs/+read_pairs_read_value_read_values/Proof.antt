@@ -78,72 +78,72 @@ read_value_calls t = (refuse-reads.Asked, refuse-reads.Learnt, holds-items-reads
 abbrev read_values_calls : ℕ → read-values-lts.Claims
 read_values_calls t = (refuse-reads.Asked, refuse-reads.Learnt, holds-items-reads.Asked, holds-items-reads.Learnt, read_value_below t, read-value.Post, read-scalar-reads.Asked, read-scalar-reads.Learnt)
 
-abbrev read_pairs_Inv_loop : read-pairs-lts.invariant-loop
+abbrev read_pairs_Inv_loop : read-pairs-lts.invariant-loop-pairs
 read_pairs_Inv_loop s at row deep n room table₀ book₀ notes₀ left₀ next₀ free₀ table book notes left next free =
     Going s true (value s room deep) n at row room table₀ book₀ notes₀ left next free table book notes × (length table ≡ length table₀) × (length book ≡ length book₀) × (length notes ≡ length notes₀)
 
-abbrev read-pairs-μ-loop : read-pairs-lts.decreases-loop
+abbrev read-pairs-μ-loop : read-pairs-lts.decreases-loop-pairs
 read-pairs-μ-loop s at row deep n room table₀ book₀ notes₀ left₀ next₀ free₀ table book notes left next free =
     length s - next
 
-read_pairs_read_value_requires : (t : ℕ) → read-pairs-lts.Need-read-value-requires (read_pairs_calls t) (read_pairs_at t) read_pairs.Post read_pairs_Inv_loop read-pairs-μ-loop
-read_pairs_read_value_requires t c κs = (omega (arith, c.before.before.before.before.before.before.before.before.before.before.before.before.before.before.before.before.before.before.before.before.before.before.before.before.before.requires.0), pair_ready _ c.before.before.before.before.before.before.before.before.before.before.before.before.before.before.before.before.before.before.before.before.loop.invariant.0 c.before.before.before.before.before.before.before.before.before.before.before.before.before.before.before.before.before.before.before.loop-test.true c.before.before.before.before.before.before.before.before.before.before.before.before.before.before.before.read-key.ensures c.before.before.before.before.before.before.before.if1.false (going_ready c.before.before.before.before.before.before.before.before.before.before.before.before.before.before.before.before.before.before.before.before.loop.invariant.0 c.before.before.before.before.before.before.before.before.before.before.before.before.before.before.before.before.before.before.before.before.before.before.before.before.before.requires.1.1 c.before.before.before.before.before.before.before.before.before.before.before.before.before.before.before.before.before.before.before.before.loop.invariant.1 c.before.before.before.before.before.before.before.before.before.before.before.before.before.before.before.before.before.before.before.before.loop.invariant.2 c.before.before.before.before.before.before.before.before.before.before.before.before.before.before.before.before.before.before.before.before.loop.invariant.3) (search (rules, c.before.before.before.before.before.before.before.before.before.before.before.before.before.before.table.given)) (search (rules, c.before.before.before.before.before.before.before.before.before.before.before.before.book.given)) (search (rules, c.before.before.before.before.before.before.before.before.before.before.notes.given)))
+read_pairs_read_value_requires : (t : ℕ) → read-pairs-lts.Need-read_value-step-requires (read_pairs_calls t) (read_pairs_at t) read_pairs.Post read_pairs_Inv_loop read-pairs-μ-loop
+read_pairs_read_value_requires t c κs = (omega (arith, c.requires.0), pair_ready _ c.loop-pairs.invariant.0 c.loop-pairs-test.true c.read_key-key.ensures c.if-key-ne0.false (going_ready c.loop-pairs.invariant.0 c.requires.1.1 c.loop-pairs.invariant.1 c.loop-pairs.invariant.2 c.loop-pairs.invariant.3) (search (rules, c.table-1.given)) (search (rules, c.book-1.given)) (search (rules, c.notes-1.given)))
 
-read_pairs_same_length_7 : (t : ℕ) → read-pairs-lts.Need-same-length-7 (read_pairs_calls t) (read_pairs_at t) read_pairs.Post read_pairs_Inv_loop read-pairs-μ-loop
-read_pairs_same_length_7 t c = search (rules, c.before.before.before.before.before.before.before.before.before.before.before.before.before.before.before.before.before.before.before.before.before.before.before.before.before.before.before.before.before.loop.invariant.1, c.before.before.before.before.before.before.before.before.before.before.before.before.before.before.before.before.before.before.before.before.before.before.before.table.given, c.before.before.before.before.before.before.before.table2.given)
+read_pairs_same_length_7 : (t : ℕ) → read-pairs-lts.Need-shape_of-table-then-step-ne0 (read_pairs_calls t) (read_pairs_at t) read_pairs.Post read_pairs_Inv_loop read-pairs-μ-loop
+read_pairs_same_length_7 t c = search (rules, c.loop-pairs.invariant.1, c.table-1.given, c.table-then-holds_items-1.given)
 
-read_pairs_same_length_8 : (t : ℕ) → read-pairs-lts.Need-same-length-8 (read_pairs_calls t) (read_pairs_at t) read_pairs.Post read_pairs_Inv_loop read-pairs-μ-loop
-read_pairs_same_length_8 t c = search (rules, c.before.before.before.before.before.before.before.before.before.before.before.before.before.before.before.before.before.before.before.before.before.before.before.before.before.before.before.before.before.loop.invariant.2, c.before.before.before.before.before.before.before.before.before.before.before.before.before.before.before.before.before.before.before.before.before.book.given, c.before.before.before.before.before.book2.given)
+read_pairs_same_length_8 : (t : ℕ) → read-pairs-lts.Need-shape_of-book-then-step-ne0 (read_pairs_calls t) (read_pairs_at t) read_pairs.Post read_pairs_Inv_loop read-pairs-μ-loop
+read_pairs_same_length_8 t c = search (rules, c.loop-pairs.invariant.2, c.book-1.given, c.book-then-holds_items-1.given)
 
-read_pairs_same_length_9 : (t : ℕ) → read-pairs-lts.Need-same-length-9 (read_pairs_calls t) (read_pairs_at t) read_pairs.Post read_pairs_Inv_loop read-pairs-μ-loop
-read_pairs_same_length_9 t c = search (rules, c.before.before.before.before.before.before.before.before.before.before.before.before.before.before.before.before.before.before.before.before.before.before.before.before.before.before.before.before.before.loop.invariant.3, c.before.before.before.before.before.before.before.before.before.before.before.before.before.before.before.before.before.before.before.notes.given, c.before.before.before.notes2.given)
+read_pairs_same_length_9 : (t : ℕ) → read-pairs-lts.Need-shape_of-notes-then-step-ne0 (read_pairs_calls t) (read_pairs_at t) read_pairs.Post read_pairs_Inv_loop read-pairs-μ-loop
+read_pairs_same_length_9 t c = search (rules, c.loop-pairs.invariant.3, c.notes-1.given, c.notes-then-holds_items-1.given)
 
-read_pairs_returns_3 : (t : ℕ) → read-pairs-lts.Need-returns-3 (read_pairs_calls t) (read_pairs_at t) read_pairs.Post read_pairs_Inv_loop read-pairs-μ-loop
-read_pairs_returns_3 t c = pair_value_stops _ c.before.before.before.before.before.before.before.before.before.before.before.before.before.before.before.before.before.before.before.before.before.before.before.before.before.before.before.before.before.loop.invariant.0 c.before.before.before.before.before.before.before.before.before.before.before.before.before.before.before.before.before.before.before.before.before.before.before.before.before.before.before.before.loop-test.true c.before.before.before.before.before.before.before.before.before.before.before.before.before.before.before.before.before.before.before.before.before.before.before.before.read-key.ensures c.before.before.before.before.before.before.before.before.before.before.before.before.before.before.before.before.if1.false c.before.before.before.before.before.before.before.before.read-value.ensures c.if4.true
+read_pairs_returns_3 : (t : ℕ) → read-pairs-lts.Need-returns-then-step-ne0 (read_pairs_calls t) (read_pairs_at t) read_pairs.Post read_pairs_Inv_loop read-pairs-μ-loop
+read_pairs_returns_3 t c = pair_value_stops _ c.loop-pairs.invariant.0 c.loop-pairs-test.true c.read_key-key.ensures c.if-key-ne0.false c.read_value-step.ensures c.if-step-ne0.true
 
-read_pairs_loop_less : (t : ℕ) → read-pairs-lts.Need-loop-smaller (read_pairs_calls t) (read_pairs_at t) read_pairs.Post read_pairs_Inv_loop read-pairs-μ-loop
-read_pairs_loop_less t c = pair_value_less _ c.before.before.before.before.before.before.before.before.before.before.before.before.before.before.before.before.before.before.before.before.before.before.before.before.before.before.before.before.before.loop.invariant.0 c.before.before.before.before.before.before.before.before.before.before.before.before.before.before.before.before.before.before.before.before.before.before.before.before.before.before.before.before.loop-test.true c.before.before.before.before.before.before.before.before.before.before.before.before.before.before.before.before.before.before.before.before.before.before.before.before.read-key.ensures c.before.before.before.before.before.before.before.before.before.before.before.before.before.before.before.before.if1.false c.before.before.before.before.before.before.before.before.read-value.ensures c.if4.false
+read_pairs_loop_less : (t : ℕ) → read-pairs-lts.Need-loop-pairs-smaller-then-holds_items (read_pairs_calls t) (read_pairs_at t) read_pairs.Post read_pairs_Inv_loop read-pairs-μ-loop
+read_pairs_loop_less t c = pair_value_less _ c.loop-pairs.invariant.0 c.loop-pairs-test.true c.read_key-key.ensures c.if-key-ne0.false c.read_value-step.ensures c.if-step-ne0.false
 
-read_pairs_loop_again : (t : ℕ) → read-pairs-lts.Need-loop-preserved (read_pairs_calls t) (read_pairs_at t) read_pairs.Post read_pairs_Inv_loop read-pairs-μ-loop
-read_pairs_loop_again t c = (pair_value_again _ c.before.before.before.before.before.before.before.before.before.before.before.before.before.before.before.before.before.before.before.before.before.before.before.before.before.before.before.before.before.loop.invariant.0 c.before.before.before.before.before.before.before.before.before.before.before.before.before.before.before.before.before.before.before.before.before.before.before.before.before.before.before.before.loop-test.true c.before.before.before.before.before.before.before.before.before.before.before.before.before.before.before.before.before.before.before.before.before.before.before.before.read-key.ensures c.before.before.before.before.before.before.before.before.before.before.before.before.before.before.before.before.if1.false c.before.before.before.before.before.before.before.before.read-value.ensures c.if4.false c.before.before.before.before.before.before.before.before.before.before.before.before.before.before.before.before.before.before.before.before.before.before.before.before.before.before.before.before.before.before.before.before.before.before.requires.1.0, search (rules, c.before.before.before.before.before.before.before.before.before.before.before.before.before.before.before.before.before.before.before.before.before.before.before.before.before.before.before.before.before.loop.invariant.1, c.before.before.before.before.before.before.before.before.before.before.before.before.before.before.before.before.before.before.before.before.before.before.before.table.given, c.before.before.before.before.before.before.before.table2.given), search (rules, c.before.before.before.before.before.before.before.before.before.before.before.before.before.before.before.before.before.before.before.before.before.before.before.before.before.before.before.before.before.loop.invariant.2, c.before.before.before.before.before.before.before.before.before.before.before.before.before.before.before.before.before.before.before.before.before.book.given, c.before.before.before.before.before.book2.given), search (rules, c.before.before.before.before.before.before.before.before.before.before.before.before.before.before.before.before.before.before.before.before.before.before.before.before.before.before.before.before.before.loop.invariant.3, c.before.before.before.before.before.before.before.before.before.before.before.before.before.before.before.before.before.before.before.notes.given, c.before.before.before.notes2.given))
+read_pairs_loop_again : (t : ℕ) → read-pairs-lts.Need-loop-pairs-preserved-then-holds_items (read_pairs_calls t) (read_pairs_at t) read_pairs.Post read_pairs_Inv_loop read-pairs-μ-loop
+read_pairs_loop_again t c = (pair_value_again _ c.loop-pairs.invariant.0 c.loop-pairs-test.true c.read_key-key.ensures c.if-key-ne0.false c.read_value-step.ensures c.if-step-ne0.false c.requires.1.0, search (rules, c.loop-pairs.invariant.1, c.table-1.given, c.table-then-holds_items-1.given), search (rules, c.loop-pairs.invariant.2, c.book-1.given, c.book-then-holds_items-1.given), search (rules, c.loop-pairs.invariant.3, c.notes-1.given, c.notes-then-holds_items-1.given))
 
-read_pairs_read_scalar_requires : (t : ℕ) → read-pairs-lts.Need-read-scalar-requires (read_pairs_calls t) (read_pairs_at t) read_pairs.Post read_pairs_Inv_loop read-pairs-μ-loop
-read_pairs_read_scalar_requires t c κs = (search rules, search values, search values, (pair_ready _ c.before.before.before.before.before.before.before.before.before.before.before.before.before.before.before.before.before.before.before.loop.invariant.0 c.before.before.before.before.before.before.before.before.before.before.before.before.before.before.before.before.before.before.loop-test.true c.before.before.before.before.before.before.before.before.before.before.before.before.before.before.read-key.ensures c.before.before.before.before.before.before.if1.false (going_ready c.before.before.before.before.before.before.before.before.before.before.before.before.before.before.before.before.before.before.before.loop.invariant.0 c.before.before.before.before.before.before.before.before.before.before.before.before.before.before.before.before.before.before.before.before.before.before.before.before.requires.1.1 c.before.before.before.before.before.before.before.before.before.before.before.before.before.before.before.before.before.before.before.loop.invariant.1 c.before.before.before.before.before.before.before.before.before.before.before.before.before.before.before.before.before.before.before.loop.invariant.2 c.before.before.before.before.before.before.before.before.before.before.before.before.before.before.before.before.before.before.before.loop.invariant.3) (search (rules, c.before.before.before.before.before.before.before.before.before.before.before.before.before.table.given)) (search (rules, c.before.before.before.before.before.before.before.before.before.before.before.book.given)) (search (rules, c.before.before.before.before.before.before.before.before.before.notes.given))).ready)
+read_pairs_read_scalar_requires : (t : ℕ) → read-pairs-lts.Need-read_scalar-step-requires (read_pairs_calls t) (read_pairs_at t) read_pairs.Post read_pairs_Inv_loop read-pairs-μ-loop
+read_pairs_read_scalar_requires t c κs = (search rules, search values, search values, (pair_ready _ c.loop-pairs.invariant.0 c.loop-pairs-test.true c.read_key-key.ensures c.if-key-ne0.false (going_ready c.loop-pairs.invariant.0 c.requires.1.1 c.loop-pairs.invariant.1 c.loop-pairs.invariant.2 c.loop-pairs.invariant.3) (search (rules, c.table-1.given)) (search (rules, c.book-1.given)) (search (rules, c.notes-1.given))).ready)
 
-read_pairs_loop_again_2 : (t : ℕ) → read-pairs-lts.Need-loop-preserved-2 (read_pairs_calls t) (read_pairs_at t) read_pairs.Post read_pairs_Inv_loop read-pairs-μ-loop
-read_pairs_loop_again_2 t c = (pair_flat_again _ c.before.before.before.before.before.before.before.before.before.before.before.before.before.before.before.before.before.before.before.before.before.before.before.before.before.before.loop.invariant.0 c.before.before.before.before.before.before.before.before.before.before.before.before.before.before.before.before.before.before.before.before.before.before.before.before.before.loop-test.true c.before.before.before.before.before.before.before.before.before.before.before.before.before.before.before.before.before.before.before.before.before.read-key.ensures c.before.before.before.before.before.before.before.before.before.before.before.before.before.if1.false (search rules) c.before.before.before.before.before.before.before.before.before.before.holds-items.ensures c.before.before.before.before.before.before.before.before.before.if3.false c.before.before.before.before.before.before.read-scalar.ensures c.if5.false c.before.before.before.before.before.before.before.before.before.before.before.before.before.before.before.before.before.before.before.before.before.before.before.before.before.before.before.before.before.before.before.requires.1.0 (going_ready c.before.before.before.before.before.before.before.before.before.before.before.before.before.before.before.before.before.before.before.before.before.before.before.before.before.before.loop.invariant.0 c.before.before.before.before.before.before.before.before.before.before.before.before.before.before.before.before.before.before.before.before.before.before.before.before.before.before.before.before.before.before.before.requires.1.1 c.before.before.before.before.before.before.before.before.before.before.before.before.before.before.before.before.before.before.before.before.before.before.before.before.before.before.loop.invariant.1 c.before.before.before.before.before.before.before.before.before.before.before.before.before.before.before.before.before.before.before.before.before.before.before.before.before.before.loop.invariant.2 c.before.before.before.before.before.before.before.before.before.before.before.before.before.before.before.before.before.before.before.before.before.before.before.before.before.before.loop.invariant.3) (search (rules, c.before.before.before.before.before.before.before.before.before.before.before.before.before.before.before.before.before.before.before.before.table.given)) (search (rules, c.before.before.before.before.before.before.before.before.before.before.before.before.before.before.before.before.before.before.book.given)) (search (rules, c.before.before.before.before.before.before.before.before.before.before.before.before.before.before.before.before.notes.given)), search rules, search rules, search rules)
+read_pairs_loop_again_2 : (t : ℕ) → read-pairs-lts.Need-loop-pairs-preserved (read_pairs_calls t) (read_pairs_at t) read_pairs.Post read_pairs_Inv_loop read-pairs-μ-loop
+read_pairs_loop_again_2 t c = (pair_flat_again _ c.loop-pairs.invariant.0 c.loop-pairs-test.true c.read_key-key.ensures c.if-key-ne0.false (search rules) c.holds_items.ensures c.if-holds_items.false c.read_scalar-step.ensures c.if-step-ne0-2.false c.requires.1.0 (going_ready c.loop-pairs.invariant.0 c.requires.1.1 c.loop-pairs.invariant.1 c.loop-pairs.invariant.2 c.loop-pairs.invariant.3) (search (rules, c.table-1.given)) (search (rules, c.book-1.given)) (search (rules, c.notes-1.given)), search rules, search rules, search rules)
 
-read_value_read_pairs_requires : (t : ℕ) → read-value-lts.Need-read-pairs-requires (read_value_calls t) (read_value_at t) read-value.Post
-read_value_read_pairs_requires t c κs = (omega (arith, head_nests _ _ _ _ _ c.before.before.before.before.before.before.before.before.read_head.ensures c.before.before.before.before.before.before.if3.false c.before.before.before.before.before.before.before.before.before.before.before.before.before.before.before.before.before.requires.1, c.before.before.before.before.before.before.before.before.before.before.before.before.before.before.before.before.before.requires.0), (search rules, head_ready _ _ _ _ _ c.before.before.before.before.before.before.before.before.read_head.ensures c.before.before.before.before.before.before.if3.false c.before.before.before.before.before.before.before.before.before.before.before.before.before.before.before.before.before.requires.1))
+read_value_read_pairs_requires : (t : ℕ) → read-value-lts.Need-read_pairs-step-requires (read_value_calls t) (read_value_at t) read-value.Post
+read_value_read_pairs_requires t c κs = (omega (arith, head_nests _ _ _ _ _ c.read_head-head.ensures c.if-head-ne0.false c.requires.1, c.requires.0), (search rules, head_ready _ _ _ _ _ c.read_head-head.ensures c.if-head-ne0.false c.requires.1))
 
 read_value_close_requires : (t : ℕ) → read-value-lts.Need-close-requires (read_value_calls t) (read_value_at t) read-value.Post
-read_value_close_requires t c κs = (done_ends c.before.before.before.before.before.before.before.read_pairs.ensures, head_row _ _ _ _ _ c.before.before.before.before.before.before.before.before.before.before.before.before.before.before.before.before.read_head.ensures c.before.before.before.before.before.before.before.before.before.before.before.before.before.before.if3.false c.before.before.before.before.before.before.before.before.before.before.before.before.before.before.before.before.before.before.before.before.before.before.before.before.before.requires.1, c.before.before.before.before.before.before.before.before.before.before.before.before.before.before.before.before.before.before.before.before.before.before.before.before.before.requires.1.ready.fitting.rows, search (rules, c.before.before.before.before.before.before.before.before.before.before.before.before.before.before.before.before.before.before.before.before.before.before.before.before.before.requires.1.ready.fitting.table, c.before.before.before.before.before.before.table.given))
+read_value_close_requires t c κs = (done_ends c.read_pairs-step.ensures, head_row _ _ _ _ _ c.read_head-head.ensures c.if-head-ne0.false c.requires.1, c.requires.1.ready.fitting.rows, search (rules, c.requires.1.ready.fitting.table, c.table-1.given))
 
-read_value_returns_3 : (t : ℕ) → read-value-lts.Need-returns-3 (read_value_calls t) (read_value_at t) read-value.Post
-read_value_returns_3 t c = struct_got _ _ _ _ _ c.before.before.before.before.before.before.before.before.before.before.before.before.before.before.before.before.before.before.before.read_head.ensures _ (search (rules, c.before.before.before.before.before.before.before.before.before.before.before.before.before.before.before.before.before.before.before.before.before.before.before.if1.false)) c.before.before.before.before.before.before.before.before.before.before.before.before.before.before.before.before.before.before.before.before.before.holds-items.ensures c.before.before.before.before.before.before.before.before.before.before.before.before.before.before.before.before.before.before.before.before.if2.true c.before.before.before.before.before.before.before.before.before.before.before.before.before.before.before.before.before.if3.false c.before.before.before.before.before.before.before.before.before.before.before.before.before.before.before.before.before.before.before.before.before.before.before.before.before.before.before.before.requires.1 c.before.before.before.before.before.before.before.before.before.before.before.before.before.before.before.before.unsigned.ensures.0 c.before.before.before.before.before.before.before.before.before.before.before.before.before.before.if4.true c.before.before.before.before.before.before.before.before.before.before.read_pairs.ensures c.before.before.close.ensures
+read_value_returns_3 : (t : ℕ) → read-value-lts.Need-returns-then-s-at-eq83 (read_value_calls t) (read_value_at t) read-value.Post
+read_value_returns_3 t c = struct_got _ _ _ _ _ c.read_head-head.ensures _ (search (rules, c.if-s-at.false)) c.holds_items.ensures c.if-holds_items.true c.if-head-ne0.false c.requires.1 c.unsigned-n.ensures.0 c.if-s-at-eq83.true c.read_pairs-step.ensures c.close.ensures
 
-read_value_read_values_requires : (t : ℕ) → read-value-lts.Need-read-values-requires (read_value_calls t) (read_value_at t) read-value.Post
-read_value_read_values_requires t c κs = (omega (arith, head_nests _ _ _ _ _ c.before.before.before.before.before.before.before.before.read_head.ensures c.before.before.before.before.before.before.if3.false c.before.before.before.before.before.before.before.before.before.before.before.before.before.before.before.before.before.requires.1, c.before.before.before.before.before.before.before.before.before.before.before.before.before.before.before.before.before.requires.0), head_ready _ _ _ _ _ c.before.before.before.before.before.before.before.before.read_head.ensures c.before.before.before.before.before.before.if3.false c.before.before.before.before.before.before.before.before.before.before.before.before.before.before.before.before.before.requires.1)
+read_value_read_values_requires : (t : ℕ) → read-value-lts.Need-read_values-step-requires (read_value_calls t) (read_value_at t) read-value.Post
+read_value_read_values_requires t c κs = (omega (arith, head_nests _ _ _ _ _ c.read_head-head.ensures c.if-head-ne0.false c.requires.1, c.requires.0), head_ready _ _ _ _ _ c.read_head-head.ensures c.if-head-ne0.false c.requires.1)
 
-read_value_close_requires_2 : (t : ℕ) → read-value-lts.Need-close-requires-2 (read_value_calls t) (read_value_at t) read-value.Post
-read_value_close_requires_2 t c κs = (done_ends c.before.before.before.before.before.before.before.read-values.ensures, head_row _ _ _ _ _ c.before.before.before.before.before.before.before.before.before.before.before.before.before.before.before.before.read_head.ensures c.before.before.before.before.before.before.before.before.before.before.before.before.before.before.if3.false c.before.before.before.before.before.before.before.before.before.before.before.before.before.before.before.before.before.before.before.before.before.before.before.before.before.requires.1, c.before.before.before.before.before.before.before.before.before.before.before.before.before.before.before.before.before.before.before.before.before.before.before.before.before.requires.1.ready.fitting.rows, search (rules, c.before.before.before.before.before.before.before.before.before.before.before.before.before.before.before.before.before.before.before.before.before.before.before.before.before.requires.1.ready.fitting.table, c.before.before.before.before.before.before.table3.given))
+read_value_close_requires_2 : (t : ℕ) → read-value-lts.Need-close-requires-then-holds_items (read_value_calls t) (read_value_at t) read-value.Post
+read_value_close_requires_2 t c κs = (done_ends c.read_values-step.ensures, head_row _ _ _ _ _ c.read_head-head.ensures c.if-head-ne0.false c.requires.1, c.requires.1.ready.fitting.rows, search (rules, c.requires.1.ready.fitting.table, c.table-then-holds_items-1.given))
 
-read_value_returns_4 : (t : ℕ) → read-value-lts.Need-returns-4 (read_value_calls t) (read_value_at t) read-value.Post
-read_value_returns_4 t c = array_got _ _ _ _ _ c.before.before.before.before.before.before.before.before.before.before.before.before.before.before.before.before.before.before.before.read_head.ensures _ (search (rules, c.before.before.before.before.before.before.before.before.before.before.before.before.before.before.before.before.before.before.before.before.before.before.before.if1.false)) c.before.before.before.before.before.before.before.before.before.before.before.before.before.before.before.before.before.before.before.before.before.holds-items.ensures c.before.before.before.before.before.before.before.before.before.before.before.before.before.before.before.before.before.before.before.before.if2.true c.before.before.before.before.before.before.before.before.before.before.before.before.before.before.before.before.before.if3.false c.before.before.before.before.before.before.before.before.before.before.before.before.before.before.before.before.before.before.before.before.before.before.before.before.before.before.before.before.requires.1 c.before.before.before.before.before.before.before.before.before.before.before.before.before.before.before.before.unsigned.ensures.0 c.before.before.before.before.before.before.before.before.before.before.before.before.before.before.if4.false c.before.before.before.before.before.before.before.before.before.before.read-values.ensures c.before.before.close2.ensures
+read_value_returns_4 : (t : ℕ) → read-value-lts.Need-returns-then-holds_items (read_value_calls t) (read_value_at t) read-value.Post
+read_value_returns_4 t c = array_got _ _ _ _ _ c.read_head-head.ensures _ (search (rules, c.if-s-at.false)) c.holds_items.ensures c.if-holds_items.true c.if-head-ne0.false c.requires.1 c.unsigned-n.ensures.0 c.if-s-at-eq83.false c.read_values-step.ensures c.close-then-holds_items.ensures
 
-abbrev read_values_Inv_loop : read-values-lts.invariant-loop
+abbrev read_values_Inv_loop : read-values-lts.invariant-loop-left
 read_values_Inv_loop s at row deep n room table₀ book₀ notes₀ left₀ next₀ free₀ table book notes left next free =
     Going s false (value s room deep) n at row room table₀ book₀ notes₀ left next free table book notes × (length table ≡ length table₀) × (length book ≡ length book₀) × (length notes ≡ length notes₀)
 
-abbrev read-values-μ-loop : read-values-lts.decreases-loop
+abbrev read-values-μ-loop : read-values-lts.decreases-loop-left
 read-values-μ-loop s at row deep n room table₀ book₀ notes₀ left₀ next₀ free₀ table book notes left next free =
     length s - next
 
-read_values_read_scalar_requires : (t : ℕ) → read-values-lts.Need-read-scalar-requires (read_values_calls t) (read_values_at t) read-values.Post read_values_Inv_loop read-values-μ-loop
-read_values_read_scalar_requires t c κs = (search rules, search values, search values, (going_ready c.before.before.before.before.before.before.before.loop.invariant.0 c.before.before.before.before.before.before.before.before.before.before.before.before.requires.1 c.before.before.before.before.before.before.before.loop.invariant.1 c.before.before.before.before.before.before.before.loop.invariant.2 c.before.before.before.before.before.before.before.loop.invariant.3).ready)
+read_values_read_scalar_requires : (t : ℕ) → read-values-lts.Need-read_scalar-step-requires (read_values_calls t) (read_values_at t) read-values.Post read_values_Inv_loop read-values-μ-loop
+read_values_read_scalar_requires t c κs = (search rules, search values, search values, (going_ready c.loop-left.invariant.0 c.requires.1 c.loop-left.invariant.1 c.loop-left.invariant.2 c.loop-left.invariant.3).ready)
 
-pub +read-pairs-read-value-read-values-spec : {M : Type 1} → statement M
-+read-pairs-read-value-read-values-spec =
+pub +read_pairs_read_value_read_values_spec : {M : Type 1} → statement M
++read_pairs_read_value_read_values_spec =
     close μ-read-pairs μ-read-value μ-read-values (λ t. read-pairs-lts.spec (read_pairs_calls t)
     (read_pairs_at t)
     read_pairs.Post

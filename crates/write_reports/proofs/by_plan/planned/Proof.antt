@@ -1,7 +1,7 @@
 use Rattle.write_reports.proofs.Telling.{telling}
 use borrow.Author.Rules.{rules}
-use Rattle.write_reports.proofs.plans.planned.Statement.{statement}
-use Rattle.write_reports.proofs.plans.planned.Tie as tie
+use Rattle.write_reports.proofs.by_plan.planned.Statement.{statement}
+use Rattle.write_reports.proofs.by_plan.planned.Tie as tie
 
 pub planned_spec : {M : Type 1} → statement M
 planned_spec = tie.close (tie.spec
