@@ -2,11 +2,13 @@
 // table answers and leaves in the output. What is lent is full of rubbish before each call. second/src/questions.rs says how a line
 // is made up; it made the files stdin and stdout. A line has the words of a table row by row, whatever the table's layout, and then
 // those that are no row's.
+#![tactic(auto)]
+
 ghost use Rattle.std.specs.Prelude.{◌≡◌, ◌≤◌, ◌<◌, length};
 
 use console::Input;
 use draft::Row;
-use libc::{STDIN_FILENO, STDOUT_FILENO};
+use std::io::Print;
 
 // What a field holds: a number, or how many bytes or words; or that it is ill-formed.
 #[derive(Drop)]
@@ -227,88 +229,88 @@ fn bytes_shown(output: &[u8]) -> usize
 }
 
 // A number, and a space behind it.
-fn write_number(n: usize) {
-    io::print_decimal(STDOUT_FILENO, n as u64);
-    console::write(b" ");
+fn write_number(rt: &HostRuntime, n: usize) {
+    let _ = print!(rt; "{n}");
+    console::write(rt, b" ");
 }
 
-fn write_word(n: u32) {
-    io::print_decimal(STDOUT_FILENO, n as u64);
+fn write_word(rt: &HostRuntime, n: u32) {
+    let _ = print!(rt; "{n}");
 }
 
 // The words up to the last that is not 0, row by row, and the line's end.
-fn write_words(table: &[u32]) {
+fn write_words(rt: &HostRuntime, table: &[u32]) {
     let n = words_shown(table);
     if n == 0 {
-        console::write(b"-");
+        console::write(rt, b"-");
     }
     let mut i = 0;
     while i < n {
         if i > 0 {
-            console::write(b",");
+            console::write(rt, b",");
         }
-        write_word(word_listed(table, i));
+        write_word(rt, word_listed(table, i));
         i += 1;
     }
-    console::write(b"\n");
+    console::write(rt, b"\n");
 }
 
-fn write_byte(b: u8) {
-    io::print_hex(STDOUT_FILENO, b as u64, 2);
+fn write_byte(rt: &HostRuntime, b: u8) {
+    let _ = print!(rt; "{b:02x}");
 }
 
 // The bytes up to the last that is not 0, and the line's end.
-fn write_bytes(output: &[u8]) {
+fn write_bytes(rt: &HostRuntime, output: &[u8]) {
     let n = bytes_shown(output);
     if n == 0 {
-        console::write(b"-");
+        console::write(rt, b"-");
     }
     let mut i = 0;
     while i < n {
-        write_byte(output[i]);
+        write_byte(rt, output[i]);
         i += 1;
     }
-    console::write(b"\n");
+    console::write(rt, b"\n");
 }
 
 // The number, the place, the rows, the bytes used, and the table.
-fn read(message: &[u8], table: &mut [u32]) {
+fn read(rt: &HostRuntime, message: &[u8], table: &mut [u32]) {
     spoil_words(table);
     let answer = reader::read(message, table, draft::MOST_NESTING);
     match answer {
         read_answer::Answer::Accepted { rows, used } => {
-            console::write(b"0 0 ");
-            write_number(rows);
-            write_number(used);
+            console::write(rt, b"0 0 ");
+            write_number(rt, rows);
+            write_number(rt, used);
         }
         read_answer::Answer::Refused { refusal, place } => {
-            write_number(draft::number(refusal) as usize);
-            write_number(place);
-            console::write(b"0 0 ");
+            write_number(rt, draft::number(refusal) as usize);
+            write_number(rt, place);
+            console::write(rt, b"0 0 ");
         }
     }
-    write_words(table);
+    write_words(rt, table);
 }
 
 // The number, the length, and the output.
-fn write(table: &[u32], rows: usize, text: &[u8], output: &mut [u8]) {
+fn write(rt: &HostRuntime, table: &[u32], rows: usize, text: &[u8], output: &mut [u8]) {
     spoil_bytes(output);
     let answer = writer::write(table, rows, text, draft::MOST_NESTING, output);
     match answer {
         write_answer::Answer::Written { length } => {
-            console::write(b"0 ");
-            write_number(length);
+            console::write(rt, b"0 ");
+            write_number(rt, length);
         }
         write_answer::Answer::Refused(refusal) => {
-            write_number(draft::number(refusal) as usize);
-            console::write(b"0 ");
+            write_number(rt, draft::number(refusal) as usize);
+            console::write(rt, b"0 ");
         }
     }
-    write_bytes(output);
+    write_bytes(rt, output);
 }
 
 // `read MESSAGE WORDS`: writes its answer, if it is well-formed, and says whether it is.
-fn answer_reading(line: &[u8], message: &mut [u8], table: &mut [u32]) -> bool {
+fn answer_reading(rt: &HostRuntime, line: &[u8], message: &mut [u8], table: &mut [u32]) -> bool {
     let message_field = bytes(field(line, 1), message);
     let words_field = number(rest(line, 2));
     let Parsed::Number(size) = message_field else {
@@ -320,12 +322,18 @@ fn answer_reading(line: &[u8], message: &mut [u8], table: &mut [u32]) -> bool {
     if table.len() < words {
         return false;
     }
-    read(content::part(message, 0, size), &mut table[0..words]);
+    read(rt, content::part(message, 0, size), &mut table[0..words]);
     true
 }
 
 // The rows and the length of a `write` line, whose table and text are known: likewise.
-fn answer_table(line: &[u8], table: &[u32], text: &[u8], output: &mut [u8]) -> bool {
+fn answer_table(
+    rt: &HostRuntime,
+    line: &[u8],
+    table: &[u32],
+    text: &[u8],
+    output: &mut [u8],
+) -> bool {
     let rows_field = number(field(line, 2));
     let length_field = number(rest(line, 4));
     let Parsed::Number(rows) = rows_field else {
@@ -337,12 +345,13 @@ fn answer_table(line: &[u8], table: &[u32], text: &[u8], output: &mut [u8]) -> b
     if output.len() < length {
         return false;
     }
-    write(table, rows, text, &mut output[0..length]);
+    write(rt, table, rows, text, &mut output[0..length]);
     true
 }
 
 // `write TABLE ROWS TEXT LENGTH`: likewise, with the table's words in a list first.
 fn answer_writing(
+    rt: &HostRuntime,
     line: &[u8],
     message: &mut [u8],
     list: &mut [u32],
@@ -365,63 +374,65 @@ fn answer_writing(
     }
     put_listed(&list[0..words], &mut table[0..words]);
     let text = content::part(message, 0, size);
-    answer_table(line, &table[0..words], text, output)
+    answer_table(rt, line, &table[0..words], text, output)
 }
 
 // The buffers have room for one byte over a message's or a text's limit, and for more words and bytes than a table or an output needs. A line
 // that asks for more is ill-formed.
-fn answer_read(line: &[u8]) -> bool {
+fn answer_read(rt: &HostRuntime, line: &[u8]) -> bool {
     let mut message = [0u8; 65537];
     let mut table = [0u32; 20000];
-    answer_reading(line, &mut message, &mut table)
+    answer_reading(rt, line, &mut message, &mut table)
 }
 
-fn answer_write(line: &[u8]) -> bool {
+fn answer_write(rt: &HostRuntime, line: &[u8]) -> bool {
     let mut message = [0u8; 65537];
     let mut list = [0u32; 20000];
     let mut table = [0u32; 20000];
     let mut output = [0u8; 70000];
-    answer_writing(line, &mut message, &mut list, &mut table, &mut output)
+    answer_writing(rt, line, &mut message, &mut list, &mut table, &mut output)
 }
 
 // Writes a line's answer, if it is well-formed, and says whether it is.
-fn answer(line: &[u8]) -> bool {
+fn answer(rt: &HostRuntime, line: &[u8]) -> bool {
     let name = field(line, 0);
     if names::equal(name, b"read") {
-        return answer_read(line);
+        return answer_read(rt, line);
     }
     if names::equal(name, b"write") {
-        return answer_write(line);
+        return answer_write(rt, line);
     }
     false
 }
 
 // For each line its answer, or that it is ill-formed.
-fn answer_all(input: &[u8]) {
+fn answer_all(rt: &HostRuntime, input: &[u8]) {
     let mut at = 0;
     while at < input.len() {
         let end = until(input, at, b'\n');
-        if !answer(&input[at..end]) {
-            console::write(b"ill-formed\n");
+        if !answer(rt, &input[at..end]) {
+            console::write(rt, b"ill-formed\n");
         }
         at = end + 1;
     }
 }
 
-fn answer_input(room: &mut [u8]) {
-    let input = console::read_all(STDIN_FILENO, room);
+fn answer_input(rt: &HostRuntime, room: &mut [u8]) {
+    let mut source = rt.stdin();
+    let input = console::read_all(&mut source, room);
     match input {
         Input::Bytes(n) => {
-            answer_all(content::part(room, 0, n));
+            answer_all(rt, content::part(room, 0, n));
         }
-        Input::Failed => {
-            os::fail(b"standard input");
+        Input::Failed(error) => {
+            console::fail(rt, b"standard input", error);
         }
+        Input::Told => {}
     }
 }
 
 // What of the input is past its first 400,000 bytes is dropped.
-fn main() {
+fn main(rt: HostRuntime) {
     let mut room = [0u8; 400000];
-    answer_input(&mut room);
+    answer_input(&rt, &mut room);
 }

@@ -6,17 +6,18 @@ use Rattle.console.specs.declared.Input.{Input}
 use Rattle.console.specs.declared.Input.TheVariants as input
 
 -- at least a byte, and no more than there is room for
-abbrev pub Advances : Piece → ℕ → Type 0
-Advances (piece.More n) left = (0 < n) × (n ≤ left)
-Advances piece.End left = Unit {0}
-Advances piece.Failed left = Unit {0}
+abbrev pub AdvancesBy : Piece → ℕ → Type 0
+AdvancesBy (piece.More n) left = (0 < n) × (n ≤ left)
+AdvancesBy piece.End left = Unit {0}
+AdvancesBy (piece.Failed e) left = Unit {0}
 
 pub record Advances (p : Piece) (left : ℕ) : Type 0 where
-  pub by : Advances p left
+  pub by : AdvancesBy p left
 
-abbrev pub Within : Input → ℕ → Type 0
-Within (input.Bytes n) most = n ≤ most
-Within input.Failed most = Unit {0}
+abbrev pub WithinBy : Input → ℕ → Type 0
+WithinBy (input.Bytes n) most = n ≤ most
+WithinBy (input.Failed e) most = Unit {0}
+WithinBy input.Told most = Unit {0}
 
 pub record Within (i : Input) (most : ℕ) : Type 0 where
-  pub at : Within i most
+  pub at : WithinBy i most

@@ -1,48 +1,59 @@
 // Standard input, output and error for the programs, and the files that their words name. No contract can say which bytes the system takes
 // or brings: `lines` settles what is handed to it.
-ghost use Rattle.std.specs.Prelude.{◌-◌, ◌≤◌, length};
+#![tactic(auto)]
+
+ghost use Rattle.std.specs.Prelude.{◌-◌, ◌≤◌, length, IfOk};
 ghost use Rattle.console.specs.Input.{Advances, Within};
 
-use libc::{STDERR_FILENO, STDIN_FILENO, STDOUT_FILENO};
+use std::env::{Env, FillError};
+use std::fs::File;
+use std::io::{Print, Read, Write};
+use std::{io, str};
+
+// The system's numbers of the two ways in which a word can't be had: there is none, and it is too long.
+const NO_WORD: i32 = 22;
+
+const LONG_WORD: i32 = 36;
 
 // What one read brought.
-#[derive(Drop)]
+#[derive(Clone, Copy)]
 pub enum Piece {
     More(usize),
     End,
-    Failed,
+    Failed(io::Error),
 }
 
-// What an input brought: that many bytes; or none, and why was said where it was found.
-#[derive(Drop)]
+// What an input brought: that many bytes; or none, and why; or none because the command's words were answered with how the program is used.
+// Why a file or standard input brought none is said on standard error where its name is known.
+#[derive(Clone, Copy)]
 pub enum Input {
     Bytes(usize),
-    Failed,
+    Failed(io::Error),
+    Told,
 }
 
 // One read into the bytes from `at` on.
-fn read_piece(fd: i32, buffer: &mut [u8], at: usize) -> Piece
+fn read_piece<R: Read>(source: &mut R, buffer: &mut [u8], at: usize) -> Piece
     requires { at ≤ length buffer.old }
     ensures { Advances result (length buffer.old - at) }
 {
-    let got = libc::read(fd, &mut buffer[at..]);
-    if got < 0 {
-        return Piece::Failed;
-    }
-    let n = io::count(got, &buffer[at..]);
+    let n = match source.read(&mut buffer[at..]) {
+        Ok(n) => n,
+        Err(error) => return Piece::Failed(error),
+    };
     if n == 0 { Piece::End } else { Piece::More(n) }
 }
 
 // Reads until the input ends or the buffer is full, whatever pieces come.
-fn fill(fd: i32, buffer: &mut [u8]) -> Input
+fn fill<R: Read>(source: &mut R, buffer: &mut [u8]) -> Input
     ensures { Within result (length buffer.old) }
 {
     let mut at = 0;
     while at < buffer.len() {
-        let piece = read_piece(fd, buffer, at);
+        let piece = read_piece(source, buffer, at);
         match piece {
-            Piece::Failed => {
-                return Input::Failed;
+            Piece::Failed(error) => {
+                return Input::Failed(error);
             }
             Piece::End => {
                 return Input::Bytes(at);
@@ -56,117 +67,171 @@ fn fill(fd: i32, buffer: &mut [u8]) -> Input
 }
 
 // Whether there was a piece more, which is dropped.
-fn skip_piece(fd: i32) -> bool {
-    let mut buffer = io::buffer();
-    let piece = read_piece(fd, &mut buffer, 0);
+fn skip_piece<R: Read>(source: &mut R) -> bool {
+    let mut buffer = [0u8; 4096];
+    let piece = read_piece(source, &mut buffer, 0);
     match piece {
         Piece::More(_) => true,
         Piece::End => false,
-        Piece::Failed => false,
+        Piece::Failed(_) => false,
     }
 }
 
 // Drops what is left of the input, so that who sends it can send it all. A proved loop has to end, and nothing says that an
 // input does, so it counts its turns, from a number that no run uses up.
-fn skip(fd: i32) {
+fn skip<R: Read>(source: &mut R) {
     let mut turns = u64::MAX;
-    while turns > 0 && skip_piece(fd) {
+    while turns > 0 && skip_piece(source) {
         turns -= 1;
     }
 }
 
 // Reads the input to its end: its first bytes into the buffer, and how many those are.
-pub fn read_all(fd: i32, buffer: &mut [u8]) -> Input
+pub fn read_all<R: Read>(source: &mut R, buffer: &mut [u8]) -> Input
     ensures { Within result (length buffer.old) }
 {
-    let input = fill(fd, buffer);
-    skip(fd);
+    let input = fill(source, buffer);
+    skip(source);
     input
+}
+
+// The system's words for an error, of the text of one: up to the error's number, or to the bytes that are 0.
+fn reason(text: &[u8]) -> &[u8] {
+    for n in 0..text.len() {
+        if text[n] == 0 || text[n..].starts_with(b" (os error ") {
+            return &text[..n];
+        }
+    }
+    text
+}
+
+// Says on standard error what failed, and why.
+pub fn fail(rt: &HostRuntime, what: &[u8], error: io::Error) {
+    let mut text = [0u8; 320];
+    let mut space: &mut [u8] = &mut text;
+    let _ = write!(space, "{error}");
+    complain(rt, what);
+    complain(rt, b": ");
+    complain(rt, reason(&text));
+    complain(rt, b"\n");
+}
+
+// Says why an input failed, if it did.
+fn tell(rt: &HostRuntime, what: &[u8], input: Input) {
+    match input {
+        Input::Failed(error) => fail(rt, what, error),
+        Input::Bytes(_) => {}
+        Input::Told => {}
+    }
+}
+
+// Opens the file of a name, which has to be UTF-8.
+fn open(rt: &HostRuntime, name: &[u8]) -> io::Result<File> {
+    match str::from_utf8(name) {
+        Ok(path) => File::open(rt, path),
+        Err(_) => Err(io::Error::from(io::ErrorKind::InvalidFilename)),
+    }
 }
 
 // Reads the file of a name until it ends or the buffer is full. What goes wrong is said on standard error.
-fn read_named(name: &[u8], buffer: &mut [u8]) -> Input
+fn read_named(rt: &HostRuntime, name: &[u8], buffer: &mut [u8]) -> Input
     ensures { Within result (length buffer.old) }
 {
-    let fd = os::open_read(name);
-    if fd < 0 {
-        os::fail(name);
-        return Input::Failed;
-    }
-    let input = fill(fd, buffer);
-    if is_failed(input) {
-        os::fail(name);
-    }
-    libc::close(fd);
+    let input = match open(rt, name) {
+        Ok(file) => {
+            let mut source = file;
+            fill(&mut source, buffer)
+        }
+        Err(error) => Input::Failed(error),
+    };
+    tell(rt, name, input);
     input
 }
 
-fn is_failed(input: Input) -> bool {
-    match input {
-        Input::Failed => true,
-        Input::Bytes(_) => false,
+// How many words the command has, its name among them.
+pub fn word_count(rt: &HostRuntime) -> usize {
+    for n in 0..usize::MAX {
+        if let Err(FillError::NotPresent) = rt.arg(n, &mut []) {
+            return n;
+        }
+    }
+    usize::MAX
+}
+
+// The word of the command with that number, of which its name has 0, into the buffer, and how many bytes it has.
+pub fn word(rt: &HostRuntime, number: usize, buffer: &mut [u8]) -> io::Result<usize>
+    ensures { IfOk result (λ n. n ≤ length buffer.new) }
+{
+    match rt.arg(number, buffer) {
+        Ok(n) => Ok(n),
+        Err(FillError::NotPresent) => Err(io::Error::from_raw_os_error(NO_WORD)),
+        Err(FillError::TooLong) => Err(io::Error::from_raw_os_error(LONG_WORD)),
     }
 }
 
 // Reads the file that a word of the command names, likewise.
-pub fn read_file(word: usize, buffer: &mut [u8]) -> Input
+pub fn read_file(rt: &HostRuntime, number: usize, buffer: &mut [u8]) -> Input
     ensures { Within result (length buffer.old) }
 {
-    let mut name = io::buffer();
-    let n = os::arg(word, &mut name);
-    if os::errno() != 0 {
-        os::fail(b"the name of the file");
-        return Input::Failed;
+    let mut name = [0u8; 4096];
+    match word(rt, number, &mut name) {
+        Ok(n) => read_named(rt, &name[..n], buffer),
+        Err(error) => {
+            fail(rt, b"the name of the file", error);
+            Input::Failed(error)
+        }
     }
-    read_named(&name[..n], buffer)
 }
 
 // Whether the command has one word, and that asks how the program is used; then that is told.
-pub fn has_helped(usage: &[u8]) -> bool {
-    if os::arg_count() != 2 {
+pub fn has_helped(rt: &HostRuntime, usage: &[u8]) -> bool {
+    if word_count(rt) != 2 {
         return false;
     }
-    let mut word = io::buffer();
-    let n = os::arg(1, &mut word);
-    if !names::equal(&word[..n], b"--help") {
+    let mut space = [0u8; 4096];
+    let Ok(n) = word(rt, 1, &mut space) else {
+        return false;
+    };
+    if !names::equal(&space[..n], b"--help") {
         return false;
     }
-    write(usage);
+    write(rt, usage);
     true
 }
 
 // Reads standard input to its end, or the file that the command's one word names. More words are answered with how the program is used.
-pub fn read_input(usage: &[u8], buffer: &mut [u8]) -> Input
+pub fn read_input(rt: &HostRuntime, usage: &[u8], buffer: &mut [u8]) -> Input
     ensures { Within result (length buffer.old) }
 {
-    if has_helped(usage) {
-        return Input::Failed;
+    if has_helped(rt, usage) {
+        return Input::Told;
     }
-    let words = os::arg_count();
+    let words = word_count(rt);
     if words > 2 {
-        complain(usage);
-        return Input::Failed;
+        complain(rt, usage);
+        return Input::Told;
     }
     if words == 2 {
-        return read_file(1, buffer);
+        return read_file(rt, 1, buffer);
     }
-    let input = read_all(STDIN_FILENO, buffer);
-    if is_failed(input) {
-        os::fail(b"standard input");
-    }
+    let mut source = rt.stdin();
+    let input = read_all(&mut source, buffer);
+    tell(rt, b"standard input", input);
     input
 }
 
 // Hands bytes to standard output, and says whether it took them; if not, that is said on standard error too.
-pub fn write(text: &[u8]) -> bool {
-    let written = io::write_all(STDOUT_FILENO, text);
-    if !written {
-        os::fail(b"standard output");
+pub fn write(rt: &HostRuntime, text: &[u8]) -> bool {
+    match rt.write_all(text) {
+        Ok(()) => true,
+        Err(error) => {
+            fail(rt, b"standard output", error);
+            false
+        }
     }
-    written
 }
 
 // Hands bytes to standard error.
-pub fn complain(text: &[u8]) {
-    io::write_all(STDERR_FILENO, text);
+pub fn complain(rt: &HostRuntime, text: &[u8]) {
+    let _ = Print::write_all(&rt.stderr(), text);
 }

@@ -1,5 +1,7 @@
 // Whole listings, each put into a lent line: a line for the answer, and one for each row. A function answers where what it put ends; what
 // the line has no room for is dropped.
+#![tactic(auto)]
+
 ghost use Rattle.std.specs.Prelude.{◌≡◌, ◌++◌, min, length};
 ghost use Rattle.spelling.specs.Line.{Puts};
 ghost use Rattle.lines.specs.Lines.{card_accepted_line};

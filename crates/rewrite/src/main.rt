@@ -1,53 +1,56 @@
 // Reads one message, from standard input or from the file that is named, and writes its written form, the bytes alone. A refusal, the
 // reader's or the writer's, is a line on standard error, and nothing is written then.
+#![tactic(auto)]
+
 use console::Input;
 
-fn complain(number: u8, place: usize) {
+fn complain(rt: &HostRuntime, number: u8, place: usize) {
     let mut space = [0u8; 160];
     let line: &mut [u8] = &mut space;
     let n = lines::put_refusal(line, 0, number, place);
-    console::complain(content::part(line, 0, n));
+    console::complain(rt, content::part(line, 0, n));
 }
 
 // The written form of a table that was read, whose texts lie in its message.
-fn write_form(table: &[u32], rows: usize, message: &[u8], output: &mut [u8]) {
+fn write_form(rt: &HostRuntime, table: &[u32], rows: usize, message: &[u8], output: &mut [u8]) {
     let answer = writer::write(table, rows, message, draft::MOST_NESTING, output);
     match answer {
         write_answer::Answer::Written { length } => {
-            console::write(content::part(output, 0, length));
+            console::write(rt, content::part(output, 0, length));
         }
         write_answer::Answer::Refused(refusal) => {
-            complain(draft::number(refusal), 0);
+            complain(rt, draft::number(refusal), 0);
         }
     }
 }
 
-fn rewrite(message: &[u8]) {
+fn rewrite(rt: &HostRuntime, message: &[u8]) {
     let mut table = [0u32; 16384];
     let mut output = [0u8; 65536];
     let answer = reader::read(message, &mut table, draft::MOST_NESTING);
     match answer {
         read_answer::Answer::Accepted { rows, used: _ } => {
-            write_form(&table, rows, message, &mut output);
+            write_form(rt, &table, rows, message, &mut output);
         }
         read_answer::Answer::Refused { refusal, place } => {
-            complain(draft::number(refusal), place);
+            complain(rt, draft::number(refusal), place);
         }
     }
 }
 
-fn rewrite_input(room: &mut [u8]) {
-    let input = console::read_input(b"usage: rewrite [FILE]\n", room);
+fn rewrite_input(rt: &HostRuntime, room: &mut [u8]) {
+    let input = console::read_input(rt, b"usage: rewrite [FILE]\n", room);
     match input {
         Input::Bytes(n) => {
-            rewrite(content::part(room, 0, n));
+            rewrite(rt, content::part(room, 0, n));
         }
-        Input::Failed => {}
+        Input::Failed(_) => {}
+        Input::Told => {}
     }
 }
 
 // A message over 65,536 bytes is refused, so no more than one byte past that is kept of it.
-fn main() {
+fn main(rt: HostRuntime) {
     let mut room = [0u8; 65537];
-    rewrite_input(&mut room);
+    rewrite_input(&rt, &mut room);
 }

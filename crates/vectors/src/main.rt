@@ -1,10 +1,11 @@
 // Lists the messages on standard input, each on the line behind its name's: those of document 01, the examples and counter-examples of the
 // draft (document 002), and faults, Doubles, dates and keys by document 02's rules. A byte is a printable character, or `\` and two
 // hexadecimal digits; a message behind `8 words ` is read into a table of that size.
+#![tactic(auto)]
+
 ghost use Rattle.std.specs.Prelude.{◌≡◌, ◌+◌, ◌≤◌, ◌<◌, min, length};
 
 use console::Input;
-use libc::STDIN_FILENO;
 
 // Where the line from `at` on ends.
 fn line_end(s: &[u8], at: usize) -> usize
@@ -71,17 +72,18 @@ fn unescape(line: &[u8], message: &mut [u8]) -> usize {
     n
 }
 
-fn list(line: &[u8], message: &mut [u8], table: &mut [u32], listing: &mut [u8]) {
+fn list(rt: &HostRuntime, line: &[u8], message: &mut [u8], table: &mut [u32], listing: &mut [u8]) {
     let n = unescape(line, message);
     let size = listings::list(content::part(message, 0, n), table, listing);
-    console::write(content::part(listing, 0, size));
+    console::write(rt, content::part(listing, 0, size));
 }
 
 // The message of a line, into the table that the line asks for.
-fn run(line: &[u8], message: &mut [u8], listing: &mut [u8]) {
+fn run(rt: &HostRuntime, line: &[u8], message: &mut [u8], listing: &mut [u8]) {
     if names::equal(content::part(line, 0, 8), b"8 words ") {
         let mut table = [0u32; 8];
         list(
+            rt,
             content::part(line, 8, line.len()),
             message,
             &mut table,
@@ -89,7 +91,7 @@ fn run(line: &[u8], message: &mut [u8], listing: &mut [u8]) {
         );
     } else {
         let mut table = [0u32; 16384];
-        list(line, message, &mut table, listing);
+        list(rt, line, message, &mut table, listing);
     }
 }
 
@@ -102,31 +104,33 @@ fn behind(s: &[u8], end: usize) -> usize
 }
 
 // Each name and its message.
-fn run_all(s: &[u8], message: &mut [u8], listing: &mut [u8]) {
+fn run_all(rt: &HostRuntime, s: &[u8], message: &mut [u8], listing: &mut [u8]) {
     let mut at = 0;
     while at < s.len() {
         let end = line_end(s, at);
         let from = behind(s, end);
         let to = line_end(s, from);
-        console::write(&s[at..from]);
-        run(&s[from..to], message, listing);
+        console::write(rt, &s[at..from]);
+        run(rt, &s[from..to], message, listing);
         at = behind(s, to);
     }
 }
 
-fn run_input(input: &mut [u8], message: &mut [u8], listing: &mut [u8]) {
-    let got = console::read_all(STDIN_FILENO, input);
+fn run_input(rt: &HostRuntime, input: &mut [u8], message: &mut [u8], listing: &mut [u8]) {
+    let mut source = rt.stdin();
+    let got = console::read_all(&mut source, input);
     match got {
         Input::Bytes(n) => {
-            run_all(content::part(input, 0, n), message, listing);
+            run_all(rt, content::part(input, 0, n), message, listing);
         }
-        Input::Failed => {}
+        Input::Failed(_) => {}
+        Input::Told => {}
     }
 }
 
-fn main() {
+fn main(rt: HostRuntime) {
     let mut input = [0u8; 65536];
     let mut message = [0u8; 512];
     let mut listing = [0u8; 430158];
-    run_input(&mut input, &mut message, &mut listing);
+    run_input(&rt, &mut input, &mut message, &mut listing);
 }
