@@ -1,5 +1,5 @@
 //! Tells the linker where the proved library lies: in the folder that
-//! BINMODE_LIB_DIR names, or where `rt staticlib binmode` puts it.
+//! BINMODE_LIB_DIR names, or where `link/archive` puts it.
 
 use std::path::PathBuf;
 
@@ -17,7 +17,7 @@ fn main() {
     println!("cargo::rerun-if-changed={}", library.display());
     match std::fs::read(&library) {
         Err(error) => println!(
-            "cargo::error={}: {error}. Run `rt staticlib binmode` at the top of the repository, or set \
+            "cargo::error={}: {error}. Run `link/archive` at the top of the repository, or set \
              BINMODE_LIB_DIR to the folder that has libbinmode.a",
             library.display()
         ),

@@ -3,5 +3,4 @@ pub mod InPieces
 pub mod Looking
 pub mod Planning
 pub mod Reporting
-pub mod Behind
 pub mod Glyphing

@@ -10,8 +10,7 @@ use glyph::Edition;
 use shares::{split_for, station_of};
 
 // Reads a hyperglyph 1.0 message into a table, nested to at most a limit: the result is 0 for acceptance, or the refusal's number.
-#[unsafe(no_mangle)]
-pub extern "C" fn binmode_read_hyperglyph(
+pub fn binmode_read_hyperglyph(
     message: &[u8],
     table: &mut [u32],
     limit: usize,
@@ -26,8 +25,7 @@ pub extern "C" fn binmode_read_hyperglyph(
 }
 
 // Reads a glyph 0.5 message, likewise.
-#[unsafe(no_mangle)]
-pub extern "C" fn binmode_read_glyph(
+pub fn binmode_read_glyph(
     message: &[u8],
     table: &mut [u32],
     limit: usize,
@@ -42,8 +40,7 @@ pub extern "C" fn binmode_read_glyph(
 }
 
 // Reads a hyperglyph 1.0 message into a station's share of a table.
-#[unsafe(no_mangle)]
-pub extern "C" fn binmode_station_read_hyperglyph(
+pub fn binmode_station_read_hyperglyph(
     message: &[u8],
     table: &mut [u32],
     split: usize,
@@ -62,8 +59,7 @@ pub extern "C" fn binmode_station_read_hyperglyph(
 }
 
 // Reads a glyph 0.5 message into a station's share, likewise.
-#[unsafe(no_mangle)]
-pub extern "C" fn binmode_station_read_glyph(
+pub fn binmode_station_read_glyph(
     message: &[u8],
     table: &mut [u32],
     split: usize,
@@ -82,8 +78,7 @@ pub extern "C" fn binmode_station_read_glyph(
 }
 
 // Writes a table as a hyperglyph 1.0 message, nested to at most a limit: the result is 0 for acceptance, or the refusal's number.
-#[unsafe(no_mangle)]
-pub extern "C" fn binmode_write_hyperglyph(
+pub fn binmode_write_hyperglyph(
     table: &[u32],
     rows: usize,
     text: &[u8],
@@ -98,8 +93,7 @@ pub extern "C" fn binmode_write_hyperglyph(
 }
 
 // Writes a table as a glyph 0.5 message, likewise.
-#[unsafe(no_mangle)]
-pub extern "C" fn binmode_write_glyph(
+pub fn binmode_write_glyph(
     table: &[u32],
     rows: usize,
     text: &[u8],
@@ -114,8 +108,7 @@ pub extern "C" fn binmode_write_glyph(
 }
 
 // Writes a station's share of a table as a hyperglyph 1.0 message.
-#[unsafe(no_mangle)]
-pub extern "C" fn binmode_station_write_hyperglyph(
+pub fn binmode_station_write_hyperglyph(
     table: &[u32],
     split: usize,
     station: u8,
@@ -134,8 +127,7 @@ pub extern "C" fn binmode_station_write_hyperglyph(
 }
 
 // Writes a station's share as a glyph 0.5 message, likewise.
-#[unsafe(no_mangle)]
-pub extern "C" fn binmode_station_write_glyph(
+pub fn binmode_station_write_glyph(
     table: &[u32],
     split: usize,
     station: u8,

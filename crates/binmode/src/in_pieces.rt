@@ -6,16 +6,14 @@ ghost use Rattle.piece_reports.specs.Words.{words_of};
 ghost use Rattle.piece_reports.specs.Reported.{PieceReported, EndReported};
 
 // Sets the state for a message of which nothing has come.
-#[unsafe(no_mangle)]
-pub extern "C" fn binmode_pieces_start(state: &mut [u64; 6])
+pub fn binmode_pieces_start(state: &mut [u64; 6])
     ensures { state.new ≡ words_of begun }
 {
     piece_reports::keep(pieces::start(), state);
 }
 
 // Takes the next piece, and reports what stands then: the result is 255 if more is wanted, 0 for acceptance, or the refusal's number.
-#[unsafe(no_mangle)]
-pub extern "C" fn binmode_pieces_next_within(
+pub fn binmode_pieces_next_within(
     state: &mut [u64; 6],
     piece: &[u8],
     room: &mut [u8],
@@ -29,8 +27,7 @@ pub extern "C" fn binmode_pieces_next_within(
 }
 
 // Says that no more pieces come, and reports what stands then.
-#[unsafe(no_mangle)]
-pub extern "C" fn binmode_pieces_end_within(
+pub fn binmode_pieces_end_within(
     state: &mut [u64; 6],
     room: &[u8],
     table: &mut [u32],

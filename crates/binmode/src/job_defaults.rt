@@ -1,12 +1,11 @@
-// Job defaults behind a card, for programs in C and Rust. A slice passes as a pointer and then a length, a `&mut` to a number as a pointer; since no
-// slice can be returned, a text is told by which bytes it lies in, its offset and its length.
+// Job defaults behind a card, for programs in C and Rust. Since no slice can be returned to them, a text is told by which bytes it lies in, its offset
+// and its length.
 ghost use Rattle.std.specs.Prelude.{◌≡◌};
 ghost use Rattle.defaults.specs.Defaults.{source as sourceIn, chosen};
 ghost use Rattle.lookup_reports.specs.Numbers.{text_report, text_report_of};
 
 // The text that a card has under a key, or behind it the defaults: the result is 0, or the refusal's number; every number lent is set.
-#[unsafe(no_mangle)]
-pub extern "C" fn binmode_default_text(
+pub fn binmode_default_text(
     table: &[u32],
     rows: usize,
     text: &[u8],

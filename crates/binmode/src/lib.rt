@@ -1,14 +1,16 @@
-// Reading, writing and job files for programs in C and Rust. A slice passes as a pointer and then a length, a `&mut u64` as a pointer. Each function
-// reports the answer of the call below it, in the numbers that are lent, by the crates of reports.
-mod glyphs; // glyphs.rt: hyperglyph 1.0 and glyph 0.5
-mod in_pieces; // in_pieces.rt: messages in pieces
-mod job_defaults; // job_defaults.rt: job defaults behind a card
-mod lookups; // lookups.rt: looking up members, and positions
-mod member_index; // member_index.rt: an index of members
-mod stations; // stations.rt: stations four and five on one table
-mod planned; // planned.rt: writing with a plan, and prices that prove it shortest
-mod usual; // usual.rt: the calls that state no limit of nesting
-mod version; // version.rt: the version of the interface
+// Reading, writing and job files for programs in C and Rust, which call the functions here by those of `binmode_c`. Each function reports the answer
+// of the call below it, in the numbers that are lent, by the crates of reports.
+#![tactic(auto)]
+
+pub mod glyphs; // glyphs.rt: hyperglyph 1.0 and glyph 0.5
+pub mod in_pieces; // in_pieces.rt: messages in pieces
+pub mod job_defaults; // job_defaults.rt: job defaults behind a card
+pub mod lookups; // lookups.rt: looking up members, and positions
+pub mod member_index; // member_index.rt: an index of members
+pub mod stations; // stations.rt: stations four and five on one table
+pub mod planned; // planned.rt: writing with a plan, and prices that prove it shortest
+pub mod usual; // usual.rt: the calls that state no limit of nesting
+pub mod version; // version.rt: the version of the interface
 
 ghost use Rattle.std.specs.Prelude.{◌≡◌, length, drop};
 ghost use Rattle.read_answer.specs.Answers.{reading};
@@ -18,8 +20,7 @@ ghost use Rattle.binmode.specs.Cards.{CardReported};
 ghost use Rattle.read_reports.specs.Numbers.{finding, finding_of};
 
 // Reads a message into a table, nested to at most a limit, and reports document 01's numbers: the result is 0 for acceptance, or the refusal's number.
-#[unsafe(no_mangle)]
-pub extern "C" fn binmode_read_within(
+pub fn binmode_read_within(
     message: &[u8],
     table: &mut [u32],
     limit: usize,
@@ -34,8 +35,7 @@ pub extern "C" fn binmode_read_within(
 
 // Writes a table with a stated number of rows, whose texts lie in the text bytes, and reports document 01's numbers: the result is 0
 // for acceptance, or the refusal's number.
-#[unsafe(no_mangle)]
-pub extern "C" fn binmode_write_within(
+pub fn binmode_write_within(
     table: &[u32],
     rows: usize,
     text: &[u8],
@@ -49,8 +49,7 @@ pub extern "C" fn binmode_write_within(
 }
 
 // Reads a card of a job file into a table, and reports document 02's numbers: the result is 0 for acceptance, or the refusal's number.
-#[unsafe(no_mangle)]
-pub extern "C" fn binmode_read_card(
+pub fn binmode_read_card(
     file: &[u8],
     number: usize,
     table: &mut [u32],
@@ -66,8 +65,7 @@ pub extern "C" fn binmode_read_card(
 
 // Finds the next card of a job file, for one who goes from card to card: `number` cards stand before the record at `from`. Reports where
 // its body lies; the result is 0, or the refusal's number.
-#[unsafe(no_mangle)]
-pub extern "C" fn binmode_next_card(
+pub fn binmode_next_card(
     file: &[u8],
     number: usize,
     from: usize,

@@ -1,4 +1,4 @@
-// Looking up members, and positions, for programs in C and Rust. A slice passes as a pointer and then a length, a `&mut` to a number as a pointer.
+// Looking up members, and positions, for programs in C and Rust.
 ghost use Rattle.std.specs.Prelude.{◌≡◌};
 ghost use Rattle.lookup_answer.specs.Answers.{lookup as lookupIn};
 ghost use Rattle.lookup_answer.specs.Reports.{reported, report_of};
@@ -6,8 +6,7 @@ ghost use Rattle.placing.specs.Placing.{at, position as positionIn};
 ghost use Rattle.lookup_reports.specs.Numbers.{PositionReported};
 
 // Looks up a member of the Struct of a row, and reports document 02's numbers: the result is 0, or the refusal's number; every number lent is set.
-#[unsafe(no_mangle)]
-pub extern "C" fn binmode_lookup(
+pub fn binmode_lookup(
     table: &[u32],
     rows: usize,
     text: &[u8],
@@ -26,8 +25,7 @@ pub extern "C" fn binmode_lookup(
 }
 
 // The position in the Struct of a row: the result is 0, or the refusal's number and three plus zeros.
-#[unsafe(no_mangle)]
-pub extern "C" fn binmode_position(
+pub fn binmode_position(
     table: &[u32],
     rows: usize,
     text: &[u8],

@@ -1,5 +1,4 @@
-// An index of a Struct's members, for programs in C and Rust: entries in a list that the caller lends, and keys looked up through one. A function that
-// has a slice of structs is proved by a walk of its code by hand, so these are few, and none has a branch but its loop's test.
+// An index of a Struct's members, for programs in C and Rust: entries in a list that the caller lends, and keys looked up through one.
 ghost use Rattle.std.specs.Prelude.{◌≡◌, length};
 ghost use Rattle.lookup_answer.specs.Reports.{report_of};
 ghost use Rattle.index.specs.Filling.{Filled};
@@ -11,8 +10,7 @@ use member::Member;
 
 // Fills a list with the index of the members of the Struct of a row: an entry for each, in byte order of their keys, unused ones behind them. The
 // result is 0, or the refusal's number, and then all entries are unused.
-#[unsafe(no_mangle)]
-pub extern "C" fn binmode_index_fill<'a, 'b>(
+pub fn binmode_index_fill<'a, 'b>(
     table: &'a [u32],
     rows: usize,
     text: &'a [u8],
@@ -53,8 +51,7 @@ fn look_through<'a>(
 
 // Looks up keys through a list, which may hold anything: a report for each key, as for that many single lookups. The table is judged once. Key i ends
 // at `ends[i]` and begins where the one before it ends. The result is 0, or 11 for a table that is not writable.
-#[unsafe(no_mangle)]
-pub extern "C" fn binmode_index_find<'a, 'b>(
+pub fn binmode_index_find<'a, 'b>(
     table: &'a [u32],
     rows: usize,
     text: &'a [u8],

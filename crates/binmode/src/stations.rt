@@ -14,8 +14,7 @@ use shares::{split_for, station_of};
 use station_tables::{LookupAnswer, PositionAnswer};
 
 // Where a station's share of a table lies: its first word and how many words it has. The result is 0, or 22.
-#[unsafe(no_mangle)]
-pub extern "C" fn binmode_share(
+pub fn binmode_share(
     table_words: usize,
     split: usize,
     station: u8,
@@ -28,8 +27,7 @@ pub extern "C" fn binmode_share(
 }
 
 // Reads a message into a station's share of a table: the result is 0 for acceptance, or the refusal's number; every number lent is set.
-#[unsafe(no_mangle)]
-pub extern "C" fn binmode_station_read_within(
+pub fn binmode_station_read_within(
     message: &[u8],
     table: &mut [u32],
     split: usize,
@@ -47,8 +45,7 @@ pub extern "C" fn binmode_station_read_within(
 }
 
 // Reads a card of a job file into a station's share of a table, likewise.
-#[unsafe(no_mangle)]
-pub extern "C" fn binmode_station_read_card(
+pub fn binmode_station_read_card(
     file: &[u8],
     number: usize,
     table: &mut [u32],
@@ -67,8 +64,7 @@ pub extern "C" fn binmode_station_read_card(
 }
 
 // Takes the next piece of a message into a station's share, and reports what stands then. After 22 the state is as it was.
-#[unsafe(no_mangle)]
-pub extern "C" fn binmode_station_pieces_next_within(
+pub fn binmode_station_pieces_next_within(
     state: &mut [u64; 6],
     piece: &[u8],
     room: &mut [u8],
@@ -86,8 +82,7 @@ pub extern "C" fn binmode_station_pieces_next_within(
 }
 
 // Says that no more pieces come, likewise.
-#[unsafe(no_mangle)]
-pub extern "C" fn binmode_station_pieces_end_within(
+pub fn binmode_station_pieces_end_within(
     state: &mut [u64; 6],
     room: &[u8],
     table: &mut [u32],
@@ -104,8 +99,7 @@ pub extern "C" fn binmode_station_pieces_end_within(
 }
 
 // Writes a station's share of a table: the result is 0 for acceptance, or the refusal's number.
-#[unsafe(no_mangle)]
-pub extern "C" fn binmode_station_write_within(
+pub fn binmode_station_write_within(
     table: &[u32],
     split: usize,
     station: u8,
@@ -123,8 +117,7 @@ pub extern "C" fn binmode_station_write_within(
 }
 
 // Writes a station's share of a table by a plan, likewise.
-#[unsafe(no_mangle)]
-pub extern "C" fn binmode_station_write_planned_within(
+pub fn binmode_station_write_planned_within(
     table: &[u32],
     split: usize,
     station: u8,
@@ -144,8 +137,7 @@ pub extern "C" fn binmode_station_write_planned_within(
 }
 
 // Looks up a member of the Struct of a row of a station's share: the result is 0, or the refusal's number; every number lent is set.
-#[unsafe(no_mangle)]
-pub extern "C" fn binmode_station_lookup(
+pub fn binmode_station_lookup(
     table: &[u32],
     split: usize,
     station: u8,
@@ -167,8 +159,7 @@ pub extern "C" fn binmode_station_lookup(
 }
 
 // The position in the Struct of a row of a station's share: the result is 0, or the refusal's number and three plus zeros.
-#[unsafe(no_mangle)]
-pub extern "C" fn binmode_station_position(
+pub fn binmode_station_position(
     table: &[u32],
     split: usize,
     station: u8,

@@ -18,8 +18,7 @@ use crate::stations::{
 use crate::{binmode_read_within, binmode_write_within};
 
 // Reads a message into a table, nested to at most 8.
-#[unsafe(no_mangle)]
-pub extern "C" fn binmode_read(
+pub fn binmode_read(
     message: &[u8],
     table: &mut [u32],
     rows: &mut u64,
@@ -32,8 +31,7 @@ pub extern "C" fn binmode_read(
 }
 
 // Writes a table that is nested to at most 8.
-#[unsafe(no_mangle)]
-pub extern "C" fn binmode_write(
+pub fn binmode_write(
     table: &[u32],
     rows: usize,
     text: &[u8],
@@ -46,8 +44,7 @@ pub extern "C" fn binmode_write(
 }
 
 // The same, by a plan.
-#[unsafe(no_mangle)]
-pub extern "C" fn binmode_write_planned(
+pub fn binmode_write_planned(
     table: &[u32],
     rows: usize,
     text: &[u8],
@@ -61,8 +58,7 @@ pub extern "C" fn binmode_write_planned(
 }
 
 // Takes the next piece of a message.
-#[unsafe(no_mangle)]
-pub extern "C" fn binmode_pieces_next(
+pub fn binmode_pieces_next(
     state: &mut [u64; 6],
     piece: &[u8],
     room: &mut [u8],
@@ -74,16 +70,14 @@ pub extern "C" fn binmode_pieces_next(
 }
 
 // Says that no more pieces come.
-#[unsafe(no_mangle)]
-pub extern "C" fn binmode_pieces_end(state: &mut [u64; 6], room: &[u8], table: &mut [u32]) -> u8
+pub fn binmode_pieces_end(state: &mut [u64; 6], room: &[u8], table: &mut [u32]) -> u8
     ensures { EndReported 8 state.old (length room.now) table.old state.new table.new result }
 {
     binmode_pieces_end_within(state, room, table, draft::USUAL_NESTING)
 }
 
 // Reads a message into a station's share.
-#[unsafe(no_mangle)]
-pub extern "C" fn binmode_station_read(
+pub fn binmode_station_read(
     message: &[u8],
     table: &mut [u32],
     split: usize,
@@ -107,8 +101,7 @@ pub extern "C" fn binmode_station_read(
 }
 
 // Takes the next piece of a message into a station's share.
-#[unsafe(no_mangle)]
-pub extern "C" fn binmode_station_pieces_next(
+pub fn binmode_station_pieces_next(
     state: &mut [u64; 6],
     piece: &[u8],
     room: &mut [u8],
@@ -130,8 +123,7 @@ pub extern "C" fn binmode_station_pieces_next(
 }
 
 // Says that no more pieces come.
-#[unsafe(no_mangle)]
-pub extern "C" fn binmode_station_pieces_end(
+pub fn binmode_station_pieces_end(
     state: &mut [u64; 6],
     room: &[u8],
     table: &mut [u32],
@@ -144,8 +136,7 @@ pub extern "C" fn binmode_station_pieces_end(
 }
 
 // Writes a station's share.
-#[unsafe(no_mangle)]
-pub extern "C" fn binmode_station_write(
+pub fn binmode_station_write(
     table: &[u32],
     split: usize,
     station: u8,
@@ -169,8 +160,7 @@ pub extern "C" fn binmode_station_write(
 }
 
 // The same, by a plan.
-#[unsafe(no_mangle)]
-pub extern "C" fn binmode_station_write_planned(
+pub fn binmode_station_write_planned(
     table: &[u32],
     split: usize,
     station: u8,

@@ -25,7 +25,7 @@
 //! the cards of job files, lookups and indexes are always at [`MOST_NESTING`].
 //!
 //! Nothing is allocated. `docs/FORMAT.md` says what a message, a row and a job
-//! file are. The library is looked for where `rt staticlib binmode` puts it,
+//! file are. The library is looked for where `link/archive` puts it,
 //! or in the folder that the environment variable `BINMODE_LIB_DIR` names when
 //! this crate is built.
 

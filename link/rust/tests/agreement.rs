@@ -95,9 +95,10 @@ fn of_crate() -> Functions {
     parts.map(function).collect()
 }
 
-/// The functions that the proved crate exports.
+/// The functions that the proved library exports, which are those of the
+/// crate `binmode_c`.
 fn of_library() -> Functions {
-    let folder = Path::new(env!("CARGO_MANIFEST_DIR")).join("../../crates/binmode/src");
+    let folder = Path::new(env!("CARGO_MANIFEST_DIR")).join("../../crates/binmode_c/src");
     let entries = std::fs::read_dir(folder).expect("the proved crate is there");
     let paths: Vec<PathBuf> = entries.map(|entry| entry.expect("a file").path()).collect();
     let mut functions = Functions::new();
@@ -176,7 +177,10 @@ fn structs() {
     ] {
         let source = text(format!("../../crates/{rattle}"));
         let name = if c == "entry" { "Member" } else { "Report" };
-        let start = format!("#[repr(C)]\npub struct {name} {{");
+        let start = format!("pub struct {name} {{");
+        let above = source.split(&start).next().expect("what is above it");
+        let attributes = above.rsplit("\n\n").next().expect("its attributes");
+        assert!(attributes.contains("#[repr(C)]\n"), "{name} has C's layout");
         let fields_of_library = fields(&source, &start, of_rust);
         let header = fields(&header(), &format!("struct binmode_{c} {{"), of_c);
         let here = fields(&text("src/sys.rs"), &format!("pub struct {rust} {{"), of_rust);
