@@ -1,7 +1,7 @@
 #!/usr/bin/env python3
 """Every `&mut` parameter of a public function is promised something after the call, or docs/DECISIONS.md says that it is free.
 
-Lists the `&mut` parameters whose value after the call (`.exit`) no `ensures` of their function names, and fails for one that the table under
+Lists the `&mut` parameters whose value after the call (`.new` or `.exit`) no `ensures` of their function names, and fails for one that the table under
 '## Free results' in docs/DECISIONS.md has not; and for a row of that table which names a function or a parameter that there is not.
 A row is `functions | parameters | what holds`: names in backticks, a function as `crate::name`, or as `name` behind one of the same crate.
 First it tries itself on a source and a table that are made up, to show that it can fail."""
@@ -26,10 +26,11 @@ def headers(source):
 
 def parameters(head):
     """The `&mut` parameters of a function, each with whether an `ensures` names its value after the call."""
-    contract = next((i for i, line in enumerate(head) if re.match(r"    (requires|ensures) ", line)), len(head))
-    promised = " ".join(line for line in head if line.startswith("    ensures "))
-    for name in re.findall(r"(\w+): &(?:'\w+ )?mut ", " ".join(head[:contract])):
-        yield name, re.search(rf"\b{name} \.exit\b", promised) is not None
+    begins = [i for i, line in enumerate(head) if re.match(r"    (ghost|requires|ensures)\b", line)] + [len(head)]
+    clauses = [" ".join(head[i:j]) for i, j in zip(begins, begins[1:])]
+    promised = " ".join(clause for clause in clauses if clause.startswith("    ensures"))
+    for name in re.findall(r"(\w+): &(?:'\w+ )?mut ", " ".join(head[: begins[0]])):
+        yield name, re.search(rf"\b{name}\.(new|exit)\b", promised) is not None
 
 
 def table_rows(text):
@@ -64,8 +65,11 @@ def faults(sources, text):
 
 MADE_UP_SOURCE = """
 pub fn read(s: &[u8], table: &mut [u32], notes: &mut [u16]) -> usize
-    requires { ⌜ length (now notes) ≤ 4 ⌝ }
-    ensures { λ r. ⌜ Answers (now (s .entry)) (length (now (notes .entry))) (now (table .exit)) r ⌝ }
+    requires { length notes.old ≤ 4 }
+    ensures answers { Answers s.now (length notes.old) result }
+    ensures fills {
+        Fills s.now table.new
+    }
 {
 """
 MADE_UP_TABLE = "## Free results\n| functions | parameters | what holds |\n|---|---|---|\n| `made::read` | `%s` | as long as before |\n"

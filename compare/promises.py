@@ -4,7 +4,7 @@
 In the tables' last column (and in paragraphs) stand the edits, as `crate/label`, as `crate/*`, as `label` behind one of the same crate in the same
 cell, or as `label` alone if no other crate has one of that name. All that stands in backticks is looked for: a path in the repository or below crates/
 (`text/specs/Texts.same`, with a name that it defines), a function or type as `crate::name`, a definition or a field as `File.name`, `Record.field` or
-`File.Record.field` (`E5.refused-nineteen`), a crate, or a name alone that something in the repository defines; `*` stands for any characters.
+`File.Record.field` (`E5.refused_nineteen`), a crate, or a name alone that something in the repository defines; `*` stands for any characters.
 What is no name, such as `i0;` or a contract's text, and what has one or two characters, is a quotation and is passed over.
 First it tries itself on a repository and a text that are made up, to show that it can fail."""
 import fnmatch
@@ -113,15 +113,15 @@ def quoted(cited):
 
 
 MADE_UP = {
-    "crates/demands/specs/E5.antt": "pub record E5 : Type 0 where\n  pub refused-nineteen : ℕ → Type 0\n\npub short : ℕ\nshort = 1\n",
+    "crates/demands/specs/E5.antt": "pub record E5 : Type 0 where\n  pub refused_nineteen : ℕ → Type 0\n\npub short : ℕ\nshort = 1\n",
     "crates/demands/must-fail/e5_eighteen.edit": "old: a\nnew: b\n",
     "crates/reader/must-fail/all.edit": "old: a\nnew: b\n",
     "crates/reader/must-fail/none.edit": "old: a\nnew: b\n",
     "crates/reader/src/lib.rt": "pub fn read(s: &[u8]) -> usize\n{\n",
 }
-GOOD = "| 19 | `E5.refused-nineteen`, `E5.short`, `reader::read`, `short` | `demands/e5_eighteen`; `reader/all`, `none` |"
+GOOD = "| 19 | `E5.refused_nineteen`, `E5.short`, `reader::read`, `short` | `demands/e5_eighteen`; `reader/all`, `none` |"
 WRONG = [
-    ("E5.refused-nineteen", "E5.refused-eighteen"),
+    ("E5.refused_nineteen", "E5.refused_eighteen"),
     ("reader::read", "reader::write"),
     ("`short`", "`long`"),
     ("demands/e5_eighteen", "demands/e5_nineteen"),
