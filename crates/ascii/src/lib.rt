@@ -8,20 +8,12 @@ ghost use Rattle.text.specs.Texts.{ascii};
 pub fn is_single(b: u8) -> bool
     ensures { result ≡ ltb b 128 }
 {
-    b < 128
+    b.is_ascii()
 }
 
 // Whether every byte is below 128.
 pub fn is_ascii(s: &[u8]) -> bool
     ensures { result ≡ ascii s.now }
 {
-    let mut i = 0;
-    while i < s.len() {
-        if is_single(s[i]) {
-            i += 1;
-        } else {
-            return false;
-        }
-    }
-    true
+    s.iter().all(|b| *b < 128)
 }

@@ -16,39 +16,22 @@ pub fn sized(content: Content, n: u32) -> bool
     ensures { result ≡ sizedBy content n }
 {
     match content {
-        Content::Double => n <= 255,
-        Content::DateTime => n <= 255,
-        Content::Binary => true,
-        Content::Text => true,
+        Content::Double | Content::DateTime => n <= 255,
+        Content::Binary | Content::Text => true,
     }
 }
 
 // Whether content of n bytes in row r was checked before: a String of 512 bytes or more in a row before row `good`.
+#[tactic(auto, unfolding(crate::specs::Contents::checked_before))]
 pub fn is_checked(content: Content, n: u32, r: usize, good: usize) -> bool
     ensures { result ≡ checked_before content n r good }
 {
-    if good <= r {
-        return false;
-    }
-    if n < LONG {
-        return false;
-    }
-    match content {
-        Content::Double => false,
-        Content::DateTime => false,
-        Content::Binary => false,
-        Content::Text => true,
-    }
+    r < good && LONG <= n && matches!(content, Content::Text)
 }
 
 // Whether content is a Binary's, which has no rule.
 pub fn is_binary(content: Content) -> bool
     ensures { result ≡ is_binary content }
 {
-    match content {
-        Content::Double => false,
-        Content::DateTime => false,
-        Content::Binary => true,
-        Content::Text => false,
-    }
+    matches!(content, Content::Binary)
 }

@@ -1,28 +1,23 @@
 -- What answers each return of the exported functions that take a station. Assumes nothing.
+use Rattle.std.specs.Prelude.{Err}
 use mathlib.Core.Path.{◌≡◌, ◌∙◌, ap}
 use mathlib.Core.List.{List}
 use Prim.Native.Nat.{ℕ}
 use Rattle.shares.specs.declared.Station.{Station}
-use Rattle.shares.specs.Share.{station_of, split_for, on_share}
+use Rattle.shares.specs.Share.{no_share, station_of, split_for, on_share}
 use Rattle.read_answer.specs.Answers as readers
 use Rattle.job.specs.Cards as jobs
 use Rattle.write_answer.specs.Answers as writers
 use Rattle.lookup_answer.specs.declared.Report.{Report}
 use Rattle.placing.specs.declared.Position.{Position}
 use Rattle.pieces.specs.declared.State.{State}
-use Rattle.station_reading.specs.declared.Answer as SR
-use Rattle.station_reading.specs.declared.CardAnswer as SC
+use Rattle.station_reading.specs.Answers as SR
 use Rattle.station_reading.specs.Answers.{ReadFor, CardFor, report_of, card_report_of}
-use Rattle.station_pieces.specs.declared.Answer as SP
+use Rattle.station_pieces.specs.Steps as SP
 use Rattle.station_pieces.specs.Steps.{NextFor, EndFor}
-use Rattle.station_tables.specs.declared.WriteAnswer as SW
-use Rattle.station_tables.specs.declared.LookupAnswer as SL
-use Rattle.station_tables.specs.declared.LookupAnswer.TheVariants as lookup
-use Rattle.station_tables.specs.declared.PositionAnswer as ST
-use Rattle.station_tables.specs.declared.PositionAnswer.TheVariants as place
+use Rattle.station_tables.specs.Answers as SW
 use Rattle.station_tables.specs.Answers.{WroteFor, write_report_of, lookup_answer, lookup_report_of, position_answer}
 use Rattle.plan_writer.specs.Answers as planners
-use Rattle.station_plans.specs.declared.Answer as SQ
 use Rattle.station_plans.specs.Answers as planned
 use Rattle.piece_reports.specs.Words.{state_of}
 use Rattle.station_reports.specs.Numbers.{PieceKept, StationPlaced}
@@ -36,7 +31,7 @@ module _ (number split : ℕ) {row : ℕ} {station : Station} (i : row ≡ split
   station_read limit s d e = let g = rw (i, k) at d in record { numbers = e ∙ ap report_of g.says; table = g.leaves }
 
   pub station_card :
-      (s : List ℕ) (n : ℕ) {T T' : List ℕ} {a : SC.CardAnswer} {r : jobs.Report} → CardFor s n station row T T' a → r ≡ card_report_of a
+      (s : List ℕ) (n : ℕ) {T T' : List ℕ} {a : SR.CardAnswer} {r : jobs.Report} → CardFor s n station row T T' a → r ≡ card_report_of a
       → StationCard s n number split T T' r
   station_card s n d e = let g = rw (i, k) at d in record { numbers = e ∙ ap card_report_of g.says; table = g.leaves }
 
@@ -55,18 +50,18 @@ module _ (number split : ℕ) {row : ℕ} {station : Station} (i : row ≡ split
     station_written limit out d e = let g = rw (i, k) at d in record { numbers = e ∙ ap write_report_of g.says; output = g.leaves }
 
     pub station_planned :
-        (limit : ℕ) (p out : List ℕ) {out' : List ℕ} {a : SQ.Answer} {r : planners.Report} → planned.WroteFor limit T station row rows s p out out' a
+        (limit : ℕ) (p out : List ℕ) {out' : List ℕ} {a : planned.Answer} {r : planners.Report} → planned.WroteFor limit T station row rows s p out out' a
         → r ≡ planned.report_of a → StationPlanned limit T number split rows s p out out' r
     station_planned limit p out d e = let g = rw (i, k) at d in record { numbers = e ∙ ap planned.report_of g.says; output = g.leaves }
 
     pub station_member :
-        (r : ℕ) (key : List ℕ) {a : SL.LookupAnswer} {x : Report} → a ≡ on_share station row T (lookup_answer rows s r key) lookup.NotSplit
-        → x ≡ lookup_report_of a → x ≡ lookup_report_of (on_share (station_of number) (split_for number split) T (lookup_answer rows s r key) lookup.NotSplit)
+        (r : ℕ) (key : List ℕ) {a : SW.LookupAnswer} {x : Report} → a ≡ on_share station row T (lookup_answer rows s r key) (Err no_share)
+        → x ≡ lookup_report_of a → x ≡ lookup_report_of (on_share (station_of number) (split_for number split) T (lookup_answer rows s r key) (Err no_share))
     station_member r key d f = let g = rw (i, k) at d in f ∙ ap lookup_report_of g
 
     pub station_position :
-        (r : ℕ) {a : ST.PositionAnswer} {n : ℕ} {v : Position} → a ≡ on_share station row T (position_answer rows s r) place.NotSplit
-        → StationPlaced a n v → StationPlaced (on_share (station_of number) (split_for number split) T (position_answer rows s r) place.NotSplit) n v
+        (r : ℕ) {a : SW.PositionAnswer} {n : ℕ} {v : Position} → a ≡ on_share station row T (position_answer rows s r) (Err no_share)
+        → StationPlaced a n v → StationPlaced (on_share (station_of number) (split_for number split) T (position_answer rows s r) (Err no_share)) n v
     station_position r d f = let g = rw (i, k) at d in rw g at f
 
 pub ruleset at_stations = (station_read, station_card, station_piece, station_end, station_written, station_planned, station_member, station_position)

@@ -5,14 +5,11 @@ use Prim.Native.Nat.{ℕ}
 use Rattle.shares.specs.declared.Station.{Station}
 use Rattle.shares.specs.Share.{station_of, split_for}
 use Rattle.glyph.specs.declared.Edition.{Edition}
-use Rattle.glyph.specs.declared.Answer.{Answer}
 use Rattle.glyph.specs.Read.{Reading}
-use Rattle.glyph.specs.Answers.{Answers}
-use Rattle.glyph_form.specs.declared.Answer as W
+use Rattle.glyph.specs.Answers.{Answer, Answers}
+use Rattle.glyph_form.specs.Answers as W
 use Rattle.glyph_form.specs.Answers.{Did}
-use Rattle.glyph_stations.specs.declared.StationAnswer.{StationAnswer}
-use Rattle.glyph_stations.specs.declared.WriteAnswer.{WriteAnswer}
-use Rattle.glyph_stations.specs.Answers.{ReadFor, WroteFor}
+use Rattle.glyph_stations.specs.Answers.{StationAnswer, ReadFor, WroteFor, WriteAnswer}
 use Rattle.glyph_reports.specs.Numbers.{Report, report_of, station_report_of}
 use Rattle.glyph_reports.specs.Writing as writing
 use Rattle.glyph_reports.proofs.Telling.{report_is}

@@ -1,12 +1,12 @@
 -- What answers each return of the exported functions on lookups, positions and job defaults. Assumes nothing.
 use mathlib.Core.Path.{◌≡◌, ap, ◌∙◌}
 use Prim.Native.Nat.{ℕ}
-use Rattle.lookup_answer.specs.declared.Answer.{Answer}
+use Rattle.lookup_answer.specs.Answers.{Answer}
 use Rattle.lookup_answer.specs.declared.Report.{Report}
 use Rattle.lookup_answer.specs.Reports.{report_of}
 use Rattle.placing.specs.declared.Position.{Position}
 use Rattle.placing.specs.declared.Placed.{Placed}
-use Rattle.choice.specs.declared.Choice.{Choice}
+use Rattle.choice.specs.Choosing.{Choice}
 use Rattle.lookup_reports.specs.Numbers.{PositionReported, TextReport, text_report_of}
 
 pub reports_member : {a b : Answer} {r x : Report} → a ≡ b → r ≡ report_of a → x ≡ r → x ≡ report_of b

@@ -3,7 +3,7 @@ use mathlib.Core.Path.{◌≡◌, ◌∙◌, ap}
 use mathlib.Core.Bool.{Bool, true, false}
 use mathlib.Core.List.{List}
 use Prim.Native.Nat.{ℕ}
-use Rattle.plan_writer.specs.declared.Answer.{Answer}
+use Rattle.plan_writer.specs.Answers.{Answer}
 use Rattle.plan_writer.specs.Answers.{Did, report_of}
 use Rattle.write_reports.specs.Numbers.{plan_report}
 use Rattle.binmode.specs.Planned.{WritePlannedReported, answer_number}

@@ -2,13 +2,11 @@
 use mathlib.Core.Path.{◌≡◌, ◌∙◌, ap}
 use mathlib.Core.List.{List}
 use Prim.Native.Nat.{ℕ}
+use Rattle.records.specs.Job.{Found}
 use Rattle.draft.specs.Read.{Reading}
 use Rattle.read_answer.specs.declared.Answer.{Answer}
 use Rattle.read_answer.specs.Answers.{report_of, Answers}
-use Rattle.write_answer.specs.declared.Answer as W
 use Rattle.write_answer.specs.Answers as writer
-use Rattle.records.specs.declared.Found.{Found}
-use Rattle.job.specs.declared.Answer as J
 use Rattle.job.specs.Cards as job
 use Rattle.read_reports.specs.Numbers.{report, card_report, Finding, finding_of}
 use Rattle.write_reports.specs.Numbers as writing
@@ -21,12 +19,12 @@ pub reports_reading :
 reports_reading o d e = record { numbers = e ∙ ap report_of d.says; table = d.leaves }
 
 pub reports_writing :
-    (limit : ℕ) (T : List ℕ) (rows : ℕ) (s out : List ℕ) {out' : List ℕ} {a : W.Answer} {n size : ℕ} → writer.Did limit T rows s out out' a
+    (limit : ℕ) (T : List ℕ) (rows : ℕ) (s out : List ℕ) {out' : List ℕ} {a : writer.Answer} {n size : ℕ} → writer.Did limit T rows s out out' a
     → writing.report n size ≡ writer.report_of a → WriteReported limit T rows s out out' n size
 reports_writing limit T rows s out d e = record { numbers = e ∙ ap writer.report_of d.says; output = d.leaves ∙ rw d.says }
 
 pub reports_card :
-    (s : List ℕ) (f : Found) {words : ℕ} {T : List ℕ} {a : J.Answer} {n rows used place body : ℕ} → job.Reads s words f T a
+    (s : List ℕ) (f : Found) {words : ℕ} {T : List ℕ} {a : job.Answer} {n rows used place body : ℕ} → job.Reads s words f T a
     → card_report n rows used place body ≡ job.report_of a → CardReported s words f T n rows used place body
 reports_card s f d e = record { numbers = e ∙ ap job.report_of d.says; table = d.leaves }
 

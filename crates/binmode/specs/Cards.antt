@@ -1,6 +1,6 @@
 -- What the exported function that reads a card reports: document 02's numbers, and the table after the call. Assumes nothing.
+use Rattle.records.specs.Job.{Found}
 use Rattle.std.specs.Prelude.{◌≡◌, List, ℕ}
-use Rattle.records.specs.declared.Found.{Found}
 use Rattle.job.specs.Cards.{answer_for, table_for, report_of}
 use Rattle.read_reports.specs.Numbers.{card_report}
 

@@ -1,7 +1,7 @@
 // Stations four and five on one table, for programs in C and Rust. A station is the number 4 or 5; for any other number there is no share, which is
 // refused with 22 as a row is that does not split the table.
 ghost use Rattle.std.specs.Prelude.{◌≡◌, length};
-ghost use Rattle.shares.specs.Share.{station_of, split_for, share_for, on_share};
+ghost use Rattle.shares.specs.Share.{no_share, station_of, split_for, share_for, on_share};
 ghost use Rattle.lookup_answer.specs.Reports.{reported};
 ghost use Rattle.placing.specs.Placing.{at};
 ghost use Rattle.station_tables.specs.Answers.{lookup_answer, lookup_report_of, position_answer};
@@ -11,7 +11,6 @@ ghost use Rattle.station_reports.specs.Numbers.{lying, lying_of, StationPlaced};
 ghost use Rattle.binmode.specs.Stations.{StationRead, StationCard, StationPiece, StationEnd, StationWrote, StationPlanned};
 
 use shares::{split_for, station_of};
-use station_tables::{LookupAnswer, PositionAnswer};
 
 // Where a station's share of a table lies: its first word and how many words it has. The result is 0, or 22.
 pub fn binmode_share(
@@ -151,7 +150,7 @@ pub fn binmode_station_lookup(
     offset: &mut u64,
     size: &mut u64,
 ) -> u8
-    ensures { reported result sort.new number.new decimal.new offset.new size.new ≡ lookup_report_of (on_share (station_of station) (split_for station split) table.now (lookup_answer rows text.now row key.now) LookupAnswer.NotSplit) }
+    ensures { reported result sort.new number.new decimal.new offset.new size.new ≡ lookup_report_of (on_share (station_of station) (split_for station split) table.now (lookup_answer rows text.now row key.now) (Err no_share)) }
 {
     let at = split_for(station, split);
     let answer = station_tables::lookup(table, at, station_of(station), rows, text, row, key);
@@ -170,7 +169,7 @@ pub fn binmode_station_position(
     y: &mut f64,
     turn: &mut f64,
 ) -> u8
-    ensures { StationPlaced (on_share (station_of station) (split_for station split) table.now (position_answer rows text.now row) PositionAnswer.NotSplit) result (at x.new y.new turn.new) }
+    ensures { StationPlaced (on_share (station_of station) (split_for station split) table.now (position_answer rows text.now row) (Err no_share)) result (at x.new y.new turn.new) }
 {
     let at = split_for(station, split);
     let answer = station_tables::position_of(table, at, station_of(station), rows, text, row);

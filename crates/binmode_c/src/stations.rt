@@ -1,6 +1,6 @@
 // Stations four and five on one table.
 ghost use Rattle.std.specs.Prelude.{◌≡◌, length};
-ghost use Rattle.shares.specs.Share.{station_of, split_for, share_for, on_share};
+ghost use Rattle.shares.specs.Share.{no_share, station_of, split_for, share_for, on_share};
 ghost use Rattle.lookup_answer.specs.Reports.{reported};
 ghost use Rattle.placing.specs.Placing.{at};
 ghost use Rattle.station_tables.specs.Answers.{lookup_answer, lookup_report_of, position_answer};
@@ -8,8 +8,6 @@ ghost use Rattle.read_reports.specs.Numbers.{report, card_report};
 ghost use Rattle.write_reports.specs.Numbers as writing;
 ghost use Rattle.station_reports.specs.Numbers.{lying, lying_of, StationPlaced};
 ghost use Rattle.binmode.specs.Stations.{StationRead, StationCard, StationPiece, StationEnd, StationWrote, StationPlanned};
-
-use station_tables::{LookupAnswer, PositionAnswer};
 
 // Where a station's share of a table lies: its first word and how many words it has. The result is 0, or 22.
 #[unsafe(no_mangle)]
@@ -152,7 +150,7 @@ pub extern "C" fn binmode_station_lookup(
     offset: &mut u64,
     size: &mut u64,
 ) -> u8
-    ensures { reported result sort.new number.new decimal.new offset.new size.new ≡ lookup_report_of (on_share (station_of station) (split_for station split) table.now (lookup_answer rows text.now row key.now) LookupAnswer.NotSplit) }
+    ensures { reported result sort.new number.new decimal.new offset.new size.new ≡ lookup_report_of (on_share (station_of station) (split_for station split) table.now (lookup_answer rows text.now row key.now) (Err no_share)) }
 {
     binmode::stations::binmode_station_lookup(
         table, split, station, rows, text, row, key, sort, number, decimal, offset, size,
@@ -172,7 +170,7 @@ pub extern "C" fn binmode_station_position(
     y: &mut f64,
     turn: &mut f64,
 ) -> u8
-    ensures { StationPlaced (on_share (station_of station) (split_for station split) table.now (position_answer rows text.now row) PositionAnswer.NotSplit) result (at x.new y.new turn.new) }
+    ensures { StationPlaced (on_share (station_of station) (split_for station split) table.now (position_answer rows text.now row) (Err no_share)) result (at x.new y.new turn.new) }
 {
     binmode::stations::binmode_station_position(table, split, station, rows, text, row, x, y, turn)
 }

@@ -17,16 +17,17 @@ pub fn read_body(s: &[u8], deep: usize, table: &mut [u32]) -> Answer
     let room = table::room_of(table.len());
     let mut words = [0u32; 256];
     let book: &mut [u32] = &mut words;
-    let step = first_item::read_first(s, deep, room, table, book);
-    if step.number != 0 {
-        table::clear(table);
-        return Answer::Refused {
-            refusal: draft::refusal_of(step.number),
-            place: step.at,
-        };
-    }
-    Answer::Accepted {
-        rows: step.row,
-        used: step.at,
+    match first_item::read_first(s, deep, room, table, book) {
+        Err(refused) => {
+            table::clear(table);
+            Answer::Refused {
+                refusal: refused.refusal,
+                place: refused.place,
+            }
+        }
+        Ok(reached) => Answer::Accepted {
+            rows: reached.row,
+            used: reached.at,
+        },
     }
 }

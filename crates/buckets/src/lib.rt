@@ -3,18 +3,11 @@
 // Strings are numbered in row order; of string j a lent word has the row.
 #![tactic(auto)]
 
-ghost use Rattle.std.specs.Prelude.{◌≡◌, ◌+◌, ◌≤◌, ◌<◌, length};
+ghost use Rattle.std.specs.Prelude.{◌≡◌, ◌≤◌, ◌<◌, length};
 ghost use Rattle.text.specs.Texts.{same};
 ghost use Rattle.draft.specs.Table.{row_at};
 ghost use Rattle.buckets.specs.Chains.{Chains, Ahead, Found};
 ghost use Rattle.buckets.specs.Numbered.{numbered_text, Through, First};
-
-// A word as a number: the caller has no fit of the element to show.
-fn wide(x: u16) -> usize
-    ensures { result ≡ x }
-{
-    x as usize
-}
 
 // The text of string j.
 pub fn text_of<'a>(
@@ -27,7 +20,7 @@ pub fn text_of<'a>(
     requires { Through room (length table.now) j strings.now }
     ensures { result.now ≡ numbered_text (row_at room table.now) strings.now text.now j }
 {
-    let row = table::get_row(table, room, wide(strings[j]));
+    let row = table::get_row(table, room, strings[j] as usize);
     content::part(text, row.a as usize, row.b as usize)
 }
 
@@ -43,12 +36,10 @@ pub fn equal_texts(
     requires { Through room (length table.now) j strings.now × (k ≤ j) }
     ensures { result ≡ same (numbered_text (row_at room table.now) strings.now text.now k) (numbered_text (row_at room table.now) strings.now text.now j) }
 {
-    let x = table::get_row(table, room, wide(strings[k]));
-    let y = table::get_row(table, room, wide(strings[j]));
-    if x.a == y.a {
-        if x.b == y.b {
-            return true;
-        }
+    let x = table::get_row(table, room, strings[k] as usize);
+    let y = table::get_row(table, room, strings[j] as usize);
+    if x.a == y.a && x.b == y.b {
+        return true;
     }
     names::equal(
         content::part(text, x.a as usize, x.b as usize),
@@ -74,7 +65,7 @@ fn find(
         if equal_texts(table, room, strings, text, c - 1, j) {
             return c - 1;
         }
-        c = wide(nexts[c - 1]);
+        c = nexts[c - 1] as usize;
     }
     j
 }
@@ -94,7 +85,7 @@ pub fn find_or_add(
 {
     let h = spread::bucket(text_of(table, room, strings, text, j), 0, heads.len());
     let newest = heads[h];
-    let f = find(table, room, strings, text, nexts, wide(newest), j);
+    let f = find(table, room, strings, text, nexts, newest as usize, j);
     if f != j {
         return f;
     }

@@ -5,6 +5,7 @@
 ghost use Rattle.std.specs.Prelude.{◌≡◌};
 ghost use Rattle.text.specs.Classes.{class_of, class_table};
 
+// Stays: numbers and no enum, since `class_of` and `class_table` of `text` give numbers, and `steps` looks up a word by a class.
 pub const SINGLE: u8 = 0;
 
 pub const LOW_TAIL: u8 = 1;

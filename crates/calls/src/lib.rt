@@ -50,11 +50,8 @@ fn read_method_and_array(
     requires { Ready at row room (length s.now) (length table.old) (length book.old) × Entries at row room (length s.now) (length notes.old) × (notes.old ≡ replicate (length notes.old) 0) }
     ensures { Did (pair (string s.now room) (only s.now room 65 (array_item s.now room (nested s.now room deep))) at row (book_of book.old)) (length s.now) room (at + 1) row table.old table.new book.new result }
 {
-    let step = strings::read_string(s, at, row, room, table, book);
-    if step.number != 0 {
-        return step;
-    }
-    read_array_only(s, step.at, step.row, deep, room, table, book, notes)
+    let method = strings::read_string(s, at, row, room, table, book)?;
+    read_array_only(s, method.at, method.row, deep, room, table, book, notes)
 }
 
 // The Call whose byte stands at `at`.

@@ -1,13 +1,21 @@
 -- Which text is handed out, document 02's numbers of the refusals, and a choice as its caller gets it: a part of one of two lent slices, by what
 -- it is and by where it lies. Assumes nothing.
-use Rattle.std.specs.Prelude.{◌≡◌, List, ℕ, ◌+◌, min, length, take, drop}
+use Rattle.std.specs.Prelude.{◌≡◌, List, ℕ, ◌+◌, min, length, take, drop, Result, Ok, Err}
 use Rattle.std.specs.Borrow.{Bor}
 use Rattle.choice.specs.declared.Held.{Held}
 use Rattle.choice.specs.declared.Held.TheVariants.{Absent, NoText, Text}
 use Rattle.choice.specs.declared.Refusal.{Refusal}
 use Rattle.choice.specs.declared.Refusal.TheVariants.{NotWritable, NoMember}
-use Rattle.choice.specs.declared.Choice.{Choice}
-use Rattle.choice.specs.declared.Choice.TheVariants.{Card, Defaults, Refused}
+use Rattle.choice.specs.declared.Source.{Source}
+use Rattle.choice.specs.declared.Source.TheVariants.{Card, Defaults}
+use Rattle.choice.specs.declared.Chosen.{Chosen}
+
+-- a text, by whose it is and where it lies there; or why there is none
+abbrev pub Choice : Type 0
+Choice = Result Chosen Refusal
+
+abbrev pub text_of : Source → ℕ → ℕ → Choice
+text_of source o n = Ok (record { source = source; offset = o; length = n })
 
 abbrev pub number_of : Refusal → ℕ
 -- '11 for the card, then for the defaults'
@@ -15,16 +23,16 @@ number_of NotWritable = 11
 -- '18 if either row is no Struct, if neither has the key, or if the one found is no String'
 number_of NoMember = 18
 
-abbrev pub of_defaults : Held → Choice
-of_defaults Absent = Refused NoMember
-of_defaults NoText = Refused NoMember
-of_defaults (Text o n) = Defaults o n
+abbrev pub text_in : Source → Held → Choice
+text_in source (Text o n) = text_of source o n
+text_in source NoText = Err NoMember
+text_in source Absent = Err NoMember
 
 -- 'the card's if the card's Struct has the key, otherwise the defaults''
 abbrev pub preferred : Held → Held → Choice
-preferred (Text o n) other = Card o n
-preferred NoText other = Refused NoMember
-preferred Absent other = of_defaults other
+preferred (Text o n) other = text_of Card o n
+preferred NoText other = Err NoMember
+preferred Absent other = text_in Defaults other
 
 -- ---- as the caller gets it
 
@@ -37,23 +45,29 @@ pub record PartOf (s : Bor (List ℕ)) (o n : ℕ) (part : Bor (List ℕ)) : Typ
   pub bytes : part.now ≡ take n (drop o s.now)
   pub lies : part.ref_ptr ≡ byte_of s (min o (length s.now))
 
+-- the bytes of the card or of the defaults
+abbrev pub bytes_of : Bor (List ℕ) → Bor (List ℕ) → Source → Bor (List ℕ)
+bytes_of card defaults Card = card
+bytes_of card defaults Defaults = defaults
+
 -- 'a part of the card's bytes or of the defaults' bytes'; 'refused, the part is the empty start of the card's bytes'
 abbrev pub PartFor : Bor (List ℕ) → Bor (List ℕ) → Choice → Bor (List ℕ) → Type 0
-PartFor card defaults (Card o n) part = PartOf card o n part
-PartFor card defaults (Defaults o n) part = PartOf defaults o n part
-PartFor card defaults (Refused why) part = PartOf card 0 0 part
+PartFor card defaults (Ok text) part = PartOf (bytes_of card defaults text.source) text.offset text.length part
+PartFor card defaults (Err why) part = PartOf card 0 0 part
 
 -- 0, or the refusal's number
 abbrev pub choice_number : Choice → ℕ
-choice_number (Card o n) = 0
-choice_number (Defaults o n) = 0
-choice_number (Refused why) = number_of why
+choice_number (Ok text) = 0
+choice_number (Err why) = number_of why
 
 -- 'and which': 0 is the card, 1 the defaults; refused, 'the answer names the card'
+abbrev pub number_of_source : Source → ℕ
+number_of_source Card = 0
+number_of_source Defaults = 1
+
 abbrev pub source_of : Choice → ℕ
-source_of (Card o n) = 0
-source_of (Defaults o n) = 1
-source_of (Refused why) = 0
+source_of (Ok text) = number_of_source text.source
+source_of (Err why) = 0
 
 -- a choice handed out: the part and both numbers
 pub record Handed (card defaults : Bor (List ℕ)) (choice : Choice) (part : Bor (List ℕ)) (number source : ℕ) : Type 0 where

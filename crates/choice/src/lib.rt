@@ -3,10 +3,11 @@
 #![tactic(auto)]
 
 ghost use Rattle.std.specs.Prelude.{◌≡◌};
-ghost use Rattle.choice.specs.Choosing.{number_of, of_defaults, preferred, PartOf, Handed};
+ghost use Rattle.choice.specs.Choosing.{number_of, number_of_source, text_in, preferred, PartOf, Handed};
 
 // What a Struct has under a key: no member, one that is no String, or a String, by where its text lies.
-#[derive(Drop)]
+// Stays: three ways, and of two nested Options no reader would know which None is which.
+#[derive(Clone, Copy, PartialEq, Eq, Debug)]
 pub enum Held {
     Absent,
     NoText,
@@ -14,49 +15,73 @@ pub enum Held {
 }
 
 // Why no text is handed out: a table is not writable; or a row is no Struct, neither has the key, or the member found is no String.
-#[derive(Drop)]
+// Stays: without the lookup's refusal 19, so that the type says that a text is never refused for its digits (E9).
+#[derive(Clone, Copy, PartialEq, Eq, Debug)]
 pub enum Refusal {
     NotWritable,
     NoMember,
 }
 
-// Whose text it is and where it lies there, or why there is none.
-#[derive(Drop)]
-pub enum Choice {
-    Card { offset: u32, length: u32 },
-    Defaults { offset: u32, length: u32 },
-    Refused(Refusal),
+// Whose text it is.
+#[derive(Clone, Copy, PartialEq, Eq, Debug)]
+pub enum Source {
+    Card,
+    Defaults,
+}
+
+// A text that is handed out: whose it is and where it lies there.
+#[derive(Clone, Copy, PartialEq, Eq, Debug)]
+pub struct Chosen {
+    pub source: Source,
+    pub offset: u32,
+    pub length: u32,
 }
 
 // The papers' number of a refusal.
-pub fn number(refusal: Refusal) -> u8
-    ensures { result ≡ number_of refusal }
-{
-    match refusal {
-        Refusal::NotWritable => 11,
-        Refusal::NoMember => 18,
+impl From<Refusal> for u8 {
+    ghost from_gives = { λ r n. n ≡ number_of r };
+
+    fn from(refusal: Refusal) -> u8 {
+        match refusal {
+            Refusal::NotWritable => 11,
+            Refusal::NoMember => 18,
+        }
     }
 }
 
-// The text that the defaults have.
-fn of_defaults(other: Held) -> Choice
-    ensures { result ≡ of_defaults other }
+// 0 for the card and 1 for the defaults.
+impl From<Source> for u8 {
+    ghost from_gives = { λ s n. n ≡ number_of_source s };
+
+    fn from(source: Source) -> u8 {
+        match source {
+            Source::Card => 0,
+            Source::Defaults => 1,
+        }
+    }
+}
+
+// The text that one of the two has.
+fn text_in(source: Source, held: Held) -> Result<Chosen, Refusal>
+    ensures { result ≡ text_in source held }
 {
-    match other {
-        Held::Absent => Choice::Refused(Refusal::NoMember),
-        Held::NoText => Choice::Refused(Refusal::NoMember),
-        Held::Text { offset, length } => Choice::Defaults { offset, length },
+    match held {
+        Held::Text { offset, length } => Ok(Chosen {
+            source,
+            offset,
+            length,
+        }),
+        Held::Absent | Held::NoText => Err(Refusal::NoMember),
     }
 }
 
 // The card's text if its Struct has the key, otherwise the defaults'. A member of the card decides even if it is no String.
-pub fn prefer(own: Held, other: Held) -> Choice
+pub fn prefer(own: Held, other: Held) -> Result<Chosen, Refusal>
     ensures { result ≡ preferred own other }
 {
     match own {
-        Held::Absent => of_defaults(other),
-        Held::NoText => Choice::Refused(Refusal::NoMember),
-        Held::Text { offset, length } => Choice::Card { offset, length },
+        Held::Absent => text_in(Source::Defaults, other),
+        _ => text_in(Source::Card, own),
     }
 }
 
@@ -64,20 +89,16 @@ pub fn prefer(own: Held, other: Held) -> Choice
 fn part(s: &[u8], o: usize, n: usize) -> &[u8]
     ensures { PartOf s.entry o n result }
 {
-    let end = s.len();
-    if end <= o {
-        return &s[end..end];
-    }
-    if end - o <= n {
-        return &s[o..end];
-    }
-    &s[o..o + n]
+    let start = o.min(s.len());
+    let length = n.min(s.len() - start);
+    &s[start..start + length]
 }
 
 // A choice as a part of the card's bytes or of the defaults' bytes. `number` is 0 or the refusal's, `source` 0 for the card and 1 for the
 // defaults. Refused, it is the empty start of the card's bytes.
+// Stays: the numbers are told beside the part, which is one on a refusal too (E9.refused_part).
 pub fn hand<'a>(
-    choice: Choice,
+    choice: Result<Chosen, Refusal>,
     card: &'a [u8],
     defaults: &'a [u8],
     number: &mut u8,
@@ -86,18 +107,17 @@ pub fn hand<'a>(
     ensures { Handed card.entry defaults.entry choice result number.new source.new }
 {
     match choice {
-        Choice::Card { offset, length } => {
+        Ok(text) => {
             *number = 0;
-            *source = 0;
-            part(card, offset as usize, length as usize)
+            *source = text.source.into();
+            let bytes = match text.source {
+                Source::Card => card,
+                Source::Defaults => defaults,
+            };
+            part(bytes, text.offset as usize, text.length as usize)
         }
-        Choice::Defaults { offset, length } => {
-            *number = 0;
-            *source = 1;
-            part(defaults, offset as usize, length as usize)
-        }
-        Choice::Refused(refusal) => {
-            *number = crate::number(refusal);
+        Err(refusal) => {
+            *number = refusal.into();
             *source = 0;
             part(card, 0, 0)
         }

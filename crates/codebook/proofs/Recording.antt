@@ -8,9 +8,8 @@ use lib.Dec.{eqb}
 use lib.Seq.{get_or-set_same, get_or-set_other}
 use lib.ListN.{length, get_or, set, replicate}
 use borrow.Author.Tests.{eq-eqb, ne_eqb, eqb-true, eqb-false}
-use Rattle.draft.specs.declared.Entry.{Entry}
-use Rattle.draft.specs.declared.Entry.TheVariants.{Unset, Text}
-use Rattle.draft.specs.Codebook.{clear, recorded}
+use Rattle.std.specs.Prelude.{Some, None}
+use Rattle.draft.specs.Codebook.{Entry, span, clear, recorded}
 use Rattle.codebook.specs.Words.{entry, book_of}
 
 -- a word is not 0, and gives the offset and the length back
@@ -28,7 +27,7 @@ recorded_is : (W : List ℕ) (p o n : ℕ) → length W ≡ 256 → p < 256 → 
 unfolding book_of recorded
 recorded_is W p o n l h z k = fun_ext (λ q. go q (eqb q p) refl)
   where
-    go : (q : ℕ) (b : Bool) → eqb q p ≡ b → entry (get_or (set W p ((o - 1) * 65536 + n)) q 0) ≡ cond b (Text o n) (entry (get_or W q 0))
+    go : (q : ℕ) (b : Bool) → eqb q p ≡ b → entry (get_or (set W p ((o - 1) * 65536 + n)) q 0) ≡ cond b (Some (span o n)) (entry (get_or W q 0))
     go q true e =
         let s : q ≡ p = eqb-true q p e in
         rw (s, get_or-set_same W p ((o - 1) * 65536 + n) 0 (omega arith), ne_eqb ((o - 1) * 65536 + n) 0 (some o n z k), offset_is o n z k, length_is o n z k)
@@ -45,10 +44,10 @@ module _ (W : List ℕ) (p q : ℕ) (e : p ≡ q) where
   recalls f = rw (← e) f
 
 -- what a word holds
-pub entry_unset : (w : ℕ) → w ≡ 0 → Unset ≡ entry w
+pub entry_unset : (w : ℕ) → w ≡ 0 → None ≡ entry w
 entry_unset w z = simp (eq-eqb _ _ z)
 
-pub entry_text : (w : ℕ) → (w ≡ 0 → ⊥) → Text (w / 65536 + 1) (w % 65536) ≡ entry w
+pub entry_text : (w : ℕ) → (w ≡ 0 → ⊥) → Some (span (w / 65536 + 1) (w % 65536)) ≡ entry w
 entry_text w z = simp (ne_eqb _ _ z)
 
 get_d_zeros : (n i : ℕ) → ◌≡◌ {A = ℕ} (get_or (replicate n 0) i 0) 0

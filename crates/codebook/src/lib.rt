@@ -6,14 +6,14 @@ ghost use Rattle.std.specs.Prelude.{◌≡◌, ◌≤◌, ◌<◌, length};
 ghost use Rattle.draft.specs.Codebook.{recorded};
 ghost use Rattle.codebook.specs.Words.{entry, book_of};
 
-use draft::Entry;
+use draft::{Entry, Span};
 
 // Record the text of n bytes at offset o.
 pub fn record(book: &mut [u32], position: u8, o: u32, n: u32)
     requires { (1 < o) × (o ≤ 65536) × (n < 65536) × (length book.old ≡ 256) }
     ensures { book_of book.new ≡ recorded (book_of book.old) position o n }
 {
-    let p = wide(position);
+    let p = usize::from(position);
     book[p] = (o - 1) * 65536 + n;
 }
 
@@ -22,7 +22,7 @@ pub fn recall(book: &[u32], position: u8) -> Entry
     requires { length book.now ≡ 256 }
     ensures { result ≡ book_of book.now position }
 {
-    let p = wide(position);
+    let p = usize::from(position);
     entry_of(book[p])
 }
 
@@ -31,18 +31,10 @@ fn entry_of(word: u32) -> Entry
     ensures { result ≡ entry word }
 {
     if word == 0 {
-        Entry::Unset
-    } else {
-        Entry::Text {
-            offset: word / 65536 + 1,
-            length: word % 65536,
-        }
+        return None;
     }
-}
-
-// A position as an index.
-fn wide(position: u8) -> usize
-    ensures { (result ≡ position) × (result < 256) }
-{
-    position as usize
+    Some(Span {
+        offset: word / 65536 + 1,
+        length: word % 65536,
+    })
 }

@@ -2,8 +2,7 @@
 // or brings: `lines` settles what is handed to it.
 #![tactic(auto)]
 
-ghost use Rattle.std.specs.Prelude.{◌-◌, ◌≤◌, length, IfOk};
-ghost use Rattle.console.specs.Input.{Advances, Within};
+ghost use Rattle.std.specs.Prelude.{◌≤◌, length, IfOk};
 
 use std::env::{Env, FillError};
 use std::fs::File;
@@ -15,94 +14,53 @@ const NO_WORD: i32 = 22;
 
 const LONG_WORD: i32 = 36;
 
-// What one read brought.
+// Why an input brought no bytes: it failed, and why, which was said on standard error; or the command's words were answered with how the
+// program is used.
 #[derive(Clone, Copy)]
-pub enum Piece {
-    More(usize),
-    End,
-    Failed(io::Error),
-}
-
-// What an input brought: that many bytes; or none, and why; or none because the command's words were answered with how the program is used.
-// Why a file or standard input brought none is said on standard error where its name is known.
-#[derive(Clone, Copy)]
-pub enum Input {
-    Bytes(usize),
+pub enum NoInput {
     Failed(io::Error),
     Told,
 }
 
-// One read into the bytes from `at` on.
-fn read_piece<R: Read>(source: &mut R, buffer: &mut [u8], at: usize) -> Piece
-    requires { at ≤ length buffer.old }
-    ensures { Advances result (length buffer.old - at) }
-{
-    let n = match source.read(&mut buffer[at..]) {
-        Ok(n) => n,
-        Err(error) => return Piece::Failed(error),
-    };
-    if n == 0 { Piece::End } else { Piece::More(n) }
+impl From<io::Error> for NoInput {
+    fn from(error: io::Error) -> NoInput {
+        NoInput::Failed(error)
+    }
 }
 
 // Reads until the input ends or the buffer is full, whatever pieces come.
-fn fill<R: Read>(source: &mut R, buffer: &mut [u8]) -> Input
-    ensures { Within result (length buffer.old) }
+// Stays: a loop over `read`, since std's `read_exact` doesn't tell how many bytes came, and its `read_to_end` fills a Vec (no heap).
+fn fill<'a, R: Read>(source: &mut R, buffer: &'a mut [u8]) -> io::Result<&'a [u8]>
+    ensures { IfOk result (λ s. length s.now ≤ length buffer.old) }
 {
     let mut at = 0;
     while at < buffer.len() {
-        let piece = read_piece(source, buffer, at);
-        match piece {
-            Piece::Failed(error) => {
-                return Input::Failed(error);
-            }
-            Piece::End => {
-                return Input::Bytes(at);
-            }
-            Piece::More(n) => {
-                at += n;
-            }
+        match source.read(&mut buffer[at..])? {
+            0 => break,
+            n => at += n,
         }
     }
-    Input::Bytes(at)
+    Ok(&buffer[..at])
 }
 
-// Whether there was a piece more, which is dropped.
-fn skip_piece<R: Read>(source: &mut R) -> bool {
-    let mut buffer = [0u8; 4096];
-    let piece = read_piece(source, &mut buffer, 0);
-    match piece {
-        Piece::More(_) => true,
-        Piece::End => false,
-        Piece::Failed(_) => false,
-    }
-}
-
-// Drops what is left of the input, so that who sends it can send it all. A proved loop has to end, and nothing says that an
-// input does, so it counts its turns, from a number that no run uses up.
-fn skip<R: Read>(source: &mut R) {
-    let mut turns = u64::MAX;
-    while turns > 0 && skip_piece(source) {
-        turns -= 1;
-    }
-}
-
-// Reads the input to its end: its first bytes into the buffer, and how many those are.
-pub fn read_all<R: Read>(source: &mut R, buffer: &mut [u8]) -> Input
-    ensures { Within result (length buffer.old) }
+// Reads the input to its end, so that who sends it can send it all: its first bytes into the buffer, and what is left is dropped.
+pub fn read_all<'a, R: Read>(source: &mut R, buffer: &'a mut [u8]) -> io::Result<&'a [u8]>
+    ensures { IfOk result (λ s. length s.now ≤ length buffer.old) }
 {
     let input = fill(source, buffer);
-    skip(source);
+    let _ = io::copy(source, &mut io::sink());
     input
 }
 
 // The system's words for an error, of the text of one: up to the error's number, or to the bytes that are 0.
 fn reason(text: &[u8]) -> &[u8] {
-    for n in 0..text.len() {
-        if text[n] == 0 || text[n..].starts_with(b" (os error ") {
-            return &text[..n];
-        }
+    let end = text
+        .array_windows()
+        .position(|w| w[0] == 0 || w == b" (os error ");
+    match end {
+        Some(n) => &text[..n],
+        None => text,
     }
-    text
 }
 
 // Says on standard error what failed, and why.
@@ -116,119 +74,92 @@ pub fn fail(rt: &HostRuntime, what: &[u8], error: io::Error) {
     complain(rt, b"\n");
 }
 
-// Says why an input failed, if it did.
-fn tell(rt: &HostRuntime, what: &[u8], input: Input) {
-    match input {
-        Input::Failed(error) => fail(rt, what, error),
-        Input::Bytes(_) => {}
-        Input::Told => {}
-    }
-}
-
 // Opens the file of a name, which has to be UTF-8.
 fn open(rt: &HostRuntime, name: &[u8]) -> io::Result<File> {
     match str::from_utf8(name) {
         Ok(path) => File::open(rt, path),
-        Err(_) => Err(io::Error::from(io::ErrorKind::InvalidFilename)),
+        Err(_) => Err(io::ErrorKind::InvalidFilename.into()),
     }
 }
 
-// Reads the file of a name until it ends or the buffer is full. What goes wrong is said on standard error.
-fn read_named(rt: &HostRuntime, name: &[u8], buffer: &mut [u8]) -> Input
-    ensures { Within result (length buffer.old) }
+// Reads the file of a name until it ends or the buffer is full.
+fn read_named<'a>(rt: &HostRuntime, name: &[u8], buffer: &'a mut [u8]) -> io::Result<&'a [u8]>
+    ensures { IfOk result (λ s. length s.now ≤ length buffer.old) }
 {
-    let input = match open(rt, name) {
-        Ok(file) => {
-            let mut source = file;
-            fill(&mut source, buffer)
-        }
-        Err(error) => Input::Failed(error),
-    };
-    tell(rt, name, input);
-    input
+    let mut file = open(rt, name)?;
+    fill(&mut file, buffer)
 }
 
 // How many words the command has, its name among them.
 pub fn word_count(rt: &HostRuntime) -> usize {
-    for n in 0..usize::MAX {
-        if let Err(FillError::NotPresent) = rt.arg(n, &mut []) {
-            return n;
-        }
-    }
-    usize::MAX
+    (0..usize::MAX)
+        .find(|n| matches!(rt.arg(*n, &mut []), Err(FillError::NotPresent)))
+        .unwrap_or(usize::MAX)
 }
 
-// The word of the command with that number, of which its name has 0, into the buffer, and how many bytes it has.
-pub fn word(rt: &HostRuntime, number: usize, buffer: &mut [u8]) -> io::Result<usize>
-    ensures { IfOk result (λ n. n ≤ length buffer.new) }
+// The word of the command with that number, of which its name has 0, in the buffer.
+pub fn word<'a>(rt: &HostRuntime, number: usize, buffer: &'a mut [u8]) -> io::Result<&'a [u8]>
+    ensures { IfOk result (λ s. length s.now ≤ length buffer.old) }
 {
     match rt.arg(number, buffer) {
-        Ok(n) => Ok(n),
+        Ok(n) => Ok(&buffer[..n]),
         Err(FillError::NotPresent) => Err(io::Error::from_raw_os_error(NO_WORD)),
         Err(FillError::TooLong) => Err(io::Error::from_raw_os_error(LONG_WORD)),
     }
 }
 
-// Reads the file that a word of the command names, likewise.
-pub fn read_file(rt: &HostRuntime, number: usize, buffer: &mut [u8]) -> Input
-    ensures { Within result (length buffer.old) }
+// Reads the file that a word of the command names, likewise. What goes wrong is said on standard error.
+pub fn read_file<'a>(rt: &HostRuntime, number: usize, buffer: &'a mut [u8]) -> io::Result<&'a [u8]>
+    ensures { IfOk result (λ s. length s.now ≤ length buffer.old) }
 {
-    let mut name = [0u8; 4096];
-    match word(rt, number, &mut name) {
-        Ok(n) => read_named(rt, &name[..n], buffer),
-        Err(error) => {
-            fail(rt, b"the name of the file", error);
-            Input::Failed(error)
-        }
-    }
+    let mut space = [0u8; 4096];
+    let name = word(rt, number, &mut space).inspect_err(|error| fail(
+        rt,
+        b"the name of the file",
+        *error,
+    ))?;
+    read_named(rt, name, buffer).inspect_err(|error| fail(rt, name, *error))
 }
 
 // Whether the command has one word, and that asks how the program is used; then that is told.
 pub fn has_helped(rt: &HostRuntime, usage: &[u8]) -> bool {
-    if word_count(rt) != 2 {
-        return false;
-    }
     let mut space = [0u8; 4096];
-    let Ok(n) = word(rt, 1, &mut space) else {
-        return false;
-    };
-    if !names::equal(&space[..n], b"--help") {
-        return false;
+    let asked = word_count(rt) == 2 && matches!(word(rt, 1, &mut space), Ok(b"--help"));
+    if asked {
+        write(rt, usage);
     }
-    write(rt, usage);
-    true
+    asked
 }
 
 // Reads standard input to its end, or the file that the command's one word names. More words are answered with how the program is used.
-pub fn read_input(rt: &HostRuntime, usage: &[u8], buffer: &mut [u8]) -> Input
-    ensures { Within result (length buffer.old) }
+pub fn read_input<'a>(
+    rt: &HostRuntime,
+    usage: &[u8],
+    buffer: &'a mut [u8],
+) -> Result<&'a [u8], NoInput>
+    ensures { IfOk result (λ s. length s.now ≤ length buffer.old) }
 {
     if has_helped(rt, usage) {
-        return Input::Told;
+        return Err(NoInput::Told);
     }
-    let words = word_count(rt);
-    if words > 2 {
-        complain(rt, usage);
-        return Input::Told;
+    match word_count(rt) {
+        0 | 1 => {
+            let input = read_all(&mut rt.stdin(), buffer);
+            Ok(input.inspect_err(|error| fail(rt, b"standard input", *error))?)
+        }
+        2 => Ok(read_file(rt, 1, buffer)?),
+        _ => {
+            complain(rt, usage);
+            Err(NoInput::Told)
+        }
     }
-    if words == 2 {
-        return read_file(rt, 1, buffer);
-    }
-    let mut source = rt.stdin();
-    let input = read_all(&mut source, buffer);
-    tell(rt, b"standard input", input);
-    input
 }
 
 // Hands bytes to standard output, and says whether it took them; if not, that is said on standard error too.
 pub fn write(rt: &HostRuntime, text: &[u8]) -> bool {
-    match rt.write_all(text) {
-        Ok(()) => true,
-        Err(error) => {
-            fail(rt, b"standard output", error);
-            false
-        }
-    }
+    rt.write_all(text)
+        .inspect_err(|error| fail(rt, b"standard output", *error))
+        .is_ok()
 }
 
 // Hands bytes to standard error.

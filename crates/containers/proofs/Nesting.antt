@@ -1,15 +1,17 @@
 -- What answers each return of the functions that walk Others, scalars and containers, by what they hold. Assumes nothing.
 use mathlib.Core.Path.{◌≡◌, refl, sym, ◌∙◌}
 use mathlib.Core.Bool.{Bool, true, false, ◌||◌, cond}
+use mathlib.Core.Logic.{◌⊎◌, inl, inr}
 use mathlib.Core.List.{List}
 use Prim.Native.Nat.{ℕ, zero, suc, ◌+◌, ◌-◌, ◌≤◌, ◌<◌}
 use native.Mathlib.Omega.{arith}
 use native.Mathlib.Numerals.{sub-one}
 use lib.Dec.{eqb}
-use borrow.Author.Tests.{lt-ltb, le-ltb, eq-eqb, ne_eqb, eqb-true}
+use borrow.Author.Tests.{lt-ltb, le-ltb, eqb-true}
+use Rattle.std.proofs.Common.{Option, Some, None}
 use Rattle.draft.specs.declared.Refusal.{Refusal}
-use Rattle.draft.specs.declared.Verdict.{Verdict}
-use Rattle.draft.specs.declared.Verdict.TheVariants.{Fine, Bad}
+use Rattle.draft.specs.Verdict.{Verdict}
+use Rattle.std.specs.Prelude.{Ok, Err}
 use Rattle.draft.specs.declared.Content.{Content as ContentOf}
 use Rattle.draft.specs.declared.Content.TheVariants.{Double, DateTime, Binary, Text}
 use Rattle.draft.specs.declared.Item.{Item}
@@ -25,49 +27,30 @@ use Rattle.draft.specs.declared.Item.TheVariants.{
   Other,
   Unknown,
 }
-use Rattle.draft.specs.declared.Extent.{Extent}
-use Rattle.draft.specs.declared.Extent.TheVariants.{Until, Unfit}
 use Rattle.draft.specs.declared.Row.{Row}
 use Rattle.draft.specs.Rows.{item_of}
 use Rattle.draft.specs.Content.{name_rule}
 use Rattle.draft.specs.Bytes.{part}
 use Rattle.draft.specs.Read.{text_of}
 use Rattle.draft.specs.Writable.{Walk, Nest, floor, under, over, content_item, string, string_by, name, pair, array_item, struct_item, item, value, nested}
-use Rattle.row_ends.specs.Ends.{extent_of}
-use Rattle.row_ends.proofs.Ending.{ending, none_found, some_found}
+use Rattle.row_ends.proofs.Ending.{ending}
 use Rattle.extents.specs.Asked.{Checked, Known}
 use Rattle.extents.proofs.Walking.{walking, only_there, known_kind}
 use Rattle.containers.specs.Items.{holds_items, entries}
 
-pub pair_no : (f g : Walk) (r : ℕ) {o : Extent} → o ≡ f r → o ≡ Unfit → Unfit ≡ pair f g r
+pub pair_no : (f g : Walk) (r : ℕ) {o : Option ℕ} → None ≡ f r → o ≡ None → o ≡ pair f g r
 unfolding pair
-pair_no f g r h i = rw (← h, i)
+pair_no f g r h i = i ∙ rw (← h)
 
-pub pair_on : (f g : Walk) (r : ℕ) {o e : Extent} {k : ℕ} → o ≡ f r → o ≡ Until k → e ≡ g k → e ≡ pair f g r
+pub pair_on : (f g : Walk) (r : ℕ) {e : Option ℕ} {k : ℕ} → Some k ≡ f r → e ≡ g k → e ≡ pair f g r
 unfolding pair
-pair_on f g r h i j = j ∙ rw (← h, i)
+pair_on f g r h j = j ∙ rw (← h)
 
 -- the text of a row that was fetched
 pub row_text_is : (s : List ℕ) {x y : Row} {t : List ℕ} → t ≡ part s x.a x.b → x ≡ y → t ≡ text_of s y
 row_text_is s e f = e ∙ rw f
 
--- the kind of an Array or a Struct, or of neither
-pub holds_array : {k : ℕ} → k ≡ 9 → true ≡ holds_items k
-unfolding holds_items
-holds_array e = rw (eq-eqb _ _ e)
-
-pub holds_struct : {k : ℕ} → (k ≡ 9 → ⊥) → eqb k 10 ≡ holds_items k
-unfolding holds_items
-holds_struct n = rw (ne_eqb _ _ n)
-
-pub array_holds : {k : ℕ} → k ≡ 9 → holds_items k ≡ true
-array_holds e = sym (holds_array e)
-
-pub struct_holds : {k : ℕ} → k ≡ 10 → holds_items k ≡ true
-unfolding holds_items
-struct_holds e = rw e
-
-abbrev Flat : Item → Type 0
+abbrev pub Flat : Item → Type 0
 Flat Call = Unit {0}
 Flat Response = Unit {0}
 Flat Fault = Unit {0}
@@ -92,6 +75,18 @@ flat_kind k h =
     chosen : (x : Bool) (i j : Item) → Flat i → Flat j → Flat (cond x i j)
     chosen true i j f g = f
     chosen false i j f g = g
+
+-- a kind that holds items, by its item
+pub holds_item : (k : ℕ) {i : Item} → i ≡ item_of k → (i ≡ Array) ⊎ (i ≡ Struct) → holds_items k ≡ true
+holds_item k {i} g h = go (holds_items k) refl
+  where
+    no : (j : Item) → Flat j → (j ≡ Array) ⊎ (j ≡ Struct) → ⊥
+    no j f (inl e) = rw e at f
+    no j f (inr e) = rw e at f
+
+    go : (b : Bool) → holds_items k ≡ b → holds_items k ≡ true
+    go true e = e
+    go false e = absurd (no i (rw g (flat_kind k e)) h)
 
 -- the item of a kind that holds items
 item_struct : {k : ℕ} → k ≡ 10 → item_of k ≡ Struct
@@ -145,28 +140,23 @@ string_kind {k} e = rw e at (text_kind_lem k)
 -- the rows of a table, and the text bytes
 module _ (row : ℕ → Row) (rows : ℕ) (s : List ℕ) where
   -- an Other's name
-  module _ (r : ℕ) {n : ℕ} (h : extent_of n ≡ string row rows s r) where
-    pub name_no : n ≡ 0 → Unfit ≡ name row rows s r
-    unfolding string_by
-    name_no i = rw (← h, none_found i)
+  pub name_no : (r : ℕ) {o : Option ℕ} → None ≡ string row rows s r → o ≡ None → o ≡ name row rows s r
+  unfolding string_by
+  name_no r h i = i ∙ rw (← h)
 
-    module _ (i : n ≡ 0 → ⊥) where
-      pub string_there : r < rows
-      unfolding string
-      string_there = only_there row rows s 11 (content_item s Text) r h (some_found i)
+  module _ (r : ℕ) {n : ℕ} (h : Some n ≡ string row rows s r) where
+    pub string_there : r < rows
+    unfolding string
+    string_there = only_there row rows s 11 (content_item s Text) r h refl
 
-      module _ {t : List ℕ} {v : Verdict} (e : t ≡ text_of s (row r)) (j : v ≡ name_rule t) where
-        pub name_bad : {m : Refusal} → v ≡ Bad m → Unfit ≡ name row rows s r
-        unfolding string_by
-        name_bad l = rw (← h, some_found i, ← e, ← j, l)
+    module _ {t : List ℕ} {v : Verdict} (e : t ≡ text_of s (row r)) (j : v ≡ name_rule t) where
+      pub name_bad : {m : Refusal} → v ≡ Err m → None ≡ name row rows s r
+      unfolding string_by
+      name_bad l = rw (← h, ← e, ← j, l)
 
-        pub name_fine : v ≡ Fine → extent_of n ≡ name row rows s r
-        unfolding string_by
-        name_fine l = some_found i ∙ rw (← h, some_found i, ← e, ← j, l)
-
-  -- a Value that holds no others, by its item
-  pub scalar_is : (k r : ℕ) (x : Row) {i j : Item} {e : Extent} → i ≡ item_of k → i ≡ j → e ≡ item row rows s j floor x r → e ≡ item row rows s (item_of k) floor x r
-  scalar_is k r x g h l = l ∙ rw (← g, h)
+      pub name_fine : v ≡ Ok tt → Some n ≡ name row rows s r
+      unfolding string_by
+      name_fine l = rw (← h, ← e, ← j, l)
 
   -- what is known of its content
   pub scalar_known : (r : ℕ) {x : Row} {i : Item} {c : ContentOf} {good : ℕ} → Checked row s good → x ≡ row r → i ≡ item_of x.kind → i ≡ Content c → Known s c x r good
@@ -185,18 +175,18 @@ module _ (row : ℕ → Row) (rows : ℕ) (s : List ℕ) where
   any_nest Unknown f n m x r = refl
 
   -- a Value, by what was fetched of its row
-  pub value_past : (deep r : ℕ) → rows ≤ r → Unfit ≡ value row rows s deep r
+  pub value_past : (deep r : ℕ) → rows ≤ r → None ≡ value row rows s deep r
   unfolding value
   value_past zero r h = rw (le-ltb r rows h)
   value_past (suc deep) r h = rw (le-ltb r rows h)
 
-  pub value_is : (deep r : ℕ) {x : Row} {e : Extent} → r < rows → x ≡ row r → e ≡ item row rows s (item_of x.kind) (nested row rows s deep) x r → e ≡ value row rows s deep r
+  pub value_is : (deep r : ℕ) {x : Row} {e : Option ℕ} → r < rows → x ≡ row r → e ≡ item row rows s (item_of x.kind) (nested row rows s deep) x r → e ≡ value row rows s deep r
   unfolding value nested
   value_is zero r h f l = l ∙ rw (lt-ltb r rows h, ← f)
   value_is (suc deep) r h f l = l ∙ rw (lt-ltb r rows h, ← f)
 
-  pub value_scalar : (deep r : ℕ) {x : Row} {e : Extent} → r < rows → x ≡ row r → holds_items x.kind ≡ false → e ≡ item row rows s (item_of x.kind) floor x r → e ≡ value row rows s deep r
-  value_scalar deep r {x} h f n l = value_is deep r h f (l ∙ any_nest (item_of x.kind) (flat_kind x.kind n) floor (nested row rows s deep) x r)
+  pub value_flat : (deep r : ℕ) {x : Row} {j : Item} {e : Option ℕ} → r < rows → x ≡ row r → item_of x.kind ≡ j → Flat j → e ≡ item row rows s j floor x r → e ≡ value row rows s deep r
+  value_flat deep r {x} {j} h f g k l = value_is deep r h f (rw g (l ∙ any_nest j k floor (nested row rows s deep) x r))
 
   -- what may nest: nothing more, or a level less
   nested_less : (deep : ℕ) → (deep ≡ 0 → ⊥) → nested row rows s deep ≡ under (value row rows s (deep - 1))
@@ -206,23 +196,17 @@ module _ (row : ℕ → Row) (rows : ℕ) (s : List ℕ) where
 
   -- an Array or a Struct, by its kind
   module _ (k : ℕ) (h : holds_items k ≡ true) (deep : ℕ) (x : Row) (r : ℕ) where
-    pub contents_deep : deep ≡ 0 → Unfit ≡ item row rows s (item_of k) (nested row rows s deep) x r
+    pub contents_deep : deep ≡ 0 → None ≡ item row rows s (item_of k) (nested row rows s deep) x r
     unfolding nested
     contents_deep z = go (eqb k 10) refl
       where
-        go : (b : Bool) → eqb k 10 ≡ b → Unfit ≡ item row rows s (item_of k) (nested row rows s deep) x r
+        go : (b : Bool) → eqb k 10 ≡ b → None ≡ item row rows s (item_of k) (nested row rows s deep) x r
         go true e = rw (item_struct (eqb-true k 10 e), z)
         go false e = rw (item_array (array_kind k h e), z)
 
-    pub contents_less : (deep ≡ 0 → ⊥) → {o e : Extent} (b : Bool) → eqb k 10 ≡ b → o ≡ entries row rows s b (value row rows s (deep - 1)) x.b (r + 1) → e ≡ over x o → e ≡ item row rows s (item_of k) (nested row rows s deep) x r
+    pub contents_less : (deep ≡ 0 → ⊥) → {o e : Option ℕ} (b : Bool) → eqb k 10 ≡ b → o ≡ entries row rows s b (value row rows s (deep - 1)) x.b (r + 1) → e ≡ over x o → e ≡ item row rows s (item_of k) (nested row rows s deep) x r
     unfolding entries
     contents_less z true e i j = j ∙ rw (item_struct (eqb-true k 10 e), nested_less deep z, i)
     contents_less z false e i j = j ∙ rw (item_array (array_kind k h e), nested_less deep z, i)
 
-  pub array_here : (k : ℕ) (nest : Nest) (x : Row) (r : ℕ) {e : Extent} → k ≡ 9 → e ≡ item row rows s (item_of k) nest x r → e ≡ array_item nest x r
-  array_here k nest x r h i = rw (item_array h) at i
-
-  pub struct_here : (k : ℕ) (nest : Nest) (x : Row) (r : ℕ) {e : Extent} → k ≡ 10 → e ≡ item row rows s (item_of k) nest x r → e ≡ struct_item row rows s nest x r
-  struct_here k nest x r h i = rw (item_struct h) at i
-
-pub ruleset nesting = (ending, walking, pair_no, pair_on, row_text_is, holds_array, holds_struct, array_holds, struct_holds, string_there, name_no, name_bad, name_fine, scalar_is, scalar_known)
+pub ruleset nesting = (ending, walking, pair_no, pair_on, row_text_is, string_there, name_no, name_bad, name_fine)

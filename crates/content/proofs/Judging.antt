@@ -16,8 +16,8 @@ use Rattle.lexical.specs.DateTime.{is_date_time}
 use Rattle.lexical.proofs.Doubles.{double_ascii}
 use Rattle.lexical.proofs.DateTimes.{datetime_ascii}
 use Rattle.draft.specs.declared.Refusal.TheVariants.{Ended, BadText, StandardName, BadValue}
-use Rattle.draft.specs.declared.Verdict.{Verdict}
-use Rattle.draft.specs.declared.Verdict.TheVariants.{Fine, Bad}
+use Rattle.draft.specs.Verdict.{Verdict}
+use Rattle.std.specs.Prelude.{Ok, Err}
 use Rattle.draft.specs.declared.Content.{Content}
 use Rattle.draft.specs.declared.Content.TheVariants.{Double, DateTime, Binary, Text}
 use Rattle.draft.specs.Bytes.{part}
@@ -59,26 +59,26 @@ module _ {c : Content} (s : List ℕ) {good : Bool} {v : Verdict} where
   unfolding content_rule
   judge_text e i g = e ∙ rw (i, g)
 
-pub judge_binary : {c : Content} (s : List ℕ) → c ≡ Binary → Fine ≡ content_rule c s
+pub judge_binary : {c : Content} (s : List ℕ) → c ≡ Binary → (Ok tt) ≡ content_rule c s
 unfolding content_rule
 judge_binary s i = rw i
 
 -- an Other's name
-pub name_standard : (s : List ℕ) {b : Bool} → b ≡ standard_name s → b ≡ true → Bad StandardName ≡ name_rule s
+pub name_standard : (s : List ℕ) {b : Bool} → b ≡ standard_name s → b ≡ true → Err StandardName ≡ name_rule s
 unfolding name_rule
 name_standard s e t = rw (← e, t)
 
-pub name_other : (s : List ℕ) {b : Bool} → b ≡ standard_name s → b ≡ false → Fine ≡ name_rule s
+pub name_other : (s : List ℕ) {b : Bool} → b ≡ standard_name s → b ≡ false → (Ok tt) ≡ name_rule s
 unfolding name_rule
 name_other s e t = rw (← e, t)
 
 -- whether the bytes are there
 module _ (c : Content) (s : List ℕ) (o n : ℕ) where
-  pub starts_past : length s < o → Bad Ended ≡ verdict c s o n
+  pub starts_past : length s < o → Err Ended ≡ verdict c s o n
   unfolding verdict
   starts_past h = rw (lt-leb (o + n) (length s) (omega arith))
 
-  pub ends_past : o ≤ length s → length s - o < n → Bad Ended ≡ verdict c s o n
+  pub ends_past : o ≤ length s → length s - o < n → Err Ended ≡ verdict c s o n
   unfolding verdict
   ends_past h k = rw (lt-leb (o + n) (length s) (omega arith))
 
@@ -86,14 +86,14 @@ module _ (c : Content) (s : List ℕ) (o n : ℕ) where
   unfolding verdict
   there h k e f = f ∙ rw (le-leb (o + n) (length s) (omega arith), e)
 
-pub fine_not : {good : Bool} → good ≡ false → Bad BadText ≡ fine_if good BadText
+pub fine_not : {good : Bool} → good ≡ false → Err BadText ≡ fine_if good BadText
 fine_not e = rw e
 
 module _ (s : List ℕ) {good is : Bool} where
-  pub value_bad : good ≡ false → is ≡ ascii s → is ≡ true → Bad BadValue ≡ fine_if good (flaw (ascii s))
+  pub value_bad : good ≡ false → is ≡ ascii s → is ≡ true → Err BadValue ≡ fine_if good (flaw (ascii s))
   value_bad g e t = rw (g, ← e, t)
 
-  pub value_not_ascii : good ≡ false → is ≡ ascii s → is ≡ false → Bad BadText ≡ fine_if good (flaw (ascii s))
+  pub value_not_ascii : good ≡ false → is ≡ ascii s → is ≡ false → Err BadText ≡ fine_if good (flaw (ascii s))
   value_not_ascii g e t = rw (g, ← e, t)
 
 pub ruleset judging = (part_past, part_rest, part_cut, fine_not, value_bad, value_not_ascii, judge_double, judge_date, judge_text, judge_binary, name_standard, name_other, starts_past, ends_past, there)

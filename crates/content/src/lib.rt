@@ -30,7 +30,7 @@ pub fn judge(content: Content, s: &[u8]) -> Verdict
     match content {
         Content::Double => judge_value(double::is_double(s), s),
         Content::DateTime => judge_value(date::is_datetime(s), s),
-        Content::Binary => Verdict::Fine,
+        Content::Binary => Ok(()),
         Content::Text => fine_if(text_check::is_utf8(s)),
     }
 }
@@ -40,23 +40,19 @@ fn judge_value(good: bool, s: &[u8]) -> Verdict
     ensures { result ≡ fine_if good (flaw (ascii s.now)) }
 {
     if good {
-        return Verdict::Fine;
+        return Ok(());
     }
     if ascii::is_ascii(s) {
-        Verdict::Bad(Refusal::BadValue)
+        Err(Refusal::BadValue)
     } else {
-        Verdict::Bad(Refusal::BadText)
+        Err(Refusal::BadText)
     }
 }
 
 fn fine_if(good: bool) -> Verdict
     ensures { result ≡ fine_if good Refusal.BadText }
 {
-    if good {
-        Verdict::Fine
-    } else {
-        Verdict::Bad(Refusal::BadText)
-    }
+    if good { Ok(()) } else { Err(Refusal::BadText) }
 }
 
 // What is wrong with the n bytes at o as an item's content, if anything: they are not all there, or their rule refuses them.
@@ -64,10 +60,10 @@ pub fn inspect(content: Content, s: &[u8], o: usize, n: usize) -> Verdict
     ensures { result ≡ verdict content s.now o n }
 {
     if s.len() < o {
-        return Verdict::Bad(Refusal::Ended);
+        return Err(Refusal::Ended);
     }
     if s.len() - o < n {
-        return Verdict::Bad(Refusal::Ended);
+        return Err(Refusal::Ended);
     }
     judge(content, part(s, o, n))
 }
@@ -77,8 +73,8 @@ pub fn judge_name(s: &[u8]) -> Verdict
     ensures { result ≡ name_rule s.now }
 {
     if names::is_standard_name(s) {
-        Verdict::Bad(Refusal::StandardName)
+        Err(Refusal::StandardName)
     } else {
-        Verdict::Fine
+        Ok(())
     }
 }

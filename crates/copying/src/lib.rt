@@ -4,42 +4,18 @@
 ghost use Rattle.std.specs.Prelude.{◌≡◌, ◌≤◌, length, replicate};
 ghost use Rattle.copying.specs.Contract.{Front};
 
+// Stays: `table::clear` is the same for words; both are one call of std's generic `fill`, and a generic one of our own is no plainer.
 // All bytes zero.
 pub fn clear(out: &mut [u8])
     ensures { out.new ≡ replicate (length out.old) 0 }
 {
-    let mut i = 0;
-    while i < out.len() {
-        out[i] = 0;
-        i += 1;
-    }
+    out.fill(0);
 }
 
-// Bytes to the front, one after the other.
-fn copy_singly(out: &mut [u8], t: &[u8])
-    requires { length t.now ≤ length out.old }
-    ensures { Front t.now out.old out.new }
-{
-    let mut i = 0;
-    while i < t.len() {
-        out[i] = t[i];
-        i += 1;
-    }
-}
-
-// Bytes to the front. Most texts have 8 to 16: the first eight and the last are all of them, with no loop.
+// Bytes to the front.
 pub fn copy(out: &mut [u8], t: &[u8])
     requires { length t.now ≤ length out.old }
     ensures { Front t.now out.old out.new }
 {
-    if t.len() < 8 {
-        copy_singly(out, t);
-        return;
-    }
-    if 16 < t.len() {
-        copy_singly(out, t);
-        return;
-    }
-    eight_bytes::copy_eight(out, t, 0);
-    eight_bytes::copy_eight(out, t, t.len() - 8);
+    out[..t.len()].copy_from_slice(t);
 }

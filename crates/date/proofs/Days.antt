@@ -7,6 +7,7 @@ use native.Mathlib.Omega.{arith}
 use lib.ListN.{get_or}
 use lib.Dec.{leb, eqb}
 use borrow.Author.Tests.{le-leb, lt-leb}
+use Rattle.std.specs.Int.{from_bool}
 use Rattle.listed.specs.Listed.{listed, at_listed}
 use Rattle.lexical.specs.DateTime.{leap, month_days, is_day}
 
@@ -24,7 +25,14 @@ days_at year month {row} {long} e f l h =
     picked true m q = ap (month_days true) q
     picked false m q = ap (month_days false) q
 
-pub ruleset tabled = (days_at)
+-- the number of a yes or no
+pub row_is : (long : Bool) → from_bool long ≡ cond long 1 0
+row_is true = refl
+row_is false = refl
+
+pub row_below : (long : Bool) → from_bool long < 2
+row_below true = omega arith
+row_below false = omega arith
 
 -- each month has 28 days
 least : (inLeap : Bool) (month : ℕ) → 28 ≤ month_days inLeap month

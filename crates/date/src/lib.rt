@@ -1,7 +1,7 @@
 // Whether bytes are a DateTime, as `19980717T14:08:55`, of a day that there is.
 #![tactic(auto)]
 
-ghost use Rattle.std.specs.Prelude.{◌≡◌, cond, ◌+◌, ◌≤◌, ◌<◌, length};
+ghost use Rattle.std.specs.Prelude.{◌≡◌, ◌+◌, ◌≤◌, ◌<◌, length};
 ghost use Rattle.lexical.specs.Digits.{pair, two};
 ghost use Rattle.lexical.specs.DateTime.{leap, month_days, is_day, is_date, pair_to, is_time, parted, is_date_time};
 
@@ -20,36 +20,25 @@ fn is_leap(year: usize) -> bool
     (year % 4 == 0) & (year % 100 != 0) | (year % 400 == 0)
 }
 
-// The row of DAYS.
-fn row_of(leap: bool) -> usize
-    ensures { (result ≡ cond leap 1 0) × (result < 2) }
-{
-    if leap { 1 } else { 0 }
-}
-
 // How many days a month has, counted from 1.
 fn month_days(year: usize, month: usize) -> u8
     requires { (1 ≤ month) × (month ≤ 12) }
     ensures { result ≡ month_days (leap year) month }
 {
-    let row = row_of(is_leap(year));
-    DAYS[row][month - 1]
+    DAYS[usize::from(is_leap(year))][month - 1]
 }
 
 // Whether there is such a day. Every month has 28 days, so the table is looked at only for the last ones.
 fn is_day(year: usize, month: usize, day: usize) -> bool
     ensures { result ≡ is_day year month day }
 {
-    if month < 1 {
-        return false;
-    }
-    if 12 < month {
+    if month < 1 || 12 < month {
         return false;
     }
     if day <= 28 {
         return 1 <= day;
     }
-    day <= month_days(year, month) as usize
+    day <= usize::from(month_days(year, month))
 }
 
 // Whether the bytes at `at` and behind it are digits.
@@ -73,10 +62,7 @@ fn is_pair_to(s: &[u8], at: usize, most: usize) -> bool
     requires { at + 1 < length s.now }
     ensures { result ≡ pair_to s.now at most }
 {
-    if is_pair(s, at) {
-        return two_digits(s, at) <= most;
-    }
-    false
+    is_pair(s, at) && two_digits(s, at) <= most
 }
 
 // Whether they are a minute or a second, digits that write at most 59: the first of them says it.
@@ -100,10 +86,7 @@ fn is_time(s: &[u8]) -> bool
     requires { length s.now ≡ 17 }
     ensures { result ≡ is_time s.now }
 {
-    if is_pair_to(s, 9, 23) {
-        return is_sixtieth(s, 12) & is_sixtieth(s, 15);
-    }
-    false
+    is_pair_to(s, 9, 23) && is_sixtieth(s, 12) & is_sixtieth(s, 15)
 }
 
 // Whether 17 bytes have the date of a day that there is.
@@ -111,20 +94,18 @@ fn is_date(s: &[u8]) -> bool
     requires { length s.now ≡ 17 }
     ensures { result ≡ is_date s.now }
 {
-    if is_pair(s, 0) & is_pair(s, 2) & is_pair(s, 4) & is_pair(s, 6) {
-        let year = 100 * two_digits(s, 0) + two_digits(s, 2);
-        return is_day(year, two_digits(s, 4), two_digits(s, 6));
+    if !(is_pair(s, 0) & is_pair(s, 2) & is_pair(s, 4) & is_pair(s, 6)) {
+        return false;
     }
-    false
+    let year = 100 * two_digits(s, 0) + two_digits(s, 2);
+    is_day(year, two_digits(s, 4), two_digits(s, 6))
 }
 
 pub fn is_datetime(s: &[u8]) -> bool
     ensures { result ≡ is_date_time s.now }
 {
-    if s.len() == 17 {
-        if is_parted(s) & is_time(s) {
-            return is_date(s);
-        }
+    if s.len() != 17 {
+        return false;
     }
-    false
+    is_parted(s) & is_time(s) && is_date(s)
 }

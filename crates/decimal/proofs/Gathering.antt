@@ -14,7 +14,7 @@ use mir.Val.{Fits}
 use borrow.Author.Tests.{eq-eqb, ne_eqb, le-leb, lt-leb, leb-true, leb-false}
 use Rattle.text.proofs.Comparing.{both, clash, ended}
 use Rattle.lexical.specs.Digits.{digit}
-use Rattle.decimal.specs.declared.Gathered.TheVariants.{Number, TooMany}
+use Rattle.std.proofs.Common.{Some, None}
 use Rattle.decimal.specs.Digits.{nonzero, digits_of, significant, whole, places, negative, Counting}
 use Rattle.decimal.specs.Decimal.{gathered}
 
@@ -98,13 +98,13 @@ pub ruleset skipping = (zeros_none, zeros_end, zeros_more, zeros_stop)
 -- ---- the whole number
 
 -- the digits until i are gathered: so many, and the number that they write
-pub record Gathers (s : List ℕ) (from number count i : ℕ) : Type 0 where
+pub record Gathers (s : List ℕ) (number count i : ℕ) : Type 0 where
   pub few : count ≤ 15
   pub small : number < 10 ^ count
-  pub counted : count + length (digits_of (drop i s)) ≡ length (digits_of (drop from s))
-  pub written : whole number (digits_of (drop i s)) ≡ whole 0 (digits_of (drop from s))
+  pub counted : count + length (digits_of (drop i s)) ≡ length (digits_of s)
+  pub written : whole number (digits_of (drop i s)) ≡ whole 0 (digits_of s)
 
-pub gathers_none : {s : List ℕ} {from : ℕ} → Gathers s from 0 0 from
+pub gathers_none : {s : List ℕ} → Gathers s 0 0 0
 gathers_none = record { few = omega arith; small = omega arith; counted = omega arith; written = refl }
 
 pub below_fifteen : (number count : ℕ) → number < 10 ^ count → count ≤ 15 → number < 1000000000000000
@@ -129,7 +129,7 @@ other_byte : (b : ℕ) (s : List ℕ) → digit b ≡ false → digits_of (b ∷
 unfolding digits_of
 other_byte b s e = rw e
 
-module _ {s : List ℕ} {from number count i : ℕ} (g : Gathers s from number count i) where
+module _ {s : List ℕ} {number count i : ℕ} (g : Gathers s number count i) where
   number_below : number < 1000000000000000
   number_below = below_fifteen number count g.small g.few
 
@@ -142,16 +142,16 @@ module _ {s : List ℕ} {from number count i : ℕ} (g : Gathers s from number c
   pub count_fits : Fits w64 (count + 1)
   count_fits = record { fits = omega (arith, g.few) }
 
-  pub gathers_end : length s ≤ i → Number number ≡ gathered (digits_of (drop from s))
+  pub gathers_end : length s ≤ i → Some number ≡ gathered (digits_of s)
   unfolding gathered digits_of whole
   gathers_end h =
       let none : digits_of (drop i s) ≡ [] = rw (ended s i h) in
-      let c : count + 0 ≡ length (digits_of (drop from s)) = rw none at g.counted in
-      let w : number ≡ whole 0 (digits_of (drop from s)) = rw none at g.written in
-      rw (le-leb (length (digits_of (drop from s))) 15 (omega (arith, g.few))) (ap Number w)
+      let c : count + 0 ≡ length (digits_of s) = rw none at g.counted in
+      let w : number ≡ whole 0 (digits_of s) = rw none at g.written in
+      rw (le-leb (length (digits_of s)) 15 (omega (arith, g.few))) (ap Some w)
 
   module _ {is : Bool} (h : i < length s) (e : is ≡ digit (get_or s i 0)) where
-    pub gathers_other : is ≡ false → Gathers s from number count (i + 1)
+    pub gathers_other : is ≡ false → Gathers s number count (i + 1)
     gathers_other f =
         let d : digits_of (drop i s) ≡ digits_of (drop (i + 1) s) = rw (add-one, drop-cons s i 0 h) (other_byte _ _ (sym e ∙ f)) in
         record { few = g.few; small = g.small; counted = rw d at g.counted; written = rw d at g.written }
@@ -160,17 +160,17 @@ module _ {s : List ℕ} {from number count i : ℕ} (g : Gathers s from number c
       digits_here : digits_of (drop i s) ≡ (get_or s i 0 - 48) ∷ digits_of (drop (i + 1) s)
       digits_here = rw (add-one, drop-cons s i 0 h) (digit_byte _ _ (sym e ∙ f))
 
-      pub gathers_full : count ≡ 15 → TooMany ≡ gathered (digits_of (drop from s))
+      pub gathers_full : count ≡ 15 → None ≡ gathered (digits_of s)
       unfolding gathered
       gathers_full q =
-          let c : count + suc (length (digits_of (drop (i + 1) s))) ≡ length (digits_of (drop from s)) = rw digits_here at g.counted in
-          rw (lt-leb (length (digits_of (drop from s))) 15 (omega arith))
+          let c : count + suc (length (digits_of (drop (i + 1) s))) ≡ length (digits_of s) = rw digits_here at g.counted in
+          rw (lt-leb (length (digits_of s)) 15 (omega arith))
 
-      pub gathers_more : {v : ℕ} → (count ≡ 15 → ⊥) → (v ≡ get_or s i 0 - 48) × (v ≤ 9) → Gathers s from (10 * number + v) (count + 1) (i + 1)
+      pub gathers_more : {v : ℕ} → (count ≡ 15 → ⊥) → (v ≡ get_or s i 0 - 48) × (v ≤ 9) → Gathers s (10 * number + v) (count + 1) (i + 1)
       unfolding whole
       gathers_more {v} q w =
-          let c : count + suc (length (digits_of (drop (i + 1) s))) ≡ length (digits_of (drop from s)) = rw digits_here at g.counted in
-          let n : whole (10 * number + (get_or s i 0 - 48)) (digits_of (drop (i + 1) s)) ≡ whole 0 (digits_of (drop from s)) = rw digits_here at g.written in
+          let c : count + suc (length (digits_of (drop (i + 1) s))) ≡ length (digits_of s) = rw digits_here at g.counted in
+          let n : whole (10 * number + (get_or s i 0 - 48)) (digits_of (drop (i + 1) s)) ≡ whole 0 (digits_of s) = rw digits_here at g.written in
           record {
             few = omega (arith, g.few, q);
             small = rw add-one (one_more number count v g.small w.1);
@@ -200,12 +200,12 @@ fifteen s h =
     let l : 0 + length (digits_of s) ≤ 15 = omega arith in
     lt_of_lt_of_le (whole_below s 0 0 (omega arith)) (pow-le-pow_right (zero-lt-suc 9) l)
 
-pub number_small : (s : List ℕ) (from n : ℕ) → Number n ≡ gathered (digits_of (drop from s)) → n < 10 ^ 15
+pub number_small : (s : List ℕ) (n : ℕ) → Some n ≡ gathered (digits_of s) → n < 10 ^ 15
 unfolding gathered
-number_small s from n e = go (leb (length (digits_of (drop from s))) 15) refl e
+number_small s n e = go (leb (length (digits_of s)) 15) refl e
   where
-    go : (t : Bool) → leb (length (digits_of (drop from s))) 15 ≡ t → Number n ≡ cond t (Number (whole 0 (digits_of (drop from s)))) TooMany → n < 10 ^ 15
-    go true l q = let w : n ≡ whole 0 (digits_of (drop from s)) = cc in rw w (fifteen (drop from s) (leb-true _ 15 l))
+    go : (t : Bool) → leb (length (digits_of s)) 15 ≡ t → Some n ≡ cond t (Some (whole 0 (digits_of s))) None → n < 10 ^ 15
+    go true l q = let w : n ≡ whole 0 (digits_of s) = cc in rw w (fifteen s (leb-true _ 15 l))
     go false l q = let z : ◌≡◌ {A = ℕ} 0 1 = cc in absurd (omega arith)
 
 -- the digits that count are the digits of a part of the text

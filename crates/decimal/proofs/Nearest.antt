@@ -14,9 +14,9 @@ use lib.Ieee.Scale.{round_same}
 use lib.Ieee.Back.{round_whole}
 use borrow.Author.Tests.{ne_eqb, leb-true}
 use Rattle.text.proofs.Comparing.{both}
-use Rattle.decimal.specs.declared.Decimal.TheVariants.{Value, TooManyDigits}
+use Rattle.std.proofs.Common.{Ok}
 use Rattle.decimal.specs.Digits.{digits_of, significant, whole, places, negative}
-use Rattle.decimal.specs.Decimal.{power, quotient, signed, held, decimal_of, nearest_to}
+use Rattle.decimal.specs.Decimal.{power, quotient, signed, held, decimal_of, nearest_to, too_many}
 use Rattle.decimal.proofs.Powers.{power_exact}
 use Rattle.decimal.proofs.Gathering.{significant_small}
 
@@ -71,12 +71,12 @@ signed_nearest false n k h l = quotient_nearest n k h l
 
 -- ---- the text's value
 
-pub nearest : (s : List ℕ) → held s ≡ true → decimal_of s ≡ Value (nearest_to s)
+pub nearest : (s : List ℕ) → held s ≡ true → decimal_of s ≡ Ok (nearest_to s)
 unfolding held decimal_of nearest_to
 nearest s e =
     let h = both (leb (length (significant (digits_of s))) 15) (leb (places s) 22) e in
     rw (h.0, h.1)
-    (ap Value
+    (ap Ok
     (signed_nearest (negative s) (whole 0 (significant (digits_of s))) (places s) (significant_small s (leb-true _ 15 h.0)) (leb-true _ 22 h.1)))
 
 -- ---- what is rounded is no NaN, so the value has bits
@@ -93,10 +93,10 @@ units_number f s q k = go (ltb (q * 2 ^ k) (2 ^ (low f + suc (emax f)))) q
 round_number : (f : Format) (s : Bool) (a b : ℕ) → T (not (is_nan (round f s a b)))
 round_number f s a b = rw (round_is f s a b) (units_number f s _ _)
 
-pub value_number : (s : List ℕ) {x : Float} → decimal_of s ≡ Value x → T (not (is_nan x))
+pub value_number : (s : List ℕ) {x : Float} → decimal_of s ≡ Ok x → T (not (is_nan x))
 unfolding decimal_of nearest_to
 value_number s {x} e = go (held s) refl e
   where
-    go : (t : Bool) → held s ≡ t → cond t (Value (signed (negative s) (quotient (whole 0 (significant (digits_of s))) (places s)))) TooManyDigits ≡ Value x → T (not (is_nan x))
+    go : (t : Bool) → held s ≡ t → cond t (Ok (signed (negative s) (quotient (whole 0 (significant (digits_of s))) (places s)))) too_many ≡ Ok x → T (not (is_nan x))
     go true h q = let n : x ≡ nearest_to s = cc (nearest s h) in rw n (round_number binary64 (negative s) (whole 0 (significant (digits_of s))) (10 ^ places s))
     go false h q = let z : ◌≡◌ {A = ℕ} 0 1 = cc in absurd (omega arith)

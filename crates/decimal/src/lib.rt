@@ -1,24 +1,14 @@
 // A decimal: its digits as a whole number, divided once by a power of ten, then negated if the sign is minus.
 #![tactic(auto)]
 
-ghost use Rattle.std.specs.Prelude.{◌≡◌, true, ◌-◌, ◌^◌, ◌≤◌, ◌<◌, drop};
+ghost use Rattle.std.specs.Prelude.{◌≡◌, true, ◌-◌, ◌^◌, ◌≤◌, ◌<◌, length};
 ghost use Rattle.lexical.specs.Digits.{digit, digit_value};
 ghost use Rattle.decimal.specs.Digits.{nonzero, digits_of, Counting, places as places_of, negative};
 ghost use Rattle.decimal.specs.Decimal.{power as powerOf, quotient as quotient_of, signed as signedBy, gathered, decimal_of};
 
-// The value of a text, or that it has too many digits: more than 15 after leading zeros are dropped, or more than 22 after the point.
-#[derive(Drop)]
-pub enum Decimal {
-    Value(f64),
-    TooManyDigits,
-}
-
-// Digits as a whole number, if there are no more than 15.
-#[derive(Drop)]
-pub enum Gathered {
-    Number(u64),
-    TooMany,
-}
+// A text has more than 15 digits after leading zeros are dropped, or more than 22 after the point.
+#[derive(Clone, Copy, Debug, PartialEq, Eq)]
+pub struct TooManyDigits;
 
 // The powers of ten up to 22, each a value of f64.
 const POWERS: [f64; 23] = [
@@ -73,22 +63,17 @@ fn signed(minus: bool, x: f64) -> f64
 fn is_negative(s: &[u8]) -> bool
     ensures { result ≡ negative s.now }
 {
-    if 0 < s.len() {
-        return s[0] == b'-';
-    }
-    false
+    s.first() == Some(&b'-')
 }
 
 // How many bytes stand after the point.
 fn places(s: &[u8]) -> usize
     ensures { result ≡ places_of s.now }
 {
-    let mut i = 0;
-    while i < s.len() {
-        if s[i] == b'.' {
+    for (i, b) in s.iter().enumerate() {
+        if *b == b'.' {
             return s.len() - (i + 1);
         }
-        i += 1;
     }
     0
 }
@@ -102,17 +87,19 @@ fn is_nonzero(b: u8) -> bool
 
 // The place of the first digit that is no leading zero.
 fn past_zeros(s: &[u8]) -> usize
-    ensures { Counting s.now result }
+    ensures counting { Counting s.now result }
+    ensures within { result ≤ length s.now }
 {
-    let mut i = 0;
-    while i < s.len() {
-        if is_nonzero(s[i]) {
+    for (i, b) in s.iter().enumerate() {
+        if is_nonzero(*b) {
             return i;
         }
-        i += 1;
     }
-    i
+    s.len()
 }
+
+// The most digits that are gathered.
+const MOST: usize = 15;
 
 // What a digit counts.
 fn digit_value(b: u8) -> u64
@@ -122,37 +109,31 @@ fn digit_value(b: u8) -> u64
     (b - b'0') as u64
 }
 
-// The digits from a place on as a whole number.
-fn gather(s: &[u8], from: usize) -> Gathered
-    ensures { result ≡ gathered (digits_of (drop from s.now)) }
+// The digits of a text as a whole number, if there are no more than 15.
+fn gather(s: &[u8]) -> Option<u64>
+    ensures { result ≡ gathered (digits_of s.now) }
 {
     let mut number: u64 = 0;
     let mut count: usize = 0;
-    let mut i = from;
-    while i < s.len() {
-        if digits::is_digit(s[i]) {
-            if count == 15 {
-                return Gathered::TooMany;
+    for b in s {
+        if digits::is_digit(*b) {
+            if count == MOST {
+                return None;
             }
-            number = 10 * number + digit_value(s[i]);
+            number = 10 * number + digit_value(*b);
             count += 1;
-            i += 1;
-        } else {
-            i += 1;
         }
     }
-    Gathered::Number(number)
+    Some(number)
 }
 
-pub fn decimal_of(s: &[u8]) -> Decimal
+pub fn decimal_of(s: &[u8]) -> Result<f64, TooManyDigits>
     ensures { result ≡ decimal_of s.now }
 {
     let k = places(s);
     if 22 < k {
-        return Decimal::TooManyDigits;
+        return Err(TooManyDigits);
     }
-    match gather(s, past_zeros(s)) {
-        Gathered::Number(n) => Decimal::Value(signed(is_negative(s), quotient(n, k))),
-        Gathered::TooMany => Decimal::TooManyDigits,
-    }
+    let n = gather(&s[past_zeros(s)..]).ok_or(TooManyDigits)?;
+    Ok(signed(is_negative(s), quotient(n, k)))
 }

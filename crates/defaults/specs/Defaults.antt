@@ -1,18 +1,15 @@
 -- Job defaults behind a card: whose text a key has. Defined for any two tables. Assumes nothing.
-use Rattle.std.specs.Prelude.{Bool, true, false, cond, List, ℕ, eqb, length}
+use Rattle.std.specs.Prelude.{Bool, true, false, cond, List, ℕ, eqb, length, Option, Some, None, Err}
 use Rattle.draft.specs.declared.Row.{Row}
 use Rattle.draft.specs.Table.{room_of, row_at}
 use Rattle.draft.specs.Writable.{writable}
-use Rattle.member.specs.declared.Found.{Found}
-use Rattle.member.specs.declared.Found.TheVariants as found
+use Rattle.member.specs.declared.Member.{Member}
 use Rattle.member.specs.Members.{is_struct, members, find}
 use Rattle.choice.specs.declared.Held.{Held}
 use Rattle.choice.specs.declared.Held.TheVariants.{Absent, NoText, Text}
 use Rattle.choice.specs.declared.Refusal.{Refusal}
 use Rattle.choice.specs.declared.Refusal.TheVariants.{NotWritable, NoMember}
-use Rattle.choice.specs.declared.Choice.{Choice}
-use Rattle.choice.specs.declared.Choice.TheVariants.{Refused}
-use Rattle.choice.specs.Choosing.{preferred}
+use Rattle.choice.specs.Choosing.{Choice, preferred}
 
 -- what a text is asked of, the card or the defaults: a table with so many stated rows, the bytes in which its texts lie, and the Struct's row
 pub record Source : Type 0 where
@@ -30,9 +27,9 @@ module _ (row : ℕ → Row) where
   unfoldable pub numbered_text : ℕ → Held
   numbered_text r = cond (eqb (row r).kind 11) (Text (row r).a (row r).b) NoText
 
-  abbrev pub found_text : Found → Held
-  found_text (found.At m) = numbered_text m.value
-  found_text found.Absent = Absent
+  abbrev pub found_text : Option Member → Held
+  found_text (Some m) = numbered_text m.value
+  found_text None = Absent
 
   -- what the Struct of row r has under a key, among so many rows
   unfoldable pub held_in : ℕ → List ℕ → ℕ → List ℕ → Held
@@ -41,7 +38,7 @@ module _ (row : ℕ → Row) where
 -- what holds, or else a refusal
 abbrev pub unless : Bool → Refusal → Choice → Choice
 unless true why c = c
-unless false why c = Refused why
+unless false why c = Err why
 
 -- '18 if either row is no Struct'; then the card's text, behind it the defaults'
 unfoldable pub structs_then : (ℕ → Row) → ℕ → List ℕ → ℕ → (ℕ → Row) → ℕ → List ℕ → ℕ → List ℕ → Choice

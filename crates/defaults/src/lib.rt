@@ -1,14 +1,13 @@
 // Job defaults behind a card: a text asked for by key is the card's if the card's Struct has the key, otherwise the defaults'. Any two tables may be
 // given, each with its stated rows, its text bytes and a Struct's row; both are judged in every call.
-#![tactic(auto)]
+#![tactic(auto, using(crate::proofs::Judging::holding, crate::proofs::Judging::entering, crate::proofs::Judging::judging))]
 
 ghost use Rattle.std.specs.Prelude.{◌≡◌, ◌*◌, ◌≤◌, ◌<◌, length};
 ghost use Rattle.draft.specs.Table.{row_at};
 ghost use Rattle.choice.specs.Choosing.{Handed};
 ghost use Rattle.defaults.specs.Defaults.{source, numbered_text, held_in, structs_then, chosen};
 
-use choice::{Choice, Held, Refusal};
-use member::Found;
+use choice::{Chosen, Held, Refusal};
 
 // The kind of a String's row.
 const STRING: u32 = 11;
@@ -19,13 +18,13 @@ fn text_at(table: &[u32], room: usize, r: u32) -> Held
     ensures { result ≡ numbered_text (row_at room table.now) r }
 {
     let row = table::get_row(table, room, r as usize);
-    if row.kind == STRING {
-        return Held::Text {
-            offset: row.a,
-            length: row.b,
-        };
+    if row.kind != STRING {
+        return Held::NoText;
     }
-    Held::NoText
+    Held::Text {
+        offset: row.a,
+        length: row.b,
+    }
 }
 
 // What the Struct of row r has under a key, in a table that was judged before.
@@ -33,10 +32,9 @@ fn held(table: &[u32], room: usize, rows: usize, text: &[u8], r: usize, key: &[u
     requires { (rows ≤ room) × (room ≤ 4096) × (room * 4 ≤ length table.now) }
     ensures { result ≡ held_in (row_at room table.now) rows text.now r key.now }
 {
-    let found = member::find(table, room, rows, text, r, key);
-    match found {
-        Found::At(member) => text_at(table, room, member.value),
-        Found::Absent => Held::Absent,
+    match member::find(table, room, rows, text, r, key) {
+        Some(member) => text_at(table, room, member.value),
+        None => Held::Absent,
     }
 }
 
@@ -53,26 +51,25 @@ fn choose_judged(
     defaults_text: &[u8],
     defaults_row: usize,
     key: &[u8],
-) -> Choice
+) -> Result<Chosen, Refusal>
     requires { (rows ≤ room) × (room ≤ 4096) × (room * 4 ≤ length table.now) × (defaults_rows ≤ defaults_room) × (defaults_room ≤ 4096) × (defaults_room * 4 ≤ length defaults_table.now) }
     ensures { result ≡ structs_then (row_at room table.now) rows text.now row (row_at defaults_room defaults_table.now) defaults_rows defaults_text.now defaults_row key.now }
 {
-    if member::is_struct(table, room, rows, row) {
-        if member::is_struct(defaults_table, defaults_room, defaults_rows, defaults_row) {
-            let own = held(table, room, rows, text, row, key);
-            let other = held(
-                defaults_table,
-                defaults_room,
-                defaults_rows,
-                defaults_text,
-                defaults_row,
-                key,
-            );
-            return choice::prefer(own, other);
-        }
-        return Choice::Refused(Refusal::NoMember);
+    if !member::is_struct(table, room, rows, row)
+        || !member::is_struct(defaults_table, defaults_room, defaults_rows, defaults_row)
+    {
+        return Err(Refusal::NoMember);
     }
-    Choice::Refused(Refusal::NoMember)
+    let own = held(table, room, rows, text, row, key);
+    let other = held(
+        defaults_table,
+        defaults_room,
+        defaults_rows,
+        defaults_text,
+        defaults_row,
+        key,
+    );
+    choice::prefer(own, other)
 }
 
 // Whose text it is and where it lies there, or why there is none.
@@ -86,34 +83,32 @@ pub fn choose(
     defaults_text: &[u8],
     defaults_row: usize,
     key: &[u8],
-) -> Choice
+) -> Result<Chosen, Refusal>
     ensures { result ≡ chosen (source table.now rows text.now row) (source defaults_table.now defaults_rows defaults_text.now defaults_row) key.now }
 {
-    if shape::writable(table, rows, text) {
-        if shape::writable(defaults_table, defaults_rows, defaults_text) {
-            let room = table::room_of(table.len());
-            let defaults_room = table::room_of(defaults_table.len());
-            return choose_judged(
-                table,
-                room,
-                rows,
-                text,
-                row,
-                defaults_table,
-                defaults_room,
-                defaults_rows,
-                defaults_text,
-                defaults_row,
-                key,
-            );
-        }
-        return Choice::Refused(Refusal::NotWritable);
+    if !shape::writable(table, rows, text)
+        || !shape::writable(defaults_table, defaults_rows, defaults_text)
+    {
+        return Err(Refusal::NotWritable);
     }
-    Choice::Refused(Refusal::NotWritable)
+    choose_judged(
+        table,
+        table::room_of(table.len()),
+        rows,
+        text,
+        row,
+        defaults_table,
+        table::room_of(defaults_table.len()),
+        defaults_rows,
+        defaults_text,
+        defaults_row,
+        key,
+    )
 }
 
 // The text asked for: a part of the card's text bytes or of the defaults' text bytes. `number` is 0 or the refusal's, `from` 0 for the card and
 // 1 for the defaults. Refused, it is the empty start of the card's bytes.
+// Stays: the numbers are told beside the part, which is one on a refusal too (E9.refused_part).
 pub fn text_of<'a>(
     table: &[u32],
     rows: usize,

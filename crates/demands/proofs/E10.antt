@@ -1,14 +1,13 @@
 -- Request E10 holds.
+use Rattle.std.specs.Prelude.{Err}
 use mathlib.Core.Path.{◌≡◌, refl}
 use mathlib.Core.Bool.{true}
 use mathlib.Core.List.{List}
 use Prim.Native.Nat.{ℕ}
 use lib.ListN.{length, take, drop}
 use Rattle.shares.specs.declared.Station.{Station}
-use Rattle.shares.specs.Share.{splits, first_word, size_of, share_of}
+use Rattle.shares.specs.Share.{no_share, splits, first_word, size_of, share_of}
 use Rattle.shares.proofs.Sharing.{four_size}
-use Rattle.station_tables.specs.declared.LookupAnswer.TheVariants as lookup
-use Rattle.station_tables.specs.declared.PositionAnswer.TheVariants as place
 use Rattle.station_tables.specs.Answers.{lookup_answer, position_answer}
 use Rattle.demands_stations.proofs.Stations as stations
 use Rattle.demands.specs.E10.{OfOneSize, OfTheSameWords, AsAlone, E10}
@@ -24,8 +23,8 @@ module _ (here there : Station) (split split' : ℕ) (T U : List ℕ) (ok : spli
   of_the_same_words same = record {
     write = λ limit rows s out out₁ l. stations.write_alike here there split split' T U ok ok' same limit rows s out out₁ l;
     plan = λ limit rows s p out out₁ l. stations.planned_alike here there split split' T U ok ok' same limit rows s out out₁ l p;
-    looked_up = λ rows s r key. stations.given_alike here there split split' T U ok ok' same (lookup_answer rows s r key) lookup.NotSplit lookup.NotSplit;
-    placed = λ rows s r. stations.given_alike here there split split' T U ok ok' same (position_answer rows s r) place.NotSplit place.NotSplit;
+    looked_up = λ rows s r key. stations.given_alike here there split split' T U ok ok' same (lookup_answer rows s r key) (Err no_share) (Err no_share);
+    placed = λ rows s r. stations.given_alike here there split split' T U ok ok' same (position_answer rows s r) (Err no_share) (Err no_share);
   }
 
 as_alone : (station : Station) (split : ℕ) (T : List ℕ) → splits split (length T) ≡ true → AsAlone station split T

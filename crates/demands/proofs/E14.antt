@@ -6,6 +6,7 @@ use mathlib.Core.List.{List}
 use Prim.Native.Nat.{ℕ, ◌≤◌, ◌<◌}
 use lib.ListN.{length, replicate}
 use borrow.Author.Tests.{le-leb, lt-leb}
+use Rattle.std.proofs.Common.{Err}
 use Rattle.text.proofs.Comparing.{clash}
 use Rattle.draft.specs.declared.Row.{Row}
 use Rattle.draft.specs.declared.Refusal.TheVariants.{NoLimit}
@@ -14,22 +15,19 @@ use Rattle.draft.specs.Table.{room_of, place, put_rows}
 use Rattle.draft.specs.Codebook.{clear}
 use Rattle.draft.specs.Read.{got}
 use Rattle.draft.specs.Writable.{writable_to}
-use Rattle.write_answer.specs.declared.Answer.{Answer as BinmodeAnswer}
+use Rattle.write_answer.specs.Answers.{Answer as BinmodeAnswer}
 use Rattle.write_answer.specs.Answers as binmode
-use Rattle.plan_writer.specs.declared.Answer.{Answer as PlanAnswer}
+use Rattle.plan_writer.specs.Answers.{Answer as PlanAnswer}
 use Rattle.plan_writer.specs.Answers as planned
 use Rattle.layouts.specs.Layouts.{by_rows, put_rows_by, SameRows}
 use Rattle.layouts.proofs.Storing.{rows_lay, columns_lay, read_same}
 use Rattle.demands_calls.proofs.Tables.{table_is}
 use Rattle.glyph.specs.declared.Edition.{Edition}
-use Rattle.glyph.specs.declared.Answer.{Answer}
-use Rattle.glyph.specs.declared.Answer.TheVariants.{Refused}
+use Rattle.glyph.specs.declared.Refusal.TheVariants.{TooLong}
 use Rattle.glyph.specs.Read.{message}
-use Rattle.glyph.specs.Answers.{reading, Answers}
-use Rattle.glyph_form.specs.declared.Answer.{Answer as WriterAnswer}
-use Rattle.glyph_form.specs.declared.Answer.TheVariants as W
+use Rattle.glyph.specs.Answers.{Answer, refused_as, reading, Answers}
 use Rattle.glyph_form.specs.Writable.{writable}
-use Rattle.glyph_form.specs.Answers.{Did}
+use Rattle.glyph_form.specs.Answers.{Answer as WriterAnswer, Did}
 use Rattle.glyph_form.proofs.Cases as writing
 use Rattle.glyph_told.specs.Tables.{Words}
 use Rattle.glyph_demands.specs.Answered.{has, rows_in}
@@ -108,7 +106,7 @@ as_before e limit s words d = rw (reader.rows_stored e limit s words d) (laid wo
 
 too_long :
     (e : Edition) (limit : ℕ) (s : List ℕ) (words : ℕ) {T : List ℕ} {a : Answer} → Answers (reading e limit s words) words T a → allowed limit ≡ true
-    → 65536 < length s → a ≡ Refused 10 0
+    → 65536 < length s → a ≡ refused_as TooLong 0
 unfolding reading message allowed
 too_long e limit s words d h l = d.says ∙ rw (h, lt-leb (length s) 65536 l)
 
@@ -122,6 +120,7 @@ write_refused e limit T rows s out₀ out {a} d n =
 pub holds : E14
 holds =
     record {
+      numbers = (refl, refl, refl, refl, refl, refl, refl, refl, refl);
       reads = reads;
       cases_read = cases.cases_read;
       writes = writes;
@@ -154,7 +153,7 @@ holds =
             own = λ ok. stations.own_write station split T ok e limit rows s out d;
             unlimited = λ ok h.
                 let z = stations.write_unlimited station split T ok e h rows s out d in
-                (W.Refused NoLimit, z.0, record { refusal = NoLimit; is = refl; number_is = refl }, z.1);
+                (Err NoLimit, z.0, record { refusal = NoLimit; is = refl; number_is = refl }, z.1);
           };
       reported = (refl, refl);
       read_alike = stations.read_alike;

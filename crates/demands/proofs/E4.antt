@@ -13,8 +13,8 @@ use Rattle.lexical.specs.Double.{is_double}
 use Rattle.lexical.specs.DateTime.{is_date_time}
 use Rattle.lexical.specs.Grammar.{Double, DateTime}
 use Rattle.draft.specs.declared.Refusal.TheVariants.{BadText, BadValue}
-use Rattle.draft.specs.declared.Verdict.{Verdict}
-use Rattle.draft.specs.declared.Verdict.TheVariants.{Fine, Bad}
+use Rattle.draft.specs.Verdict.{Verdict}
+use Rattle.std.specs.Prelude.{Ok, Err}
 use Rattle.draft.specs.declared.Content.{Content}
 use Rattle.draft.specs.declared.Content.TheVariants as content
 use Rattle.draft.specs.declared.Tag.TheVariants as tag
@@ -70,18 +70,18 @@ module _
         ∙ ap answer_of (value_said c x t more (room_of 4096 words) limit (λ s. short s (room_of 4096 words) limit) f r
         ∙ ap (λ (w : Verdict). over 2 1 0 (judged w 13 (leaf (kind_of c) 15 (length t) 1 (15 + length t) clear))) e))
 
-    bad : (t : List ℕ) → ascii t ≡ true → (Good t → ⊥) → content_rule c t ≡ Bad BadValue
+    bad : (t : List ℕ) → ascii t ≡ true → (Good t → ⊥) → content_rule c t ≡ Err BadValue
     bad t a g = rule t ∙ rw a (go (test t) refl)
       where
-        go : (b : Bool) → test t ≡ b → ascii_then true b ≡ Bad BadValue
+        go : (b : Bool) → test t ≡ b → ascii_then true b ≡ Err BadValue
         go false e = refl
         go true e = absurd (g ((good t).0 (rule t ∙ rw (a, e))))
 
     judges : Judged x z Good
     judges = record {
-      five = λ t a. by t (Bad BadText) (rule t ∙ rw a);
-      seventeen = λ t a g. by t (Bad BadValue) (bad t a g);
-      taken = λ t g. by t Fine ((good t).1 g);
+      five = λ t a. by t (Err BadText) (rule t ∙ rw a);
+      seventeen = λ t a g. by t (Err BadValue) (bad t a g);
+      taken = λ t g. by t (Ok tt) ((good t).1 g);
       five_anywhere = λ s room deep at r book b k j a.
           record { why = BadText; is = there s room deep at r book b k j ∙ rw (rule (short_text s at), a); numbered = refl };
       seventeen_anywhere = λ s room deep at r book b k j a.

@@ -3,8 +3,9 @@ use mathlib.Core.Path.{◌≡◌, refl}
 use mathlib.Core.List.{List}
 use Prim.Native.Nat.{ℕ}
 use lib.IntN.{pos}
-use Rattle.lookup_answer.specs.declared.Answer.{Answer}
-use Rattle.lookup_answer.specs.declared.Answer.TheVariants as answer
+use Rattle.std.specs.Prelude.{Ok, Err}
+use Rattle.lookup_answer.specs.Answers.{Answer}
+use Rattle.lookup_answer.specs.declared.Value.TheVariants as answer
 use Rattle.lookup_answer.specs.Reports.{plus_zero, reported, report_of}
 use Rattle.demands_lookups.specs.Asked.{looked, told}
 use Rattle.demands_lookups.proofs.Lookups as lookups
@@ -41,9 +42,9 @@ holds = record {
     parts d = lookups.decimal_parts d.signed d.digits d.places d.is
 
     refused_only : (a : Answer) → (told a ≡ 0 → ⊥) → report_of a ≡ reported (told a) 0 (pos 0) plus_zero 0 0
-    refused_only (answer.Whole k) n = absurd (n refl)
-    refused_only (answer.Decimal x) n = absurd (n refl)
-    refused_only (answer.Truth b) n = absurd (n refl)
-    refused_only (answer.Text o k) n = absurd (n refl)
-    refused_only (answer.Row r) n = absurd (n refl)
-    refused_only (answer.Refused why) n = refl
+    refused_only (Ok (answer.Whole k)) n = absurd (n refl)
+    refused_only (Ok (answer.Decimal x)) n = absurd (n refl)
+    refused_only (Ok (answer.Truth b)) n = absurd (n refl)
+    refused_only (Ok (answer.Text o k)) n = absurd (n refl)
+    refused_only (Ok (answer.Row r)) n = absurd (n refl)
+    refused_only (Err why) n = refl

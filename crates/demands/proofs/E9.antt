@@ -1,8 +1,7 @@
 -- E9 holds, by the laws of demands_lookups.
 use mathlib.Core.Path.{◌≡◌, refl, ap}
-use Rattle.choice.specs.declared.Choice.{Choice}
-use Rattle.choice.specs.declared.Choice.TheVariants.{Card, Defaults, Refused}
-use Rattle.choice.specs.Choosing.{choice_number}
+use Rattle.std.specs.Prelude.{Ok, Err}
+use Rattle.choice.specs.Choosing.{Choice, choice_number}
 use Rattle.lookup_reports.specs.Numbers.{text_report, text_report_of}
 use Rattle.defaults.specs.Defaults.{chosen}
 use Rattle.demands_lookups.proofs.Defaults as defaults
@@ -25,6 +24,5 @@ holds = record {
 }
   where
     refused_only : (c : Choice) → (choice_number c ≡ 0 → ⊥) → text_report_of c ≡ text_report (choice_number c) 0 0 0
-    refused_only (Card o n) h = absurd (h refl)
-    refused_only (Defaults o n) h = absurd (h refl)
-    refused_only (Refused why) h = refl
+    refused_only (Ok text) h = absurd (h refl)
+    refused_only (Err why) h = refl

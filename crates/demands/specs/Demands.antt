@@ -19,8 +19,8 @@ use Rattle.draft.specs.Written.{written, rows_of}
 use Rattle.read_answer.specs.declared.Answer.{Answer as Read}
 use Rattle.read_answer.specs.declared.Answer.TheVariants as read
 use Rattle.read_answer.specs.Answers.{reading, Answers}
-use Rattle.write_answer.specs.declared.Answer.{Answer as Write}
-use Rattle.write_answer.specs.declared.Answer.TheVariants as write
+use Rattle.write_answer.specs.Answers.{Answer as Write}
+use Rattle.std.specs.declared.result.Result.TheVariants as write
 use Rattle.write_answer.specs.Answers.{Did}
 use Rattle.demands_reading.specs.Refusing.{one_of}
 
@@ -36,7 +36,7 @@ pub record Demand1 : Type 0 where
       (limit : ℕ) (s : List ℕ) (words : ℕ) {T : List ℕ} {m : Refusal} {place : ℕ} → Answers (reading limit s words) words T (read.Refused m place)
       → one_of (1 ∷ 2 ∷ 3 ∷ 5 ∷ 6 ∷ 7 ∷ 8 ∷ 9 ∷ 10 ∷ 14 ∷ 17 ∷ 20 ∷ 23 ∷ []) (number_of m) ≡ true
   pub writer_number :
-      (limit : ℕ) (T : List ℕ) (rows : ℕ) (s out₀ out : List ℕ) {m : Refusal} → Did limit T rows s out₀ out (write.Refused m)
+      (limit : ℕ) (T : List ℕ) (rows : ℕ) (s out₀ out : List ℕ) {m : Refusal} → Did limit T rows s out₀ out (write.Err m)
       → one_of (10 ∷ 11 ∷ 12 ∷ 13 ∷ 23 ∷ []) (number_of m) ≡ true
   -- 'After every call the whole lent table or output is settled by that call's material and the buffer's length': two calls with the same material and
   -- equally long buffers answer alike and leave the same words or bytes, as many as there were
@@ -56,7 +56,7 @@ pub record Demand1 : Type 0 where
       → Answers (reading limit s words) words T (read.Refused m place) → T ≡ replicate words 0
   pub output_zeros :
       (limit : ℕ) (T : List ℕ) (rows : ℕ) (s out₀ out : List ℕ) {m : Refusal}
-      → Did limit T rows s out₀ out (write.Refused m) → out ≡ replicate (length out₀) 0
+      → Did limit T rows s out₀ out (write.Err m) → out ≡ replicate (length out₀) 0
 
 -- the draft's rules derive the first `used` bytes of a message, in n rows, within document 01's limits: a limit of nesting that may be stated, at most
 -- 65,536 bytes in all, and room in the table for the rows
@@ -90,10 +90,10 @@ pub record Demand2 : Type 0 where
   -- 'Writing accepts exactly the tables document 01 calls writable whose message fits'
   pub written_exactly :
       (limit : ℕ) (T : List ℕ) (rows : ℕ) (s out₀ out : List ℕ) (n : ℕ) {a : Write} → Did limit T rows s out₀ out a
-      → (a ≡ write.Written n) ↔ Fits limit T rows s out₀ n
+      → (a ≡ write.Ok n) ↔ Fits limit T rows s out₀ n
   -- 'reading the result, into a table with room for it, gives the same meaning again' (02, E11: 'where the later call's limit is not lower')
   pub read_back :
-      (limit : ℕ) (T : List ℕ) (rows : ℕ) (s out₀ out : List ℕ) {n : ℕ} → Did limit T rows s out₀ out (write.Written n) → Below 4294967296 T
+      (limit : ℕ) (T : List ℕ) (rows : ℕ) (s out₀ out : List ℕ) {n : ℕ} → Did limit T rows s out₀ out (write.Ok n) → Below 4294967296 T
       → (later : ℕ) → limit ≤ later → allowed later ≡ true → (words : ℕ) {T' : List ℕ} {a : Read} → rows ≤ room_of 4096 words
       → Answers (reading later (take n out) words) words T' a
       → (a ≡ read.Accepted rows n) × MeanSame s (take n out) (rows_of 4096 T rows) (rows_of 4096 T' rows)
@@ -102,18 +102,18 @@ pub record Demand2 : Type 0 where
 pub record Demand3 : Type 0 where
   -- 'The writer writes document 01's written form and reports its length'
   pub the_form :
-      (limit : ℕ) (T : List ℕ) (rows : ℕ) (s out₀ out : List ℕ) {n : ℕ} → Did limit T rows s out₀ out (write.Written n)
+      (limit : ℕ) (T : List ℕ) (rows : ℕ) (s out₀ out : List ℕ) {n : ℕ} → Did limit T rows s out₀ out (write.Ok n)
       → (take n out ≡ written s (rows_of 4096 T rows)) × (n ≡ length (written s (rows_of 4096 T rows)))
   -- '.. in which at most 256 different texts stand as strings twice or more. .. no byte string that the draft reads with that table's meaning has fewer
   -- bytes than that' (01: 'with refusals 8, 9 and 10 put aside', so for any room and nesting)
   pub no_shorter :
-      (limit : ℕ) (T : List ℕ) (rows : ℕ) (s out₀ out : List ℕ) {n : ℕ} → Did limit T rows s out₀ out (write.Written n)
+      (limit : ℕ) (T : List ℕ) (rows : ℕ) (s out₀ out : List ℕ) {n : ℕ} → Did limit T rows s out₀ out (write.Ok n)
       → length (repeated (texts_of s (rows_of 4096 T rows))) ≤ 256 → (t : List ℕ) (room deep : ℕ) {others : List Row} {used : ℕ} {book : Book}
       → message t room deep ≡ got others used book → MeanSame s t (rows_of 4096 T rows) others → n ≤ length t
   -- 'This holds whatever forms and positions its sender chose for its strings, and whatever bytes follow its end': a beginning of t that the draft's rules
   -- derive, with any Strings, has n bytes at least
   pub no_shorter_sent :
-      (limit : ℕ) (T : List ℕ) (rows : ℕ) (s out₀ out : List ℕ) {n : ℕ} → Did limit T rows s out₀ out (write.Written n)
+      (limit : ℕ) (T : List ℕ) (rows : ℕ) (s out₀ out : List ℕ) {n : ℕ} → Did limit T rows s out₀ out (write.Ok n)
       → length (repeated (texts_of s (rows_of 4096 T rows))) ≤ 256 → (t : List ℕ) {used nesting : ℕ} {cells : List Cell}
       → Begins t used nesting cells → Realises s 0 (rows_of 4096 T rows) cells → n ≤ used
 

@@ -2,7 +2,7 @@
 -- (`Answers`, `Did`: see Demands). That the fields hold is proofs/E1. Assumes nothing.
 use Rattle.std.specs.Prelude.{◌≡◌, true, ◌↔◌, List, [], ◌++◌, ℕ, ◌+◌, ◌-◌, ◌≤◌, length}
 use Rattle.draft.specs.declared.Refusal.{Refusal}
-use Rattle.draft.specs.declared.Verdict.TheVariants.{Fine}
+use Rattle.std.specs.Prelude.{Ok}
 use Rattle.draft.specs.Bytes.{bytes, Below}
 use Rattle.draft.specs.Rows.{below}
 use Rattle.draft.specs.Refusals.{number_of}
@@ -14,8 +14,8 @@ use Rattle.draft.specs.Grammar.{Cell, held_cells, Sent, Struct, Legal}
 use Rattle.read_answer.specs.declared.Answer.{Answer as Read}
 use Rattle.read_answer.specs.declared.Answer.TheVariants as read
 use Rattle.read_answer.specs.Answers.{reading, Answers, report_of}
-use Rattle.write_answer.specs.declared.Answer.{Answer as Write}
-use Rattle.write_answer.specs.declared.Answer.TheVariants as write
+use Rattle.write_answer.specs.Answers.{Answer as Write}
+use Rattle.std.specs.declared.result.Result.TheVariants as write
 use Rattle.write_answer.specs.Answers.{Did}
 use Rattle.write_answer.specs.Answers as writer
 use Rattle.demands_reading.specs.Members.{TwoMembers}
@@ -32,13 +32,13 @@ HasTwo T n s = TwoMembers (held_rows s (rows_at (room_of 4096 (length T)) T 2 (n
 pub record E1 : Type 0 where
   -- 'By the XML-RPC specification the Struct holds exactly faultCode, an Integer, and faultString, a String, in either order.'
   -- The grammar's rule of a fault's Struct is that; and so it is in every table that is read
-  pub two_members : (items : List Held) → (fault_rule items ≡ Fine) ↔ TwoMembers items
+  pub two_members : (items : List Held) → (fault_rule items ≡ Ok tt) ↔ TwoMembers items
   pub read_two :
       (limit : ℕ) (s : List ℕ) (words : ℕ) {T : List ℕ} {n used : ℕ} → Answers (reading limit s words) words T (read.Accepted n used) → IsFault T
       → HasTwo T n s
   -- 'This replaces 01's "any members".': also where a table is written
   pub written_two :
-      (limit : ℕ) (T : List ℕ) (rows : ℕ) (s out₀ out : List ℕ) {n : ℕ} → Below 4294967296 T → Did limit T rows s out₀ out (write.Written n) → IsFault T
+      (limit : ℕ) (T : List ℕ) (rows : ℕ) (s out₀ out : List ℕ) {n : ℕ} → Below 4294967296 T → Did limit T rows s out₀ out (write.Ok n) → IsFault T
       → HasTwo T rows s
   -- 'Refusals: 14, once the Struct is fully read, at its `S`': a Struct xs, derived from an empty codebook, for whose rows there is room, and that does not
   -- hold the two members, whatever follows it

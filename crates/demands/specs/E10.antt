@@ -3,11 +3,11 @@
 -- `NextFor` and `EndFor` those of `station_pieces::next` and `end`, with a room R that is R'; `WroteFor` that of `station_tables::write`, `planned.WroteFor`
 -- that of `station_plans::write`; `lookup` and `position_of` equate their answer with `on_share`. `Called station split T T' q a` is any of the first four,
 -- asked q and told a. None has a `requires`. Assumes nothing.
-use Rattle.std.specs.Prelude.{◌≡◌, true, false, ◌↔◌, List, [], ◌∷◌, ℕ, ◌+◌, ◌*◌, ◌/◌, ◌≤◌, ◌<◌, pos, length, take, drop}
+use Rattle.std.specs.Prelude.{◌≡◌, true, false, ◌↔◌, List, [], ◌∷◌, ℕ, ◌+◌, ◌*◌, ◌/◌, ◌≤◌, ◌<◌, pos, Ok, Err, length, take, drop}
 use Rattle.draft.specs.Limits.{allowed}
 use Rattle.shares.specs.declared.Station.{Station}
 use Rattle.shares.specs.declared.Station.TheVariants.{Four, Five}
-use Rattle.shares.specs.Share.{other, splits, first_word, size_of, share_of, on_share}
+use Rattle.shares.specs.Share.{no_share, other, splits, first_word, size_of, share_of, on_share}
 use Rattle.read_answer.specs.Answers.{reading, table_of}
 use Rattle.lookup_answer.specs.Answers as lookups
 use Rattle.lookup_answer.specs.Reports.{plus_zero, reported as lookedUp}
@@ -16,23 +16,12 @@ use Rattle.pieces.specs.declared.State.{State}
 use Rattle.pieces.specs.Pieces.{joined, told_of, outcome, through, room_with, so_far}
 use Rattle.pieces.specs.Steps.{told}
 use Rattle.pieces.specs.Runs.{begun}
-use Rattle.station_reading.specs.declared.Answer.{Answer as Read}
-use Rattle.station_reading.specs.declared.Answer.TheVariants as read
-use Rattle.station_reading.specs.declared.CardAnswer.{CardAnswer as Card}
-use Rattle.station_reading.specs.declared.CardAnswer.TheVariants as card
+use Rattle.station_reading.specs.Answers.{Answer as Read, CardAnswer as Card, ReadFor, CardFor}
 use Rattle.station_reading.specs.Answers as report
-use Rattle.station_reading.specs.Answers.{ReadFor, CardFor}
-use Rattle.station_pieces.specs.declared.Answer.{Answer as Piece}
-use Rattle.station_pieces.specs.declared.Answer.TheVariants.{Stands}
-use Rattle.station_pieces.specs.Steps.{NextFor, EndFor}
-use Rattle.station_plans.specs.declared.Answer.{Answer as Planned}
-use Rattle.station_plans.specs.declared.Answer.TheVariants as plan
+use Rattle.station_pieces.specs.Steps.{Answer as Piece, NextFor, EndFor}
+use Rattle.station_plans.specs.Answers.{Answer as Planned}
 use Rattle.station_plans.specs.Answers as planned
-use Rattle.station_tables.specs.declared.WriteAnswer.{WriteAnswer as Write}
-use Rattle.station_tables.specs.declared.WriteAnswer.TheVariants as write
-use Rattle.station_tables.specs.declared.LookupAnswer.TheVariants as lookup
-use Rattle.station_tables.specs.declared.PositionAnswer.TheVariants as place
-use Rattle.station_tables.specs.Answers.{WroteFor, lookup_answer, position_answer, write_report_of, lookup_report_of, position_number, position_values}
+use Rattle.station_tables.specs.Answers.{WriteAnswer as Write, WroteFor, lookup_answer, position_answer, write_report_of, lookup_report_of, position_number, position_values}
 use Rattle.stations.specs.Calls.{Asked, Told, Called, not_split}
 use Rattle.stations.specs.Owned.{OwnRead, OwnCard, OwnPiece, OwnEnd, OwnWrite, OwnPlanned}
 use Rattle.stations.specs.Turns.{Turns}
@@ -57,10 +46,10 @@ pub record OfTheSameWords (here there : Station) (split split' : ℕ) (T U : Lis
       → planned.WroteFor limit T here split rows s p out out' a → planned.WroteFor limit U there split' rows s p out₁ out₁' b → (a ≡ b) × (out' ≡ out₁')
   pub looked_up :
       (rows : ℕ) (s : List ℕ) (r : ℕ) (key : List ℕ)
-      → on_share here split T (lookup_answer rows s r key) lookup.NotSplit ≡ on_share there split' U (lookup_answer rows s r key) lookup.NotSplit
+      → on_share here split T (lookup_answer rows s r key) (Err no_share) ≡ on_share there split' U (lookup_answer rows s r key) (Err no_share)
   pub placed :
       (rows : ℕ) (s : List ℕ) (r : ℕ)
-      → on_share here split T (position_answer rows s r) place.NotSplit ≡ on_share there split' U (position_answer rows s r) place.NotSplit
+      → on_share here split T (position_answer rows s r) (Err no_share) ≡ on_share there split' U (position_answer rows s r) (Err no_share)
 
 -- what the call without stations does on a table of the share's size is what a station's call does on its share: the answer, and the share's words after it
 pub record AsAlone (station : Station) (split : ℕ) (T : List ℕ) : Type 0 where
@@ -84,10 +73,10 @@ pub record AsAlone (station : Station) (split : ℕ) (T : List ℕ) : Type 0 whe
       → OwnPlanned limit (share_of station split T) rows s p out out' a
   pub looked_up :
       (rows : ℕ) (s : List ℕ) (r : ℕ) (key : List ℕ)
-      → on_share station split T (lookup_answer rows s r key) lookup.NotSplit ≡ lookup.Answered (lookups.lookup (share_of station split T) rows s r key)
+      → on_share station split T (lookup_answer rows s r key) (Err no_share) ≡ Ok (lookups.lookup (share_of station split T) rows s r key)
   pub placed :
       (rows : ℕ) (s : List ℕ) (r : ℕ)
-      → on_share station split T (position_answer rows s r) place.NotSplit ≡ place.Answered (position (share_of station split T) rows s r)
+      → on_share station split T (position_answer rows s r) (Err no_share) ≡ Ok (position (share_of station split T) rows s r)
 
 pub record E10 : Type 0 where
   -- 'There is one table. The job names a row: rows below it are station four's, the rest five's.'
@@ -131,7 +120,7 @@ pub record E10 : Type 0 where
   pub at_the_end :
       (limit : ℕ) → allowed limit ≡ true → (station : Station) (split : ℕ) (T R₀ W₀ : List ℕ) → 65536 ≤ length R₀ → (ps : List (List ℕ)) {state last : State}
       → {R T' : List ℕ} → Turns limit station ps begun R₀ W₀ state R (share_of station split T) → length (joined ps) ≤ 65536
-      → EndFor limit state (length R) station split T T' (Stands last)
+      → EndFor limit state (length R) station split T T' (Ok last)
       → (told last ≡ told_of (reading limit (joined ps) (length W₀))) × (share_of station split T' ≡ table_of (length W₀) (reading limit (joined ps) (length W₀)))
   -- 'words beyond the table's last whole row belong to neither and stay.'
   pub beyond_stays :
@@ -144,17 +133,17 @@ pub record E10 : Type 0 where
       → (call_number a ≡ 22) ↔ (splits split (length T) ≡ false)
   pub looked_up_refused :
       (station : Station) (split : ℕ) (T : List ℕ) (rows : ℕ) (s : List ℕ) (r : ℕ) (key : List ℕ)
-      → ((lookup_report_of (on_share station split T (lookup_answer rows s r key) lookup.NotSplit)).number ≡ 22) ↔ (splits split (length T) ≡ false)
+      → ((lookup_report_of (on_share station split T (lookup_answer rows s r key) (Err no_share))).number ≡ 22) ↔ (splits split (length T) ≡ false)
   pub placed_refused :
       (station : Station) (split : ℕ) (T : List ℕ) (rows : ℕ) (s : List ℕ) (r : ℕ)
-      → (position_number (on_share station split T (position_answer rows s r) place.NotSplit) ≡ 22) ↔ (splits split (length T) ≡ false)
+      → (position_number (on_share station split T (position_answer rows s r) (Err no_share)) ≡ 22) ↔ (splits split (length T) ≡ false)
   -- 'A refusal with no place given, here and later, has place 0' (E5); nor is a row, a byte or a value reported with 22
   pub reported :
-      (report.report_of read.NotSplit ≡ record { number = 22; rows = 0; used = 0; place = 0 })
-      × (report.card_report_of card.NotSplit ≡ record { number = 22; rows = 0; used = 0; place = 0; body = 0 })
-      × (write_report_of write.NotSplit ≡ record { number = 22; length = 0; place = 0 })
-      × (planned.report_of plan.NotSplit ≡ record { number = 22; length = 0; place = 0 })
-      × (lookup_report_of lookup.NotSplit ≡ lookedUp 22 0 (pos 0) plus_zero 0 0) × (position_values place.NotSplit ≡ at plus_zero plus_zero plus_zero)
+      (report.report_of (Err no_share) ≡ record { number = 22; rows = 0; used = 0; place = 0 })
+      × (report.card_report_of (Err no_share) ≡ record { number = 22; rows = 0; used = 0; place = 0; body = 0 })
+      × (write_report_of (Err no_share) ≡ record { number = 22; length = 0; place = 0 })
+      × (planned.report_of (Err no_share) ≡ record { number = 22; length = 0; place = 0 })
+      × (lookup_report_of (Err no_share) ≡ lookedUp 22 0 (pos 0) plus_zero 0 0) × (position_values (Err no_share) ≡ at plus_zero plus_zero plus_zero)
   -- 'then nothing lent is changed, in place of demand 1's zeros.' After a piece `not_split` has the room as it was; of what is written both sentences
   pub nothing_changed :
       {station : Station} {split : ℕ} {T T' : List ℕ} {q : Asked} {a : Told} → Called station split T T' q a → call_number a ≡ 22

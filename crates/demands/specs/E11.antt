@@ -2,7 +2,8 @@
 -- `Answers`, `Did`, `planner.Did`, `Reads`, `Went`, `Closed` are those of `reader::read`, `writer::write`, `plan_writer::write`, `job::read_card`,
 -- `pieces::next` and `end`; `ReadFor` and the other names that end so are those of the same calls for a station. `Runs` and `Turns` are calls over pieces
 -- from the first on, without stations and for one. A call's number is its refusal's, 0 if there is none. Assumes nothing.
-use Rattle.std.specs.Prelude.{◌≡◌, true, false, cond, ◌↔◌, List, ◌∷◌, ℕ, ◌≤◌, length, take, replicate}
+use Rattle.records.specs.Job.{Found, body_at}
+use Rattle.std.specs.Prelude.{◌≡◌, true, false, cond, ◌↔◌, List, ◌∷◌, ℕ, ◌≤◌, length, take, replicate, Ok, Err}
 use Rattle.draft.specs.declared.Refusal.{Refusal}
 use Rattle.draft.specs.declared.Refusal.TheVariants.{NoLimit}
 use Rattle.draft.specs.Refusals.{number_of}
@@ -16,25 +17,22 @@ use Rattle.draft.specs.Written.{rows_of}
 use Rattle.read_answer.specs.declared.Answer.{Answer as Read}
 use Rattle.read_answer.specs.declared.Answer.TheVariants as read
 use Rattle.read_answer.specs.Answers.{reading, answer_of, table_of, Answers, report_of}
-use Rattle.records.specs.declared.Found.{Found}
-use Rattle.records.specs.declared.Found.TheVariants as found
-use Rattle.job.specs.declared.Answer.{Answer as Card}
+use Rattle.job.specs.Cards.{Answer as Card, located, Reads}
 use Rattle.job.specs.Cards as job
-use Rattle.job.specs.Cards.{located, Reads}
 use Rattle.pieces.specs.declared.State.{State}
 use Rattle.pieces.specs.Pieces.{joined, refusal}
 use Rattle.pieces.specs.Steps.{told, Went, Closed}
 use Rattle.pieces.specs.Runs.{begun, Runs}
-use Rattle.write_answer.specs.declared.Answer.{Answer as Write}
-use Rattle.write_answer.specs.declared.Answer.TheVariants as write
+use Rattle.write_answer.specs.Answers.{Answer as Write}
+use Rattle.std.specs.declared.result.Result.TheVariants as write
 use Rattle.write_answer.specs.Answers as writer
 use Rattle.write_answer.specs.Answers.{Did}
-use Rattle.plan_writer.specs.declared.Answer.{Answer as Planned}
-use Rattle.plan_writer.specs.declared.Answer.TheVariants as plan
+use Rattle.plan_writer.specs.Answers.{Answer as Planned}
+use Rattle.std.specs.Prelude.{Ok}
+use Rattle.plan_writer.specs.declared.PlanRefusal.TheVariants as plan
 use Rattle.plan_writer.specs.Answers as planner
 use Rattle.member.specs.declared.Member.{Member}
 use Rattle.lookup_answer.specs.declared.Refusal.TheVariants as why
-use Rattle.lookup_answer.specs.declared.Answer.TheVariants as lookup-answer
 use Rattle.lookup_answer.specs.Answers.{lookup, look}
 use Rattle.index.specs.Filling.{refusal_of, refusal_in}
 use Rattle.index_search.specs.Through.{through_if, through}
@@ -42,17 +40,11 @@ use Rattle.choice.specs.declared.Refusal.TheVariants as unfit
 use Rattle.defaults.specs.Defaults.{Source, chosen, unless, structs_then, row_in}
 use Rattle.shares.specs.declared.Station.{Station}
 use Rattle.shares.specs.Share.{splits, size_of, share_of}
-use Rattle.station_reading.specs.declared.Answer.{Answer as StationRead}
-use Rattle.station_reading.specs.declared.Answer.TheVariants as station
-use Rattle.station_reading.specs.declared.CardAnswer.{CardAnswer as StationCard}
+use Rattle.station_reading.specs.Answers.{Answer as StationRead, CardAnswer as StationCard, ReadFor, CardFor}
 use Rattle.station_reading.specs.Answers as at-station
-use Rattle.station_reading.specs.Answers.{ReadFor, CardFor}
-use Rattle.station_pieces.specs.declared.Answer.{Answer as StationPiece}
-use Rattle.station_pieces.specs.declared.Answer.TheVariants.{Stands}
-use Rattle.station_pieces.specs.Steps.{NextFor, EndFor}
-use Rattle.station_tables.specs.declared.WriteAnswer.{WriteAnswer as StationWrite}
-use Rattle.station_tables.specs.Answers.{WroteFor, write_report_of}
-use Rattle.station_plans.specs.declared.Answer.{Answer as StationPlanned}
+use Rattle.station_pieces.specs.Steps.{Answer as StationPiece, NextFor, EndFor}
+use Rattle.station_tables.specs.Answers.{WriteAnswer as StationWrite, WroteFor, write_report_of}
+use Rattle.station_plans.specs.Answers.{Answer as StationPlanned}
 use Rattle.station_plans.specs.Answers as planned
 use Rattle.stations.specs.Turns.{Turns}
 use Rattle.demands_stations.specs.Numbers.{number_told, rows_told, piece_number}
@@ -62,7 +54,7 @@ use Rattle.demands_calls.specs.Growth.{Lasts, Stays}
 pub record Judged : Type 0 where
   pub looked_up :
       (T : List ℕ) (rows : ℕ) (s : List ℕ) (r : ℕ) (key : List ℕ)
-      → lookup T rows s r key ≡ cond (writable_to 32 T rows s) (look (row_at (room_of 4096 (length T)) T) rows s r key) (lookup-answer.Refused why.NotWritable)
+      → lookup T rows s r key ≡ cond (writable_to 32 T rows s) (look (row_at (room_of 4096 (length T)) T) rows s r key) (Err why.NotWritable)
   pub index_filled :
       (T : List ℕ) (rows : ℕ) (s : List ℕ) (r n : ℕ)
       → refusal_of T rows s r n ≡ cond (writable_to 32 T rows s) (refusal_in (room_of 4096 (length T)) (row_at (room_of 4096 (length T)) T) rows s r n) 11
@@ -81,7 +73,7 @@ pub record Judged : Type 0 where
 pub record NotLower : Type 0 where
   pub from_the_reader :
       (limit : ℕ) (s : List ℕ) (words later : ℕ) {T : List ℕ} {n used : ℕ} (out₀ out : List ℕ) {m : Refusal} → Below 256 s → limit ≤ later
-      → Answers (reading limit s words) words T (read.Accepted n used) → Did later T n s out₀ out (write.Refused m)
+      → Answers (reading limit s words) words T (read.Accepted n used) → Did later T n s out₀ out (write.Err m)
       → (number_of m ≡ 11 → ⊥) × (length (repeated (texts_of s (rows_of 4096 T n))) ≤ 256 → number_of m ≡ 12 → ⊥)
   pub from_the_reader_planned :
       (limit : ℕ) (s : List ℕ) (words later : ℕ) {T : List ℕ} {n used : ℕ} (p out₀ out : List ℕ) {a : Planned} → Below 256 s → Below 4294967296 T
@@ -89,12 +81,12 @@ pub record NotLower : Type 0 where
       → ((planner.report_of a).number ≡ 11 → ⊥)
       × (length (repeated (texts_of s (rows_of 4096 T n))) ≤ 256 → (planner.report_of a).number ≡ 12 → ⊥)
   pub read_back :
-      (limit : ℕ) (T : List ℕ) (rows : ℕ) (s out₀ out : List ℕ) {n : ℕ} → Did limit T rows s out₀ out (write.Written n) → Below 4294967296 T
+      (limit : ℕ) (T : List ℕ) (rows : ℕ) (s out₀ out : List ℕ) {n : ℕ} → Did limit T rows s out₀ out (write.Ok n) → Below 4294967296 T
       → (later : ℕ) → limit ≤ later → allowed later ≡ true → (t : List ℕ) (words : ℕ) {T' : List ℕ} {a : Read} → take n t ≡ take n out → length t ≤ 65536
       → rows ≤ room_of 4096 words → Answers (reading later t words) words T' a
       → (a ≡ read.Accepted rows n) × MeanSame s t (rows_of 4096 T rows) (rows_of 4096 T' rows)
   pub read_back_planned :
-      (limit : ℕ) (T : List ℕ) (rows : ℕ) (s p out₀ out : List ℕ) {n : ℕ} → planner.Did limit T rows s p out₀ out (plan.Written n) → Below 4294967296 T
+      (limit : ℕ) (T : List ℕ) (rows : ℕ) (s p out₀ out : List ℕ) {n : ℕ} → planner.Did limit T rows s p out₀ out (Ok n) → Below 4294967296 T
       → (later : ℕ) → limit ≤ later → allowed later ≡ true → (t : List ℕ) (words : ℕ) {T' : List ℕ} {a : Read} → take n t ≡ take n out → length t ≤ 65536
       → rows ≤ room_of 4096 words → Answers (reading later t words) words T' a
       → (a ≡ read.Accepted rows n) × MeanSame s t (rows_of 4096 T rows) (rows_of 4096 T' rows)
@@ -137,8 +129,8 @@ pub record Growth : Type 0 where
       {limit later : ℕ} → limit ≤ later → allowed later ≡ true → (R₀ W₀ Q₀ X₀ : List ℕ) → 65536 ≤ length R₀ → 65536 ≤ length Q₀ → length W₀ ≤ length X₀
       → (here there : Station) (split split' : ℕ) (T U : List ℕ) (ps qs : List (List ℕ)) → joined ps ≡ joined qs → length (joined ps) ≤ 65536
       → {a b a' b' : State} {R Q T' U' : List ℕ} → Turns limit here ps begun R₀ W₀ a R (share_of here split T)
-      → EndFor limit a (length R) here split T T' (Stands a') → Turns later there qs begun Q₀ X₀ b Q (share_of there split' U)
-      → EndFor later b (length Q) there split' U U' (Stands b') → Lasts (number_told (told a'))
+      → EndFor limit a (length R) here split T T' (Ok a') → Turns later there qs begun Q₀ X₀ b Q (share_of there split' U)
+      → EndFor later b (length Q) there split' U U' (Ok b') → Lasts (number_told (told a'))
       → Stays (told a') (told b') (rows_told (told a')) (share_of here split T') (share_of there split' U')
 
 -- 'Refusals: 23 for a limit outside 1 to 32, before all but 22, with table or output zeroed and E6's room unchanged.' So exactly then, whatever else is
@@ -168,7 +160,7 @@ pub record OutsideOnShare (at : Station) (split : ℕ) (T : List ℕ) (limit : �
   pub read :
       (s : List ℕ) {T' : List ℕ} {a : StationRead} → ReadFor limit s at split T T' a
       → (((at-station.report_of a).number ≡ 23) ↔ (allowed limit ≡ false))
-      × (allowed limit ≡ false → (a ≡ station.Answered (read.Refused NoLimit 0)) × (share_of at split T' ≡ replicate (size_of at split (length T)) 0))
+      × (allowed limit ≡ false → (a ≡ Ok (read.Refused NoLimit 0)) × (share_of at split T' ≡ replicate (size_of at split (length T)) 0))
   pub next :
       (state : State) (p R : List ℕ) {R' T' : List ℕ} {a : StationPiece} → NextFor limit state p at split R T R' T' a → allowed limit ≡ false
       → (piece_number a ≡ 23) × (R' ≡ R) × (share_of at split T' ≡ replicate (size_of at split (length T)) 0)
@@ -189,7 +181,7 @@ pub record E11 : Type 0 where
   -- 'calls that state none now get 8.' They are the functions of binmode/src/usual.rt, which binmode_c exports and whose contracts are those of the calls that state a limit, with 8.
   -- 'The listing and the job file reader state 32;' the listing in listings/specs/Listing.Lists, whose contract is `reading 32`
   pub job_states :
-      (s : List ℕ) (words start size : ℕ) {T : List ℕ} {a : Card} → Reads s words (found.Body start size) T a
+      (s : List ℕ) (words start size : ℕ) {T : List ℕ} {a : Card} → Reads s words (body_at start size) T a
       → (a ≡ located start (answer_of (reading 32 (part s start size) words))) × (T ≡ table_of words (reading 32 (part s start size) words))
   -- 'lookup, index and defaults judge tables at 32.'
   pub judged : Judged

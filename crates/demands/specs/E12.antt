@@ -2,32 +2,27 @@
 -- one are equated with. `Kept words rows T` is a table of so many words that has these rows as columns, zeros in all other words, and the rows of the table
 -- before the request. `SameRows by_rows place T₀ T` ties a table T₀ of the layout before to a table T of columns: as long, with the same rows as far as there
 -- is room, and with the same words behind them; `write_by`, `lookup_by` .. are the definitions by any layout, of crate layouts. Assumes nothing.
-use Rattle.std.specs.Prelude.{◌≡◌, true, List, ◌∷◌, ℕ, ◌+◌, ◌*◌, ◌≤◌, ◌<◌, length, get_or, take, drop}
+use Rattle.std.specs.Prelude.{◌≡◌, true, List, ◌∷◌, ℕ, ◌+◌, ◌*◌, ◌≤◌, ◌<◌, length, get_or, take, drop, Ok}
 use Rattle.draft.specs.Bytes.{Below}
 use Rattle.draft.specs.Limits.{allowed}
 use Rattle.draft.specs.Table.{room_of, place, from}
 use Rattle.draft.specs.Writable.{writable_to}
 use Rattle.read_answer.specs.declared.Answer.{Answer as Read}
 use Rattle.read_answer.specs.Answers.{reading, Answers}
-use Rattle.records.specs.declared.Found.{Found}
-use Rattle.records.specs.Job.{body_of}
-use Rattle.job.specs.declared.Answer.{Answer as Card}
-use Rattle.job.specs.Cards.{Reads}
+use Rattle.records.specs.Job.{body_of, Found}
+use Rattle.job.specs.Cards.{Answer as Card, Reads}
 use Rattle.pieces.specs.declared.State.{State}
 use Rattle.pieces.specs.Steps.{Closed}
 use Rattle.pieces.specs.Runs.{begun, Runs}
 use Rattle.shares.specs.declared.Station.{Station}
 use Rattle.shares.specs.declared.Station.TheVariants.{Four, Five}
 use Rattle.shares.specs.Share.{splits, first_word, size_of, share_of}
-use Rattle.station_reading.specs.declared.Answer.{Answer as StationRead}
-use Rattle.station_reading.specs.declared.CardAnswer.{CardAnswer as StationCard}
-use Rattle.station_reading.specs.Answers.{ReadFor, CardFor}
-use Rattle.station_pieces.specs.declared.Answer.TheVariants.{Stands}
+use Rattle.station_reading.specs.Answers.{Answer as StationRead, CardAnswer as StationCard, ReadFor, CardFor}
 use Rattle.station_pieces.specs.Steps.{EndFor}
 use Rattle.stations.specs.Turns.{Turns}
-use Rattle.write_answer.specs.declared.Answer.{Answer as Write}
+use Rattle.write_answer.specs.Answers.{Answer as Write}
 use Rattle.write_answer.specs.Answers.{Did}
-use Rattle.plan_writer.specs.declared.Answer.{Answer as Planned}
+use Rattle.plan_writer.specs.Answers.{Answer as Planned}
 use Rattle.plan_writer.specs.Answers as planner
 use Rattle.certificate.specs.Certificate.{certified}
 use Rattle.lookup_answer.specs.Answers.{lookup}
@@ -68,7 +63,7 @@ pub record AfterReading : Type 0 where
   pub station_end :
       (limit : ℕ) → allowed limit ≡ true → (R₀ W₀ : List ℕ) → 65536 ≤ length R₀ → (station : Station) (split : ℕ) (T : List ℕ) (ps : List (List ℕ))
       → {state last : State} {R T' : List ℕ} → Turns limit station ps begun R₀ W₀ state R (share_of station split T)
-      → EndFor limit state (length R) station split T T' (Stands last) → Kept (length W₀) (rows_in (decided limit (length W₀) ps)) (share_of station split T')
+      → EndFor limit state (length R) station split T T' (Ok last) → Kept (length W₀) (rows_in (decided limit (length W₀) ps)) (share_of station split T')
 
 -- each call that is lent a table T of columns answers what it answered for the table T₀ with the same rows, the same stated number of them and the same text
 -- bytes

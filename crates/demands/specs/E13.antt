@@ -15,8 +15,8 @@ use Rattle.read_answer.specs.declared.Answer.{Answer as Read}
 use Rattle.read_answer.specs.declared.Answer.TheVariants.{Accepted}
 use Rattle.read_answer.specs.Answers.{reading, Answers}
 use Rattle.plans.specs.Plans.{sent_at, sents_from, planned}
-use Rattle.plan_writer.specs.declared.Answer.{Answer}
-use Rattle.plan_writer.specs.declared.Answer.TheVariants.{Written}
+use Rattle.plan_writer.specs.Answers.{Answer}
+use Rattle.std.specs.Prelude.{Ok}
 use Rattle.plan_writer.specs.Answers.{Did, report_of}
 use Rattle.certificate.specs.Certificate.{certified}
 use Rattle.written.specs.Derivable.{DerivesRows, HoldAlike}
@@ -33,7 +33,7 @@ pub record Sending : Type 0 where
   pub in_row_order : (p : List ℕ) (ts : List Text) (t : Text) → sents_from p 0 (ts ++ (t ∷ [])) ≡ sents_from p 0 ts ++ (sent_at p (length ts) t ∷ [])
   pub plan_message : (s : List ℕ) (rows : List Row) (p : List ℕ) → planned s rows p ≡ message_of s rows (sents_from p 0 (texts_of s rows))
 
--- of a call that answered `Written n`, where xs are the stated rows
+-- of a call that answered `Ok n`, where xs are the stated rows
 pub record Writes (limit : ℕ) (T : List ℕ) (rows : ℕ) (s p out₀ out : List ℕ) (n : ℕ) (xs : List Row) : Type 0 where
   -- 'The shorter of the plan's message and 01's form is written, 01's if equal.'
   pub which : {m : List ℕ} → Chosen s xs p m → (n ≡ length m) × (out ≡ m ++ replicate (length out₀ - n) 0)
@@ -82,12 +82,12 @@ pub record E13 : Type 0 where
       (limit : ℕ) (T : List ℕ) (rows : ℕ) (s p out₀ out : List ℕ) {a : Answer} → Below 4294967296 T → Did limit T rows s p out₀ out a
       → Ready limit T rows s → ((report_of a).number ≡ 24 → ⊥) ↔ Taken s (rows_of 4096 T rows) p
   pub writes :
-      (limit : ℕ) (T : List ℕ) (rows : ℕ) (s p out₀ out : List ℕ) {n : ℕ} → Below 4294967296 T → Did limit T rows s p out₀ out (Written n)
+      (limit : ℕ) (T : List ℕ) (rows : ℕ) (s p out₀ out : List ℕ) {n : ℕ} → Below 4294967296 T → Did limit T rows s p out₀ out (Ok n)
       → Writes limit T rows s p out₀ out n (rows_of 4096 T rows)
   -- 'and meaning and plan settle its bytes', also as 01 has it: 'equal written bytes come only from equal meaning'
   pub same_bytes :
       (limit limit' : ℕ) (T T' : List ℕ) (rows rows' : ℕ) (s s' p out₀ out₁ out out' : List ℕ) {n n' : ℕ} → Below 4294967296 T → Below 4294967296 T'
-      → Did limit T rows s p out₀ out (Written n) → Did limit' T' rows' s' p out₁ out' (Written n')
+      → Did limit T rows s p out₀ out (Ok n) → Did limit' T' rows' s' p out₁ out' (Ok n')
       → MeanSame s s' (rows_of 4096 T rows) (rows_of 4096 T' rows') ↔ (take n out ≡ take n' out')
   pub answered :
       (limit : ℕ) (T : List ℕ) (rows : ℕ) (s p out₀ out : List ℕ) {a : Answer} → Below 4294967296 T → Did limit T rows s p out₀ out a
@@ -111,4 +111,4 @@ pub record E13 : Type 0 where
       → length (planned s (rows_of 4096 T rows) p) ≤ length t
   pub certified_written :
       (T : List ℕ) (rows : ℕ) (s p prices : List ℕ) → certified T rows s p prices ≡ true → (limit : ℕ) (out₀ out : List ℕ) {n : ℕ}
-      → Did limit T rows s p out₀ out (Written n) → (t : List ℕ) → Below 256 t → ReadAs t s (rows_of 4096 T rows) → n ≤ length t
+      → Did limit T rows s p out₀ out (Ok n) → (t : List ℕ) → Below 256 t → ReadAs t s (rows_of 4096 T rows) → n ≤ length t

@@ -3,40 +3,35 @@
 -- table of so many words that is T after the call, and its answer a; `Did e limit T rows s out₀ out a` that of `glyph_writer::write`, for a table T with
 -- so many stated rows, text bytes s, and an output that is out₀ before the call and out after it; `ReadFor` and `WroteFor` are those of
 -- `glyph_stations::read` and `write`, for a table that is split at a row. None has a `requires`. That the fields hold is proofs/E14. Assumes nothing.
-use Rattle.std.specs.Prelude.{◌≡◌, true, false, ◌↔◌, List, ◌∷◌, ℕ, ◌*◌, ◌/◌, ◌≤◌, ◌<◌, length, take, drop, replicate}
+use Rattle.std.specs.Prelude.{◌≡◌, true, false, ◌↔◌, List, ◌∷◌, ℕ, ◌*◌, ◌/◌, ◌≤◌, ◌<◌, length, take, drop, replicate, Ok, Err}
 use Rattle.draft.specs.Limits.{allowed}
 use Rattle.draft.specs.Meaning.{MeanSame}
 use Rattle.draft.specs.Table.{room_of, place, row_at, rows_at}
 use Rattle.draft.specs.Writable.{writable_to}
 use Rattle.draft.specs.Written.{rows_of}
 use Rattle.written.specs.Derivable.{Within, HoldAlike}
-use Rattle.write_answer.specs.declared.Answer.{Answer as BinmodeAnswer}
+use Rattle.write_answer.specs.Answers.{Answer as BinmodeAnswer}
 use Rattle.write_answer.specs.Answers as binmode
-use Rattle.plan_writer.specs.declared.Answer.{Answer as PlanAnswer}
+use Rattle.plan_writer.specs.Answers.{Answer as PlanAnswer}
 use Rattle.plan_writer.specs.Answers as planned
 use Rattle.layouts.specs.Layouts.{by_rows, put_rows_by, SameRows}
 use Rattle.shares.specs.declared.Station.{Station}
-use Rattle.shares.specs.Share.{other, splits, size_of, share_of}
+use Rattle.shares.specs.Share.{no_share, other, splits, size_of, share_of}
 use Rattle.glyph.specs.declared.Edition.{Edition}
-use Rattle.glyph.specs.declared.Answer.{Answer}
-use Rattle.glyph.specs.declared.Answer.TheVariants.{Accepted, Refused}
+use Rattle.glyph.specs.declared.Refusal.{Refusal}
+use Rattle.glyph.specs.declared.Refusal.TheVariants.{Ended, UnexpectedByte, BadText, TooDeep, NoRow, TooLong, RepeatedKey, BadLimit, OutOfRange}
+use Rattle.glyph.specs.Refusals.{number_of}
 use Rattle.glyph.specs.Numbers.{is_blank}
 use Rattle.glyph.specs.Tree.{Tree, cells}
 use Rattle.glyph.specs.Grammar.{Blanks, Root}
-use Rattle.glyph.specs.Answers.{reading, Answers}
-use Rattle.glyph_form.specs.declared.Answer.{Answer as WriterAnswer}
-use Rattle.glyph_form.specs.declared.Answer.TheVariants.{Written}
+use Rattle.glyph.specs.Answers.{Answer, accepted_as, refused_as, reading, Answers}
 use Rattle.glyph_form.specs.Writable.{writable}
 use Rattle.glyph_form.specs.Form.{written}
-use Rattle.glyph_form.specs.Answers.{Did}
+use Rattle.glyph_form.specs.Answers.{Answer as WriterAnswer, Did}
 use Rattle.glyph_form.specs.Cases as writing
 use Rattle.glyph_order.specs.Same.{Same}
 use Rattle.glyph_told.specs.Tables.{Words, tree_of, Derivable}
-use Rattle.glyph_stations.specs.declared.StationAnswer.{StationAnswer}
-use Rattle.glyph_stations.specs.declared.StationAnswer.TheVariants.{Answered, NotSplit}
-use Rattle.glyph_stations.specs.declared.WriteAnswer.{WriteAnswer}
-use Rattle.glyph_stations.specs.declared.WriteAnswer.TheVariants as write
-use Rattle.glyph_stations.specs.Answers.{ReadFor, WroteFor}
+use Rattle.glyph_stations.specs.Answers.{StationAnswer, ReadFor, WroteFor, WriteAnswer}
 use Rattle.glyph_reports.specs.Numbers as read-report
 use Rattle.glyph_reports.specs.Writing as write-report
 use Rattle.glyph_demands.specs.Answered.{has, letters_of, Allowed, Derived, AllEnd, RefusedFor, rows_in, Columns, Lasting}
@@ -54,12 +49,12 @@ kind_at T r = (row_at (room_of 4096 (length T)) T r).kind
 pub record Reads (e : Edition) (limit : ℕ) (s : List ℕ) (words : ℕ) (T : List ℕ) (a : Answer) : Type 0 where
   -- 'Read .. integer (signed 32-bit), unicode, bytearray, T, F, N, list, dict, ordered_dict, extension and node': a message is accepted exactly if the
   -- edition's grammar derives it within the limits, and the rows mean what is derived;
-  pub taken : {used : ℕ} {t : Tree} → Allowed limit s → Root e limit s used t → length (cells t) ≤ room_of 4096 words → a ≡ Accepted (length (cells t)) used
-  pub means : {n used : ℕ} → a ≡ Accepted n used → Derived e limit s (room_of 4096 words) (rows_at (room_of 4096 words) T 0 n) used
+  pub taken : {used : ℕ} {t : Tree} → Allowed limit s → Root e limit s used t → length (cells t) ≤ room_of 4096 words → a ≡ accepted_as (length (cells t)) used
+  pub means : {n used : ℕ} → a ≡ accepted_as n used → Derived e limit s (room_of 4096 words) (rows_at (room_of 4096 words) T 0 n) used
   -- '`u;` and `b;` have the offset of their `;`': at that offset, as behind every unicode and bytearray, a `;` stands. That it is their own: `cases_read`.
-  pub all_end : {n used : ℕ} → a ≡ Accepted n used → AllEnd s (rows_at (room_of 4096 words) T 0 n)
+  pub all_end : {n used : ℕ} → a ≡ accepted_as n used → AllEnd s (rows_at (room_of 4096 words) T 0 n)
   -- 'other letters are 3.'
-  pub other_letters : {x : ℕ} {rest : List ℕ} → s ≡ x ∷ rest → Allowed limit s → is_blank x ≡ false → has (letters_of e) x ≡ false → a ≡ Refused 3 0
+  pub other_letters : {x : ℕ} {rest : List ℕ} → s ≡ x ∷ rest → Allowed limit s → is_blank x ≡ false → has (letters_of e) x ≡ false → a ≡ refused_as UnexpectedByte 0
 
 -- A CALL OF THE WRITER.
 pub record Writes (e : Edition) (limit : ℕ) (T : List ℕ) (rows : ℕ) (s out₀ out : List ℕ) (a : WriterAnswer) : Type 0 where
@@ -68,15 +63,15 @@ pub record Writes (e : Edition) (limit : ℕ) (T : List ℕ) (rows : ℕ) (s out
   -- 'An extension's name is unicode and its attributes either dict, for 0.5 by our own rule; a 0.5 node takes any objects.' So are the grammar's `Parts`;
   -- the tables that are written are those whose rows mean what it derives.
   pub writable_exactly : Words T → (writable e limit T rows s ≡ true) ↔ (Within 65536 4096 T rows s × Derivable e limit s (rows_of 4096 T rows))
-  pub accepted_exactly : (n : ℕ) → (a ≡ Written n) ↔ AcceptedFor e limit T rows s (length out₀) n
+  pub accepted_exactly : (n : ℕ) → (a ≡ Ok n) ↔ AcceptedFor e limit T rows s (length out₀) n
   -- 'Blanks the grammar allows are read, none written; integers and lengths are written without plus or leading zeros, zero as `i0;`, empty texts as `u;`
   -- and `b;`, plain dicts in byte order of keys.' So is the form `written`, and the output begins with it.
-  pub the_form : {n : ℕ} → a ≡ Written n → take n out ≡ written e (tree_of e limit T s)
+  pub the_form : {n : ℕ} → a ≡ Ok n → take n out ≡ written e (tree_of e limit T s)
   -- '.. and reading back keeps it': with blanks behind the bytes or not, and with a limit that is not lower.
   pub read_back :
-      {n : ℕ} → a ≡ Written n → Words T → (later : ℕ) → limit ≤ later → allowed later ≡ true → (t : List ℕ) (words : ℕ) {T' : List ℕ} {b : Answer}
+      {n : ℕ} → a ≡ Ok n → Words T → (later : ℕ) → limit ≤ later → allowed later ≡ true → (t : List ℕ) (words : ℕ) {T' : List ℕ} {b : Answer}
       → take n t ≡ take n out → Blanks (drop n t) → length t ≤ 65536 → rows ≤ room_of 4096 words → Answers (reading e later t words) words T' b
-      → (b ≡ Accepted rows n) × Same (tree_of e limit T s) (tree_of e later T' t)
+      → (b ≡ accepted_as rows n) × Same (tree_of e limit T s) (tree_of e later T' t)
 
 -- MEANING, of two tables that are written.
 pub record Means (e : Edition) (limit limit' : ℕ) (T T' : List ℕ) (rows rows' : ℕ) (s s' out out' : List ℕ) (n n' : ℕ) : Type 0 where
@@ -88,8 +83,8 @@ pub record Means (e : Edition) (limit limit' : ℕ) (T T' : List ℕ) (rows rows
 -- E10 TO E12, of a station's calls. 22 is told exactly if the row splits no table, and then nothing lent is changed; otherwise a call does on its share what
 -- the call without stations does on a table of the share's size, and changes no word of the other's share nor one beyond the last whole row.
 pub record Shared (e : Edition) (limit : ℕ) (s : List ℕ) (station : Station) (split : ℕ) (T T' : List ℕ) (a : StationAnswer) : Type 0 where
-  pub not_split_lem : (a ≡ NotSplit) ↔ (splits split (length T) ≡ false)
-  pub nothing_changed : a ≡ NotSplit → T' ≡ T
+  pub not_split_lem : (a ≡ Err no_share) ↔ (splits split (length T) ≡ false)
+  pub nothing_changed : a ≡ Err no_share → T' ≡ T
   pub own : splits split (length T) ≡ true → OwnRead e limit s (size_of station split (length T)) (share_of station split T') a
   pub others_stay : splits split (length T) ≡ true → share_of (other station) split T' ≡ share_of (other station) split T
   pub beyond_stays : drop (length T / 4 * 4) T' ≡ drop (length T / 4 * 4) T
@@ -99,16 +94,20 @@ pub record Shared (e : Edition) (limit : ℕ) (s : List ℕ) (station : Station)
       → Columns (size_of station split (length T)) (share_of station split T') (rows_in (reading e limit s (size_of station split (length T))))
   pub unlimited :
       splits split (length T) ≡ true → allowed limit ≡ false
-      → (a ≡ Answered (Refused 23 0)) × (share_of station split T' ≡ replicate (size_of station split (length T)) 0)
+      → (a ≡ Ok (refused_as BadLimit 0)) × (share_of station split T' ≡ replicate (size_of station split (length T)) 0)
 
 pub record SharedWrite (e : Edition) (limit : ℕ) (T : List ℕ) (station : Station) (split rows : ℕ) (s out out' : List ℕ) (a : WriteAnswer) : Type 0 where
-  pub not_split_lem : (a ≡ write.NotSplit) ↔ (splits split (length T) ≡ false)
-  pub nothing_changed : a ≡ write.NotSplit → out' ≡ out
+  pub not_split_lem : (a ≡ (Err no_share)) ↔ (splits split (length T) ≡ false)
+  pub nothing_changed : a ≡ (Err no_share) → out' ≡ out
   pub own : splits split (length T) ≡ true → OwnWrite e limit (share_of station split T) rows s out out' a
   pub unlimited :
-      splits split (length T) ≡ true → allowed limit ≡ false → (b : WriterAnswer) × (a ≡ write.Answered b) × Says 23 b × (out' ≡ replicate (length out) 0)
+      splits split (length T) ≡ true → allowed limit ≡ false → (b : WriterAnswer) × (a ≡ Ok b) × Says 23 b × (out' ≡ replicate (length out) 0)
 
 pub record E14 : Type 0 where
+  -- The reader's refusals have the numbers of documents 01 and 02.
+  pub numbers :
+      (number_of Ended ≡ 1) × (number_of UnexpectedByte ≡ 3) × (number_of BadText ≡ 5) × (number_of TooDeep ≡ 8) × (number_of NoRow ≡ 9) × (number_of TooLong ≡ 10)
+      × (number_of RepeatedKey ≡ 20) × (number_of BadLimit ≡ 23) × (number_of OutOfRange ≡ 25)
   pub reads :
       (e : Edition) (limit : ℕ) (s : List ℕ) (words : ℕ) {T : List ℕ} {a : Answer} → Answers (reading e limit s words) words T a
       → Reads e limit s words T a
@@ -134,7 +133,7 @@ pub record E14 : Type 0 where
   pub cases_written : writing.written writing.cases ≡ writing.expected writing.cases
   pub meaning :
       (e : Edition) (limit limit' : ℕ) (T T' : List ℕ) (rows rows' : ℕ) (s s' out₀ out₁ out out' : List ℕ) {n n' : ℕ} → Words T → Words T'
-      → Did e limit T rows s out₀ out (Written n) → Did e limit' T' rows' s' out₁ out' (Written n') → Means e limit limit' T T' rows rows' s s' out out' n n'
+      → Did e limit T rows s out₀ out (Ok n) → Did e limit' T' rows' s' out₁ out' (Ok n') → Means e limit limit' T T' rows rows' s s' out out' n n'
   -- 'demand 3 speaks of Binmode tables alone.' 'Numbers need a digit; lengths may have leading zeros. The grammars decide over the examples. Nesting counts
   -- containers, extensions and nodes.' These are `Number` and the depth of `Object`; what is derived has one meaning.
   pub one_meaning : {e : Edition} {d d' : ℕ} {s : List ℕ} {used used' : ℕ} {t t' : Tree} → Root e d s used t → Root e d' s used' t' → (used ≡ used') × (t ≡ t')
@@ -146,8 +145,8 @@ pub record E14 : Type 0 where
       {e : Edition} {limit : ℕ} {T : List ℕ} {station : Station} {split rows : ℕ} {s out out' : List ℕ} {a : WriteAnswer}
       → WroteFor e limit T station split rows s out out' a → SharedWrite e limit T station split rows s out out' a
   pub reported :
-      (read-report.station_report_of NotSplit ≡ record { number = 22; rows = 0; used = 0; place = 0 })
-      × (write-report.station_report_of write.NotSplit ≡ record { number = 22; length = 0 })
+      (read-report.station_report_of (Err no_share) ≡ record { number = 22; rows = 0; used = 0; place = 0 })
+      × (write-report.station_report_of (Err no_share) ≡ record { number = 22; length = 0 })
   pub read_alike :
       (here there : Station) (split split' : ℕ) (T U : List ℕ) → splits split (length T) ≡ true → splits split' (length U) ≡ true
       → size_of here split (length T) ≡ size_of there split' (length U) → (e : Edition) (limit : ℕ) (s : List ℕ) {T' U' : List ℕ} {a b : StationAnswer}
@@ -169,7 +168,7 @@ pub record E14 : Type 0 where
       → (b ≡ a) × Columns (size_of there split' (length U)) (share_of there split' U') (rows_in (reading e limit s (size_of here split (length T))))
   -- a table made by the reader is refused with neither 11 nor 12 by a call whose limit is not lower;
   pub from_the_reader :
-      (e : Edition) (limit : ℕ) (s : List ℕ) (words : ℕ) {T : List ℕ} {n used : ℕ} → Answers (reading e limit s words) words T (Accepted n used) → (later : ℕ)
+      (e : Edition) (limit : ℕ) (s : List ℕ) (words : ℕ) {T : List ℕ} {n used : ℕ} → Answers (reading e limit s words) words T (accepted_as n used) → (later : ℕ)
       → limit ≤ later → (out₀ out : List ℕ) {a : WriterAnswer} → Did e later T n s out₀ out a → (Says 11 a → ⊥) × (Says 12 a → ⊥)
   -- E12: word j of row r stands at c times j plus r, spare words are zero, and the rows are those of the table that was one row after the other;
   pub columns :
@@ -188,12 +187,12 @@ pub record E14 : Type 0 where
   -- `message` of crate glyph and `cases_read`. A refusal's number is true: `RefusedFor` has what it says of the message, and for 1, 3, 5, 20 and 25 of
   -- what stands at its place. Then the table is zeros.
   pub refused_true :
-      (e : Edition) (limit : ℕ) (s : List ℕ) (words : ℕ) {T : List ℕ} {n p : ℕ} → Answers (reading e limit s words) words T (Refused n p)
-      → RefusedFor e limit s (room_of 4096 words) n p × (T ≡ replicate words 0)
+      (e : Edition) (limit : ℕ) (s : List ℕ) (words : ℕ) {T : List ℕ} {m : Refusal} {p : ℕ} → Answers (reading e limit s words) words T (refused_as m p)
+      → RefusedFor e limit s (room_of 4096 words) (number_of m) p × (T ≡ replicate words 0)
   -- 10, at place 0, for every message of more than 65,536 bytes, whatever stands in it; 23 comes before it.
   pub too_long :
       (e : Edition) (limit : ℕ) (s : List ℕ) (words : ℕ) {T : List ℕ} {a : Answer} → Answers (reading e limit s words) words T a → allowed limit ≡ true
-      → 65536 < length s → a ≡ Refused 10 0
+      → 65536 < length s → a ≡ refused_as TooLong 0
   -- The writer's: 23, 10, 11, 12 and 13, each exactly for its reason after those before it; and zeros.
   pub write_refused :
       (e : Edition) (limit : ℕ) (T : List ℕ) (rows : ℕ) (s out₀ out : List ℕ) {a : WriterAnswer} → Did e limit T rows s out₀ out a → (n : ℕ)
@@ -201,7 +200,7 @@ pub record E14 : Type 0 where
   -- 23 at place 0, with the table or the output zeroed (E11).
   pub unlimited :
       (e : Edition) (limit : ℕ) (s : List ℕ) (words : ℕ) {T : List ℕ} {a : Answer} → Answers (reading e limit s words) words T a
-      → ((a ≡ Refused 23 0) ↔ (allowed limit ≡ false)) × (allowed limit ≡ false → T ≡ replicate words 0)
+      → ((a ≡ refused_as BadLimit 0) ↔ (allowed limit ≡ false)) × (allowed limit ≡ false → T ≡ replicate words 0)
   pub write_unlimited :
       (e : Edition) (limit : ℕ) (T : List ℕ) (rows : ℕ) (s out₀ out : List ℕ) {a : WriterAnswer} → Did e limit T rows s out₀ out a → allowed limit ≡ false
       → Says 23 a × (out ≡ replicate (length out₀) 0)

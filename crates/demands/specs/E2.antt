@@ -6,17 +6,15 @@ use Rattle.draft.specs.Bytes.{part}
 use Rattle.read_answer.specs.declared.Answer.{Answer as ReaderAnswer}
 use Rattle.read_answer.specs.Answers.{reading, Answers}
 use Rattle.read_answer.specs.Answers as reader
-use Rattle.records.specs.declared.Found.TheVariants.{Body}
-use Rattle.records.specs.Job.{record_length, find, body_of}
+use Rattle.records.specs.Job.{record_length, find, body_of, body_at}
 use Rattle.records.specs.Records.{Due, CardAt, EndAt, Counts}
-use Rattle.job.specs.declared.Answer.{Answer}
-use Rattle.job.specs.Cards.{Reads, report_of}
+use Rattle.job.specs.Cards.{Answer, Reads, report_of}
 use Rattle.demands_jobs.specs.Jobs.{own, Reported}
 
 -- 'A job file is a row of records: four-byte body length, two-byte kind, then the body, little-endian. Kind 1 is one card message. Kind 2 ends the job;
 -- its body is four bytes, the number of kind 1 records before it. Other kinds are stepped over, bytes after kind 2 ignored.'
 pub record Records : Type 0 where
-  pub card_found : (s : List ℕ) (n start size : ℕ) → (body_of s n ≡ Body start size) ↔ CardAt s n start size
+  pub card_found : (s : List ℕ) (n start size : ℕ) → (body_of s n ≡ body_at start size) ↔ CardAt s n start size
   pub rest_ignored :
       (u t : List ℕ) (n words : ℕ) {cards at : ℕ} {T T' : List ℕ} {a a' : Answer} → EndAt u cards at
       → Reads u words (body_of u n) T a → Reads (u ++ t) words (body_of (u ++ t) n) T' a' → (a ≡ a') × (T ≡ T')

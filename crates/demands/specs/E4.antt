@@ -20,7 +20,7 @@ use Rattle.draft.specs.Grammar.{Keeps}
 use Rattle.read_answer.specs.declared.Answer.{Answer as Read}
 use Rattle.read_answer.specs.declared.Answer.TheVariants as read
 use Rattle.read_answer.specs.Answers.{reading, Answers, report_of}
-use Rattle.write_answer.specs.declared.Answer.{Answer as Write}
+use Rattle.write_answer.specs.Answers.{Answer as Write}
 use Rattle.write_answer.specs.Answers.{Did}
 use Rattle.write_answer.specs.Answers as writer
 use Rattle.demands_reading.specs.Placed.{Begun, short_text, Stands}

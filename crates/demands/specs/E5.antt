@@ -2,13 +2,12 @@
 -- and `p ≡ position ..`, for any table; neither has a `requires`. A source c is a table with its stated rows, its text bytes and the row named;
 -- `looked c key` and `placed c` are the two answers there, `told` and `placed_number c` their numbers: 0, or the refusal's. A table is words of 32
 -- bits. That the fields hold is proofs/E5. Assumes nothing.
-use Rattle.std.specs.Prelude.{◌≡◌, true, false, ◌↔◌, List, [], ◌∷◌, ◌++◌, ℕ, ◌^◌, ◌≤◌, ◌<◌, ℤ, pos, ◌-ℤ◌, length, Float}
+use Rattle.std.specs.Prelude.{◌≡◌, true, false, ◌↔◌, List, [], ◌∷◌, ◌++◌, ℕ, ◌^◌, ◌≤◌, ◌<◌, ℤ, pos, ◌-ℤ◌, length, Float, Ok}
 use Prim.Native.Char.{code}
 use Rattle.std.specs.Float.{binary64}
 use Rattle.std.specs.Float.Ieee.{of_int, div, neg}
 use Rattle.std.specs.Float.Ieee.Exact.{HasValue}
 use Rattle.lexical.specs.Grammar.{Sign, Digits}
-use Rattle.decimal.specs.declared.Decimal.TheVariants.{Value}
 use Rattle.decimal.specs.Decimal.{power, held, decimal_of}
 use Rattle.draft.specs.declared.Row.{Row as TableRow}
 use Rattle.draft.specs.Bytes.{Below, bytes}
@@ -18,7 +17,7 @@ use Rattle.draft.specs.Grammar.{Cell, Begins}
 use Rattle.draft.specs.Written.{rows_of}
 use Rattle.read_answer.specs.Answers.{reading, table_of}
 use Rattle.member.specs.declared.Member.{Member}
-use Rattle.lookup_answer.specs.declared.Answer.TheVariants.{Whole, Decimal, Truth, Text, Row}
+use Rattle.lookup_answer.specs.declared.Value.TheVariants.{Whole, Decimal, Truth, Text, Row}
 use Rattle.lookup_answer.specs.Answers.{signed, lookup}
 use Rattle.lookup_answer.specs.Reports.{plus_zero, reported, report_of}
 use Rattle.placing.specs.Placing.{at, accepted_at}
@@ -61,12 +60,12 @@ pub record E5 : Type 0 where
   pub whole_number : (n : ℕ) → (n < 2147483648 → signed n ≡ pos n) × (2147483648 ≤ n → signed n ≡ pos n -ℤ pos 4294967296)
   pub reports :
       (z : ℤ) (x : Float) (o n r : ℕ)
-      → (report_of (Whole z) ≡ reported 0 1 z plus_zero 0 0)
-      × (report_of (Decimal x) ≡ reported 0 2 (pos 0) x 0 0)
-      × (report_of (Truth true) ≡ reported 0 3 (pos 1) plus_zero 0 0)
-      × (report_of (Truth false) ≡ reported 0 3 (pos 0) plus_zero 0 0)
-      × (report_of (Text o n) ≡ reported 0 4 (pos 0) plus_zero o n)
-      × (report_of (Row r) ≡ reported 0 5 (pos r) plus_zero 0 0)
+      → (report_of (Ok (Whole z)) ≡ reported 0 1 z plus_zero 0 0)
+      × (report_of (Ok (Decimal x)) ≡ reported 0 2 (pos 0) x 0 0)
+      × (report_of (Ok (Truth true)) ≡ reported 0 3 (pos 1) plus_zero 0 0)
+      × (report_of (Ok (Truth false)) ≡ reported 0 3 (pos 0) plus_zero 0 0)
+      × (report_of (Ok (Text o n)) ≡ reported 0 4 (pos 0) plus_zero o n)
+      × (report_of (Ok (Row r)) ≡ reported 0 5 (pos r) plus_zero 0 0)
   -- 'with repeated keys the first wins': E7 leaves none, so of a writable table the member with a key is the only one.
   pub only_one :
       (c : Source) → is_writable c ≡ true → Below 4294967296 c.table → (key : List ℕ) (m m' : Member) → Has c key m → Has c key m' → m ≡ m'
@@ -77,10 +76,10 @@ pub record E5 : Type 0 where
   -- 'Its f64 is the digits as a whole number divided once by the power of ten, then negated if the sign is minus.'
   pub decimal_value :
       (sign before fraction t : List ℕ) (n : ℕ) → Written sign before fraction t → WholeNumber (before ++ fraction) n → held t ≡ true
-      → (sign ≡ code "-" ∷ [] → ⊥) → decimal_of t ≡ Value (divided n (length fraction))
+      → (sign ≡ code "-" ∷ [] → ⊥) → decimal_of t ≡ Ok (divided n (length fraction))
   pub decimal_minus :
       (before fraction t : List ℕ) (n : ℕ) → Written (code "-" ∷ []) before fraction t → WholeNumber (before ++ fraction) n → held t ≡ true
-      → decimal_of t ≡ Value (neg (divided n (length fraction)))
+      → decimal_of t ≡ Ok (neg (divided n (length fraction)))
   -- 'Powers come from a table of the powers of ten up to 22.' The table is `decimal`'s POWERS, whose entry k `decimal::power` equates with `power k`.
   pub powers : (k : ℕ) → k ≤ 22 → HasValue (power k) false (10 ^ k) 1
   -- 'A position keeps x, y and turn together as decimals, each from a Double.' This is position-taken. 'A refused one is three plus zeros.'

@@ -19,7 +19,7 @@ use Rattle.member.specs.Members.{members, keys_of}
 use Rattle.read_answer.specs.declared.Answer.{Answer as Read}
 use Rattle.read_answer.specs.declared.Answer.TheVariants as read
 use Rattle.read_answer.specs.Answers.{reading, Answers, report_of}
-use Rattle.write_answer.specs.declared.Answer.{Answer as Write}
+use Rattle.write_answer.specs.Answers.{Answer as Write}
 use Rattle.write_answer.specs.Answers.{Did}
 use Rattle.write_answer.specs.Answers as writer
 use Rattle.defaults.specs.Defaults.{Source, is_writable}

@@ -5,7 +5,7 @@ use Rattle.std.specs.Prelude.{◌≡◌, true, false, ◌↔◌, ◌≢◌, List
 use Rattle.text.specs.Rfc3629.{UTF8-octets}
 use Rattle.text.specs.Texts.{among}
 use Rattle.draft.specs.declared.Refusal.{Refusal}
-use Rattle.draft.specs.declared.Verdict.TheVariants.{Fine}
+use Rattle.std.specs.Prelude.{Ok}
 use Rattle.draft.specs.declared.Content.TheVariants as content
 use Rattle.draft.specs.declared.Row.{Row}
 use Rattle.draft.specs.declared.Tag.{Tag}
@@ -24,8 +24,8 @@ use Rattle.draft.specs.Written.{written, rows_of}
 use Rattle.read_answer.specs.declared.Answer.{Answer as Read}
 use Rattle.read_answer.specs.declared.Answer.TheVariants as read
 use Rattle.read_answer.specs.Answers.{reading, Answers, report_of}
-use Rattle.write_answer.specs.declared.Answer.{Answer as Write}
-use Rattle.write_answer.specs.declared.Answer.TheVariants as write
+use Rattle.write_answer.specs.Answers.{Answer as Write}
+use Rattle.std.specs.declared.result.Result.TheVariants as write
 use Rattle.write_answer.specs.Answers.{Did}
 use Rattle.write_answer.specs.Answers as writer
 use Rattle.occurring.specs.Occurring.{bit, times}
@@ -46,7 +46,7 @@ pub record Reading : Type 0 where
   pub text_utf8 : (t : List ℕ) → Keeps content.Text t ↔ UTF8-octets t
   -- 'The name in an Other may not be one of: `i4`, `int`, `boolean`, ..'
   pub other_name :
-      (t : List ℕ) → (name_rule t ≡ Fine)
+      (t : List ℕ) → (name_rule t ≡ Ok tt)
       ↔ (among (bytes "i4" ∷ bytes "int" ∷ bytes "boolean" ∷ bytes "string" ∷ bytes "double" ∷ bytes "dateTime.iso8601" ∷ bytes "base64" ∷ bytes "struct"
       ∷ bytes "array" ∷ []) t ≡ false)
   -- 'Two tables, each with its own bytes, mean the same if ..': they do exactly if they mean the same cells
@@ -108,11 +108,11 @@ pub record Refusals : Type 0 where
       × ((m : Refusal) (p : ℕ) → report_of (read.Refused m p) ≡ record { number = number_of m; rows = 0; used = 0; place = p })
   -- 'The writer accepting reports the length ..; refusing, length 0, place 0'
   pub writer_report :
-      ((n : ℕ) → writer.report_of (write.Written n) ≡ record { number = 0; length = n; place = 0 })
-      × ((m : Refusal) → writer.report_of (write.Refused m) ≡ record { number = number_of m; length = 0; place = 0 })
+      ((n : ℕ) → writer.report_of (write.Ok n) ≡ record { number = 0; length = n; place = 0 })
+      × ((m : Refusal) → writer.report_of (write.Err m) ≡ record { number = number_of m; length = 0; place = 0 })
   -- 'with all output bytes after them 0'
   pub output_behind :
-      (limit : ℕ) (T : List ℕ) (rows : ℕ) (s out₀ out : List ℕ) {n : ℕ} → Did limit T rows s out₀ out (write.Written n)
+      (limit : ℕ) (T : List ℕ) (rows : ℕ) (s out₀ out : List ℕ) {n : ℕ} → Did limit T rows s out₀ out (write.Ok n)
       → out ≡ written s (rows_of 4096 T rows) ++ replicate (length out₀ - n) 0
   -- 'Reader's order: 10; then 2, over as many of the 12 bytes as are present; then 1 if fewer than 12. These have place 0.'
   pub order_ten :
@@ -186,18 +186,18 @@ pub record Writing : Type 0 where
   pub forms : (before : List Text) (t : Text) (after : List Text) → Forms before t (before ++ (t ∷ after))
   -- 'Nothing follows the message.': the draft derives all the bytes written
   pub nothing_follows :
-      (limit : ℕ) (T : List ℕ) (rows : ℕ) (s out₀ out : List ℕ) {n : ℕ} → Below 4294967296 T → Did limit T rows s out₀ out (write.Written n)
+      (limit : ℕ) (T : List ℕ) (rows : ℕ) (s out₀ out : List ℕ) {n : ℕ} → Below 4294967296 T → Did limit T rows s out₀ out (write.Ok n)
       → DerivesRows limit (take n out) s (rows_of 4096 T rows)
   -- 'So the written bytes are settled by the meaning, and equal written bytes come only from equal meaning.'
   pub same_bytes :
       (limit limit' : ℕ) (T T' : List ℕ) (rows rows' : ℕ) (s s' out₀ out₁ out out' : List ℕ) {n n' : ℕ} → Below 4294967296 T → Below 4294967296 T'
-      → Did limit T rows s out₀ out (write.Written n) → Did limit' T' rows' s' out₁ out' (write.Written n')
+      → Did limit T rows s out₀ out (write.Ok n) → Did limit' T' rows' s' out₁ out' (write.Ok n')
       → MeanSame s s' (rows_of 4096 T rows) (rows_of 4096 T' rows') ↔ (take n out ≡ take n' out')
   -- 'A table made by the reader is never refused with 11 when its message serves as text bytes. If at most 256 texts repeat, it isn't refused with 12 either'
   -- (02, E11: 'where the later call's limit is not lower'). 'with more, it may be': a message shows it, `USED_AGAIN` of `second/src/papers.rs`
   pub from_the_reader :
       (limit : ℕ) (s : List ℕ) (words later : ℕ) {T : List ℕ} {n used : ℕ} (out₀ out : List ℕ) {m : Refusal} → Below 256 s → limit ≤ later
-      → Answers (reading limit s words) words T (read.Accepted n used) → Did later T n s out₀ out (write.Refused m)
+      → Answers (reading limit s words) words T (read.Accepted n used) → Did later T n s out₀ out (write.Err m)
       → (number_of m ≡ 11 → ⊥) × (length (repeated (texts_of s (rows_of 4096 T n))) ≤ 256 → number_of m ≡ 12 → ⊥)
   -- 'Marked P: proved as one table of cases over the definitions, under a single statement.'
   pub cases_read : given cases ≡ expected cases

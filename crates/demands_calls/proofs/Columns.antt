@@ -1,6 +1,7 @@
 -- Request E12: a table is four columns, and every answer is as it was when a table was one row after the other. `SameRows by_rows place T₀ T` ties a table
 -- T₀ of that layout to a table T of columns: as long, with the same rows as far as there is room, and with the same words behind them. `table_by`, `write_by`,
 -- `lookup_by` .. are crate layouts' definitions with the layout as a parameter; by `place` they are those that the functions promise. Assumes nothing.
+use Rattle.std.specs.Prelude.{Ok, Err}
 use mathlib.Core.Path.{◌≡◌, refl, sym, ap, ◌∙◌, fun_ext}
 use mathlib.Core.Bool.{true}
 use mathlib.Core.List.{List, [], ◌∷◌}
@@ -18,29 +19,23 @@ use Rattle.draft.specs.Written.{rows_of}
 use Rattle.table.proofs.Rows.{place_in}
 use Rattle.read_answer.specs.declared.Answer.{Answer as ReaderAnswer}
 use Rattle.read_answer.specs.Answers.{reading, Answers}
-use Rattle.records.specs.Job.{body_of}
-use Rattle.records.specs.declared.Found.{Found}
-use Rattle.records.specs.declared.Found.TheVariants as found
-use Rattle.job.specs.declared.Answer.{Answer as JobAnswer}
-use Rattle.job.specs.Cards.{Reads}
+use Rattle.records.specs.Job.{body_of, Found, body_at, missing_at}
+use Rattle.job.specs.Cards.{Answer as JobAnswer, Reads}
 use Rattle.pieces.specs.declared.State.{State}
 use Rattle.pieces.specs.Pieces.{through as throughPieces}
 use Rattle.pieces.specs.Steps.{Closed}
 use Rattle.pieces.specs.Runs.{begun, Runs}
 use Rattle.shares.specs.declared.Station.{Station}
 use Rattle.shares.specs.Share.{splits, first_word, size_of, share_of}
-use Rattle.station_reading.specs.declared.Answer.{Answer as StationAnswer}
-use Rattle.station_reading.specs.declared.CardAnswer.{CardAnswer}
-use Rattle.station_reading.specs.Answers.{ReadFor, CardFor}
-use Rattle.station_pieces.specs.declared.Answer.TheVariants.{Stands}
+use Rattle.station_reading.specs.Answers.{Answer as StationAnswer, CardAnswer, ReadFor, CardFor}
 use Rattle.station_pieces.specs.Steps.{EndFor}
 use Rattle.stations.specs.Turns.{Turns}
 use Rattle.stations.proofs.Owning.{turns_run}
 use Rattle.cuts.proofs.Holding.{same_room}
 use Rattle.cuts.proofs.Running as run
-use Rattle.write_answer.specs.declared.Answer.{Answer as WriterAnswer}
+use Rattle.write_answer.specs.Answers.{Answer as WriterAnswer}
 use Rattle.write_answer.specs.Answers as writer
-use Rattle.plan_writer.specs.declared.Answer.{Answer as PlanAnswer}
+use Rattle.plan_writer.specs.Answers.{Answer as PlanAnswer}
 use Rattle.plan_writer.specs.Answers as plan_writer
 use Rattle.certificate.specs.Certificate.{certified}
 use Rattle.lookup_answer.specs.Answers.{lookup}
@@ -74,8 +69,8 @@ read_kept limit s words d = kept words (reading limit s words) (fits limit s wor
 
 -- a card of a job file
 pub card_kept : (s : List ℕ) (words : ℕ) (f : Found) {T : List ℕ} {a : JobAnswer} → Reads s words f T a → Kept words (card_rows s words f) T
-card_kept s words (found.Body start size) d = kept words (reading 32 (part s start size) words) (fits 32 (part s start size) words _ refl) d.leaves
-card_kept s words (found.Missing why p) d = kept words (refused TooLong 0) tt d.leaves
+card_kept s words (Ok body) d = kept words (reading 32 (part s body.start body.length) words) (fits 32 (part s body.start body.length) words _ refl) d.leaves
+card_kept s words (Err none) d = kept words (refused TooLong 0) tt d.leaves
 
 -- in pieces: after a piece, however the message is cut, and after the end call
 module _ (limit : ℕ) (ok : allowed limit ≡ true) (R₀ T₀ : List ℕ) (long : 65536 ≤ length R₀) where
@@ -103,7 +98,7 @@ module _ (limit : ℕ) (ok : allowed limit ≡ true) (R₀ T₀ : List ℕ) (lon
 
   pub station_end_kept :
       (station : Station) (split : ℕ) (T : List ℕ) (ps : List (List ℕ)) {state last : State} {R T' : List ℕ}
-      → Turns limit station ps begun R₀ T₀ state R (share_of station split T) → EndFor limit state (length R) station split T T' (Stands last)
+      → Turns limit station ps begun R₀ T₀ state R (share_of station split T) → EndFor limit state (length R) station split T T' (Ok last)
       → Kept (length T₀) (rows_in (decided limit (length T₀) ps)) (share_of station split T')
   station_end_kept station split T ps ts c = end_kept ps (turns_run ts) (its_end station split T c)
 

@@ -1,4 +1,5 @@
 -- Request E11's law of growth, for each call that reads, of its own answers: one that is none of 8, 9, 22 and 23 stays. Assumes nothing.
+use Rattle.std.specs.Prelude.{Ok, Err}
 use mathlib.Core.Path.{◌≡◌, refl, sym, ap, ◌∙◌}
 use mathlib.Core.Bool.{Bool, true, false, ◌&&◌, cond}
 use mathlib.Core.Logic.{◌≢◌}
@@ -21,25 +22,17 @@ use Rattle.read_answer.specs.declared.Answer.TheVariants.{Accepted, Refused}
 use Rattle.read_answer.specs.Answers.{reading, answer_of, table_of, Answers, report_of}
 use Rattle.read_answer.proofs.Limited.{reading_within, reading_not}
 use Rattle.rereading.specs.Rereading.{refused_with_one}
-use Rattle.records.specs.declared.Found.{Found}
-use Rattle.records.specs.declared.Found.TheVariants as found
-use Rattle.records.specs.Job.{body_of}
-use Rattle.job.specs.declared.Answer.{Answer as JobAnswer}
+use Rattle.records.specs.Job.{body_of, Found, body_at, missing_at}
+use Rattle.job.specs.Cards.{Answer as JobAnswer, located, Reads}
 use Rattle.job.specs.Cards as job
-use Rattle.job.specs.Cards.{located, Reads}
 use Rattle.pieces.specs.declared.State.{State}
 use Rattle.pieces.specs.Pieces.{joined, told_of, so_far, more, refusal, outcome, wanting, through}
 use Rattle.pieces.specs.Steps.{told, Closed}
 use Rattle.pieces.specs.Runs.{begun, Runs}
 use Rattle.shares.specs.declared.Station.{Station}
 use Rattle.shares.specs.Share.{splits, size_of, share_of}
-use Rattle.station_reading.specs.declared.Answer.{Answer as StationAnswer}
-use Rattle.station_reading.specs.declared.Answer.TheVariants as station
-use Rattle.station_reading.specs.declared.CardAnswer.{CardAnswer}
-use Rattle.station_reading.specs.declared.CardAnswer.TheVariants as station_card
+use Rattle.station_reading.specs.Answers.{Answer as StationAnswer, CardAnswer, ReadFor, CardFor}
 use Rattle.station_reading.specs.Answers as at-station
-use Rattle.station_reading.specs.Answers.{ReadFor, CardFor}
-use Rattle.station_pieces.specs.declared.Answer.TheVariants.{Stands}
 use Rattle.station_pieces.specs.Steps.{EndFor}
 use Rattle.stations.specs.Calls as call
 use Rattle.stations.specs.Turns.{Turns}
@@ -151,14 +144,14 @@ pub card_stays :
     (s : List ℕ) (f : Found) {words words' : ℕ} → words ≤ words' → {T T' : List ℕ} {a b : JobAnswer} → Reads s words f T a → Reads s words' f T' b
     → Lasts (job.report_of a).number → Stays a b (job.report_of a).rows T T'
 unfolding allowed
-card_stays s (found.Body start size) {words} {words'} larger {a = a} d e l =
-    let o : Reading = reading 32 (part s start size) words in
-    let o' : Reading = reading 32 (part s start size) words' in
-    let n : (job.report_of a).number ≡ (report_of (answer_of o)).number = ap (λ (x : JobAnswer). (job.report_of x).number) d.says ∙ located_number start (answer_of o) in
-    within (located start) d.says e.says (ap (λ (x : JobAnswer). (job.report_of x).rows) d.says ∙ located_rows start (answer_of o))
-    (read_stays (part s start size) {limit = 32} {later = 32} {words = words} {words' = words'} (omega arith) refl larger
+card_stays s (Ok body) {words} {words'} larger {a = a} d e l =
+    let o : Reading = reading 32 (part s body.start body.length) words in
+    let o' : Reading = reading 32 (part s body.start body.length) words' in
+    let n : (job.report_of a).number ≡ (report_of (answer_of o)).number = ap (λ (x : JobAnswer). (job.report_of x).number) d.says ∙ located_number body.start (answer_of o) in
+    within (located body.start) d.says e.says (ap (λ (x : JobAnswer). (job.report_of x).rows) d.says ∙ located_rows body.start (answer_of o))
+    (read_stays (part s body.start body.length) {limit = 32} {later = 32} {words = words} {words' = words'} (omega arith) refl larger
     (record { says = refl; leaves = d.leaves }) (record { says = refl; leaves = e.leaves }) (rw n at l))
-card_stays s (found.Missing why p) larger d e l =
+card_stays s (Err none) larger d e l =
     stays larger (refused TooLong 0) tt d.leaves e.leaves (e.says ∙ sym d.says) (ap (λ (x : JobAnswer). (job.report_of x).rows) d.says)
 
 -- AT STATIONS: under a larger share
@@ -172,7 +165,7 @@ module _
     station_stays {limit} {later} higher ok d e l =
         let x = own_read here split T (has_share (call.reads d) l.not_split_lem) limit s d in
         let y = own_read there split' U is' later s e in
-        within station.Answered x.is y.is (ap (λ (z : StationAnswer). (at-station.report_of z).rows) x.is)
+        within Ok x.is y.is (ap (λ (z : StationAnswer). (at-station.report_of z).rows) x.is)
         (read_stays s higher ok larger x.did y.did (rw (ap (λ (z : StationAnswer). (at-station.report_of z).number) x.is) at l))
 
     pub station_card_stays :
@@ -181,7 +174,7 @@ module _
     station_card_stays number d e l =
         let x = own_card here split T (has_share (call.reads_card d) l.not_split_lem) s number d in
         let y = own_card there split' U is' s number e in
-        within station_card.Answered x.is y.is (ap (λ (z : CardAnswer). (at-station.card_report_of z).rows) x.is)
+        within Ok x.is y.is (ap (λ (z : CardAnswer). (at-station.card_report_of z).rows) x.is)
         (card_stays s (body_of s number) larger x.did y.did (rw (ap (λ (z : CardAnswer). (at-station.card_report_of z).number) x.is) at l))
 
 -- ---- in pieces
@@ -267,7 +260,7 @@ module _ {limit later : ℕ} (higher : limit ≤ later) (ok : allowed later ≡ 
 
     pub station_end_stays :
         (split split' : ℕ) (T U : List ℕ) (ps qs : List (List ℕ)) → joined ps ≡ joined qs → length (joined ps) ≤ 65536 → {a b a' b' : State} {R Q T' U' : List ℕ}
-        → Turns limit here ps begun R₀ T₀ a R (share_of here split T) → EndFor limit a (length R) here split T T' (Stands a')
-        → Turns later there qs begun Q₀ U₀ b Q (share_of there split' U) → EndFor later b (length Q) there split' U U' (Stands b')
+        → Turns limit here ps begun R₀ T₀ a R (share_of here split T) → EndFor limit a (length R) here split T T' (Ok a')
+        → Turns later there qs begun Q₀ U₀ b Q (share_of there split' U) → EndFor later b (length Q) there split' U U' (Ok b')
         → Lasts (number_told (told a')) → Stays (told a') (told b') (rows_told (told a')) (share_of here split T') (share_of there split' U')
     station_end_stays split split' T U ps qs e few x c y d = end_stays ps qs e few (turns_run x) (its_end here split T c) (turns_run y) (its_end there split' U d)

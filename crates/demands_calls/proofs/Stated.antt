@@ -1,4 +1,5 @@
 -- The limit of nesting that a call states (request E11): it is one of 1 to 32, and for any other each call tells 23 and leaves zeros. Assumes nothing.
+use Rattle.std.specs.Prelude.{Ok, Err}
 use mathlib.Core.Path.{◌≡◌, refl, sym, ap, ◌∙◌}
 use mathlib.Core.Bool.{Bool, true, false, cond, ◌&&◌}
 use mathlib.Core.Logic.{◌↔◌, ◌≢◌}
@@ -29,29 +30,27 @@ use Rattle.pieces.specs.declared.State.{State}
 use Rattle.pieces.specs.Pieces.{told_of, so_far, more, refusal, outcome, through}
 use Rattle.pieces.specs.Steps.{told}
 use Rattle.pieces.specs.Runs.{begun, Runs, none, piece}
-use Rattle.write_answer.specs.declared.Answer.{Answer as WriterAnswer}
-use Rattle.write_answer.specs.declared.Answer.TheVariants as write
+use Rattle.write_answer.specs.Answers.{Answer as WriterAnswer}
+use Rattle.std.specs.declared.result.Result.TheVariants as write
 use Rattle.write_answer.specs.Answers as writer
 use Rattle.plans.specs.Plans.{taken}
-use Rattle.plan_writer.specs.declared.Answer.{Answer as PlanAnswer}
-use Rattle.plan_writer.specs.declared.Answer.TheVariants as plan
+use Rattle.plan_writer.specs.Answers.{Answer as PlanAnswer}
+use Rattle.std.specs.Prelude.{Ok, Err}
+use Rattle.plan_writer.specs.declared.PlanRefusal.TheVariants as plan
 use Rattle.plan_writer.specs.Answers as planner
 use Rattle.shares.specs.declared.Station.{Station}
 use Rattle.shares.specs.Share.{splits, size_of, share_of}
 use Rattle.shares.proofs.Sharing.{share_size}
-use Rattle.station_reading.specs.declared.Answer.{Answer as StationAnswer}
-use Rattle.station_reading.specs.declared.Answer.TheVariants as station
+use Rattle.station_reading.specs.Answers.{Answer as StationAnswer, ReadFor}
 use Rattle.station_reading.specs.Answers as at-station
-use Rattle.station_reading.specs.Answers.{ReadFor}
-use Rattle.station_pieces.specs.declared.Answer.{Answer as PieceAnswer}
-use Rattle.station_pieces.specs.Steps.{NextFor, EndFor}
-use Rattle.station_tables.specs.declared.WriteAnswer.{WriteAnswer}
+use Rattle.station_pieces.specs.Steps.{Answer as PieceAnswer, NextFor, EndFor}
+use Rattle.station_tables.specs.Answers.{WriteAnswer}
 use Rattle.station_tables.specs.Answers as tables
-use Rattle.station_plans.specs.declared.Answer.{Answer as StationPlanAnswer}
+use Rattle.station_plans.specs.Answers.{Answer as StationPlanAnswer}
 use Rattle.station_plans.specs.Answers as planned
 use Rattle.member.specs.declared.Member.{Member}
 use Rattle.lookup_answer.specs.declared.Refusal.TheVariants as why
-use Rattle.lookup_answer.specs.declared.Answer.TheVariants as found
+use Rattle.lookup_answer.specs.declared.Value.TheVariants as found
 use Rattle.lookup_answer.specs.Answers.{lookup, look}
 use Rattle.index.specs.Filling as index
 use Rattle.index.specs.Filling.{refusal_in}
@@ -149,7 +148,7 @@ pieces_unlimited limit R₀ T₀ long p ps {state} calls = (λ e. go (allowed li
 -- WRITTEN: 23 exactly if the limit is outside, before all else; the output zeros
 first_test :
     (l a b c d : Bool) (n : ℕ)
-    → (writer.report_of (writer.given l NoLimit (writer.given a TooLong (writer.given b NotWritable (writer.given c FormTooLong (writer.given d OutputTooShort (write.Written n))))))).number ≡ 23
+    → (writer.report_of (writer.given l NoLimit (writer.given a TooLong (writer.given b NotWritable (writer.given c FormTooLong (writer.given d OutputTooShort (write.Ok n))))))).number ≡ 23
     → l ≡ false
 first_test false a b c d n e = refl
 first_test true false b c d n e = absurd (omega arith)
@@ -164,7 +163,7 @@ pub write_unlimited :
 unfolding writer.answer_of writer.answer_to
 write_unlimited limit T rows s out₀ out {a} d = ((there, λ h. ap (λ (x : WriterAnswer). (writer.report_of x).number) (so h)), λ h. d.leaves ∙ rw (so h))
   where
-    so : allowed limit ≡ false → a ≡ write.Refused NoLimit
+    so : allowed limit ≡ false → a ≡ write.Err NoLimit
     so h = d.says ∙ rw h
 
     size : ℕ
@@ -178,7 +177,7 @@ write_unlimited limit T rows s out₀ out {a} d = ((there, λ h. ap (λ (x : Wri
 -- and by a plan
 first_planned :
     (l a b t c d : Bool) (n : ℕ)
-    → (planner.report_of (planner.given l (plan.Refused NoLimit) (planner.given a (plan.Refused TooLong) (planner.given b (plan.Refused NotWritable) (planner.given t plan.NotTaken (planner.given c (plan.Refused FormTooLong) (planner.given d (plan.Refused OutputTooShort) (plan.Written n)))))))).number ≡ 23
+    → (planner.report_of (planner.given l (Err (plan.Refused NoLimit)) (planner.given a (Err (plan.Refused TooLong)) (planner.given b (Err (plan.Refused NotWritable)) (planner.given t (Err plan.NotTaken) (planner.given c (Err (plan.Refused FormTooLong)) (planner.given d (Err (plan.Refused OutputTooShort)) (Ok n)))))))).number ≡ 23
     → l ≡ false
 first_planned false a b t c d n e = refl
 first_planned true false b t c d n e = absurd (omega arith)
@@ -194,7 +193,7 @@ pub planned_unlimited :
 unfolding planner.answer_of planner.answer_by
 planned_unlimited limit T rows s p out₀ out {a} d = ((there, λ h. ap (λ (x : PlanAnswer). (planner.report_of x).number) (so h)), λ h. d.leaves ∙ rw (so h))
   where
-    so : allowed limit ≡ false → a ≡ plan.Refused NoLimit
+    so : allowed limit ≡ false → a ≡ Err (plan.Refused NoLimit)
     so h = d.says ∙ rw h
 
     size : ℕ
@@ -210,13 +209,13 @@ module _ (at : Station) (split : ℕ) (T : List ℕ) (ok : splits split (length 
   pub station_read_unlimited :
       (s : List ℕ) {T' : List ℕ} {a : StationAnswer} → ReadFor limit s at split T T' a
       → (((at-station.report_of a).number ≡ 23) ↔ (allowed limit ≡ false))
-      × (allowed limit ≡ false → (a ≡ station.Answered (Refused NoLimit 0)) × (share_of at split T' ≡ replicate (size_of at split (length T)) 0))
+      × (allowed limit ≡ false → (a ≡ Ok (Refused NoLimit 0)) × (share_of at split T' ≡ replicate (size_of at split (length T)) 0))
   station_read_unlimited s d =
       let x = own_read at split T ok limit s d in
       let z = read_unlimited limit s (size_of at split (length T)) x.did in
       let i = ap (λ (y : StationAnswer). (at-station.report_of y).number) x.is in (
         (λ e. z.0.0 (sym i ∙ e), λ h. i ∙ z.0.1 h),
-        λ h. (x.is ∙ ap station.Answered (z.1 h).0, (z.1 h).1),
+        λ h. (x.is ∙ ap Ok (z.1 h).0, (z.1 h).1),
       )
 
   pub station_piece_unlimited :
@@ -258,7 +257,7 @@ module _ (at : Station) (split : ℕ) (T : List ℕ) (ok : splits split (length 
 module _ (T : List ℕ) (rows : ℕ) (s : List ℕ) (r : ℕ) where
   pub lookup_judged :
       (key : List ℕ)
-      → lookup T rows s r key ≡ cond (writable_to 32 T rows s) (look (row_at (room_of 4096 (length T)) T) rows s r key) (found.Refused why.NotWritable)
+      → lookup T rows s r key ≡ cond (writable_to 32 T rows s) (look (row_at (room_of 4096 (length T)) T) rows s r key) (Err why.NotWritable)
   unfolding lookup writable writable_to
   lookup_judged key = refl
 

@@ -1,13 +1,12 @@
 -- Request E12: the rows of a reading kept as columns, and a table with the rows that it had before the request. Assumes nothing.
-use Rattle.std.specs.Prelude.{◌≡◌, List, [], ℕ, zero, suc, ◌+◌, ◌*◌, ◌≤◌, ◌<◌, length, get_or, replicate}
+use Rattle.records.specs.Job.{Found, body_at, missing_at}
+use Rattle.std.specs.Prelude.{◌≡◌, List, [], ℕ, zero, suc, ◌+◌, ◌*◌, ◌≤◌, ◌<◌, length, get_or, replicate, Ok, Err}
 use Rattle.draft.specs.declared.Row.{Row}
 use Rattle.draft.specs.Bytes.{part}
 use Rattle.draft.specs.Rows.{row}
 use Rattle.draft.specs.Table.{room_of, place}
 use Rattle.draft.specs.Read.{Reading, got, refused}
 use Rattle.read_answer.specs.Answers.{reading}
-use Rattle.records.specs.declared.Found.{Found}
-use Rattle.records.specs.declared.Found.TheVariants as found
 use Rattle.pieces.specs.Pieces.{outcome, through}
 use Rattle.layouts.specs.Layouts.{by_rows, put_rows_by, SameRows}
 
@@ -32,8 +31,8 @@ decided limit words ps = outcome limit (through limit words [] ps) words
 
 -- the rows of a card, wherever its body lies; a card that is not found has none
 abbrev pub card_rows : List ℕ → ℕ → Found → List Row
-card_rows s words (found.Body start size) = rows_in (reading 32 (part s start size) words)
-card_rows s words (found.Missing refusal place) = []
+card_rows s words (Ok body) = rows_in (reading 32 (part s body.start body.length) words)
+card_rows s words (Err none) = []
 
 -- a table of so many words, with room for c rows, that keeps these rows as columns: word j of row r stands at c times j plus r, each column is zeros behind
 -- the rows, and so are all words behind the columns; and `as_before` ties it to the table of zeros in which the same rows were stored before the request, one

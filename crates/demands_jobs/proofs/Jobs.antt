@@ -8,6 +8,7 @@ use Prim.Native.Nat.{ℕ, ◌+◌, ◌≤◌, ◌<◌}
 use native.Mathlib.Omega.{arith}
 use lib.Dec.{eqb}
 use lib.ListN.{length, drop, replicate}
+use Rattle.std.specs.Prelude.{Err, Ok}
 use Rattle.draft.specs.declared.Refusal.{Refusal}
 use Rattle.draft.specs.declared.Refusal.TheVariants as refusal
 use Rattle.draft.specs.Refusals.{number_of}
@@ -19,15 +20,12 @@ use Rattle.read_answer.specs.Answers.{reading, answer_of, table_of, Answers}
 use Rattle.read_answer.specs.Answers as reads
 use Rattle.records.specs.declared.JobRefusal.{JobRefusal}
 use Rattle.records.specs.declared.JobRefusal.TheVariants.{FileEnded, WrongEnd, NoCard}
-use Rattle.records.specs.declared.Found.{Found}
-use Rattle.records.specs.declared.Found.TheVariants as found
-use Rattle.records.specs.Job.{refusal_number, record_length, body_of}
+use Rattle.records.specs.Job.{refusal_number, record_length, body_of, Found, body_at, missing_at}
 use Rattle.records.specs.Records.{Due, CardAt, EndAt, Counts}
 use Rattle.records.proofs.Standing.{lies, part_stands}
 use Rattle.records.proofs.Records.{card_exactly, cut_exactly, wrong_exactly, none_exactly, card_before, card_below, found_on, ended_on}
-use Rattle.job.specs.declared.Answer.{Answer}
-use Rattle.job.specs.declared.Answer.TheVariants.{Accepted, Refused, Missing}
-use Rattle.job.specs.Cards.{located, answer_for, table_for, Reads, Report, report_of}
+use Rattle.job.specs.Cards.{Answer, accepted_at, located, answer_for, table_for, Reads, Report, report_of}
+use Rattle.job.specs.declared.JobFault.TheVariants.{Refused, Missing}
 use Rattle.demands_jobs.specs.Jobs.{own, Reported}
 
 -- the numbers that a card's own refusal does not have: 0, and the job's
@@ -75,35 +73,36 @@ by_number WrongEnd = refl
 by_number NoCard = refl
 
 -- the job's refusals are those that are reported with its numbers
-reported_missing : (m : JobRefusal) (place : ℕ) (a : Answer) → Reported a (refusal_number m) place → a ≡ Missing m place
-reported_missing m place (Accepted rows used body) r = absurd (jobs_some m r.0)
-reported_missing m place (Refused own p) r = absurd (not_own_lem own (refusal_number m) (jobs_number m) r.0)
-reported_missing m place (Missing m' p) r =
+reported_missing : (m : JobRefusal) (place : ℕ) (a : Answer) → Reported a (refusal_number m) place → a ≡ Err (Missing m place)
+reported_missing m place (Ok card) r = absurd (jobs_some m r.0)
+reported_missing m place (Err (Refused own p)) r = absurd (not_own_lem own (refusal_number m) (jobs_number m) r.0)
+reported_missing m place (Err (Missing m' p)) r =
     let e : m' ≡ m = sym (by_number m') ∙ ap refusal_by r.0 ∙ by_number m in
     rw (e, r.1)
 
-missing_found : (s : List ℕ) (words : ℕ) (m : JobRefusal) (place : ℕ) (f : Found) → answer_for s words f ≡ Missing m place → f ≡ found.Missing m place
-missing_found s words m place (found.Missing m' p) e =
-    let i : m' ≡ m = cc in
-    let j : p ≡ place = cc in
-    rw (i, j)
-missing_found s words m place (found.Body start size) e = go (answer_of (reading 32 (part s start size) words)) e
+missing_found : (s : List ℕ) (words : ℕ) (m : JobRefusal) (place : ℕ) (f : Found) → answer_for s words f ≡ Err (Missing m place) → f ≡ missing_at m place
+missing_found s words m place (Err none) e =
+    let f : Missing none.refusal none.place ≡ Missing m place = cc in
+    let i : none.refusal ≡ m = cc in
+    let j : none.place ≡ place = cc in
+    rw (← i, ← j)
+missing_found s words m place (Ok body) e = go (answer_of (reading 32 (part s body.start body.length) words)) e
   where
-    go : (b : ReaderAnswer) → located start b ≡ Missing m place → found.Body start size ≡ found.Missing m place
+    go : (b : ReaderAnswer) → located body.start b ≡ Err (Missing m place) → Ok body ≡ missing_at m place
     go (reader.Accepted rows used) e = let z : ◌≡◌ {A = ℕ} 0 1 = cc in absurd (omega arith)
     go (reader.Refused refusal p) e = let z : ◌≡◌ {A = ℕ} 0 1 = cc in absurd (omega arith)
 
 missing_exactly :
     (s : List ℕ) (words : ℕ) (m : JobRefusal) (place : ℕ) {f : Found} {T : List ℕ} {a : Answer} → Reads s words f T a
-    → Reported a (refusal_number m) place ↔ (f ≡ found.Missing m place)
+    → Reported a (refusal_number m) place ↔ (f ≡ missing_at m place)
 missing_exactly s words m place {f} {a = a} d = (
   λ r. missing_found s words m place f (sym d.says ∙ reported_missing m place a r),
-  λ e. let z : a ≡ Missing m place = d.says ∙ ap (answer_for s words) e in rw z (refl, refl),
+  λ e. let z : a ≡ Err (Missing m place) = d.says ∙ ap (answer_for s words) e in rw z (refl, refl),
 )
 
 -- 15, 16 AND 26, each with its place exactly where the file's records have it.
 module _ (s : List ℕ) (n words : ℕ) {T : List ℕ} {a : Answer} (d : Reads s words (body_of s n) T a) (place : ℕ) where
-  through : {P : Type 0} (m : JobRefusal) → (body_of s n ≡ found.Missing m place) ↔ P → Reported a (refusal_number m) place ↔ P
+  through : {P : Type 0} (m : JobRefusal) → (body_of s n ≡ missing_at m place) ↔ P → Reported a (refusal_number m) place ↔ P
   through m h = let g = missing_exactly s words m place d in (λ r. h.0 (g.0 r), λ p. g.1 (h.1 p))
 
   pub fifteen : Reported a 15 place ↔ ((cards : ℕ) × Due s cards place × (cards ≤ n) × (length (drop place s) < record_length (drop place s)))
@@ -125,7 +124,7 @@ counted s d n = (λ l. card_before s d.due n l, λ c. card_below s d c.2)
 
 -- a card, where its body lies
 module _ {s : List ℕ} {n start size : ℕ} (c : CardAt s n start size) where
-  at_body : body_of s n ≡ found.Body start size
+  at_body : body_of s n ≡ body_at start size
   at_body = (card_exactly s n start size).1 c
 
   -- IN THE FILE. The body is a part of the file.
@@ -169,10 +168,10 @@ alike s s' n n' words {start} {size} c c' p d d' =
 
 -- what is found in u alone is read there, whatever follows u
 found_read :
-    (u t : List ℕ) (words : ℕ) (f : Found) → ((start size : ℕ) → f ≡ found.Body start size → start + size ≤ length u)
+    (u t : List ℕ) (words : ℕ) (f : Found) → ((start size : ℕ) → f ≡ body_at start size → start + size ≤ length u)
     → (answer_for (u ++ t) words f ≡ answer_for u words f) × (table_for (u ++ t) words f ≡ table_for u words f)
-found_read u t words (found.Missing m place) h = (refl, refl)
-found_read u t words (found.Body start size) h = rw (part_stands u t start size (h start size refl)) (refl, refl)
+found_read u t words (Err none) h = (refl, refl)
+found_read u t words (Ok body) h = rw (part_stands u t body.start body.length (h body.start body.length refl)) (refl, refl)
 
 read_on :
     (u t : List ℕ) (n words : ℕ) {T T' : List ℕ} {a a' : Answer} → body_of (u ++ t) n ≡ body_of u n → Reads u words (body_of u n) T a
@@ -191,9 +190,9 @@ module _ (u t : List ℕ) (n words : ℕ) {T T' : List ℕ} {a a' : Answer} (d :
 
 -- REFUSED. A refusal, the job's or the card's own, has 0 for the body, and the table is all zeros.
 pub refused_body : (a : Answer) → ((report_of a).number ≡ 0 → ⊥) → (report_of a).body ≡ 0
-refused_body (Accepted rows used body) h = absurd (h refl)
-refused_body (Refused m p) h = refl
-refused_body (Missing m p) h = refl
+refused_body (Ok card) h = absurd (h refl)
+refused_body (Err (Refused m p)) h = refl
+refused_body (Err (Missing m p)) h = refl
 
 pub refused_zeros : (s : List ℕ) (words : ℕ) (f : Found) {T : List ℕ} {a : Answer} → Reads s words f T a → ((report_of a).number ≡ 0 → ⊥) → T ≡ replicate words 0
 refused_zeros s words f {T} {a} d h = d.leaves ∙ go f (rw d.says at h)
@@ -203,12 +202,12 @@ refused_zeros s words f {T} {a} d h = d.leaves ∙ go f (rw d.says at h)
     own_zeros start (got rows used book) h = absurd (h refl)
 
     go : (f : Found) → ((report_of (answer_for s words f)).number ≡ 0 → ⊥) → table_for s words f ≡ replicate words 0
-    go (found.Missing refusal place) h = refl
-    go (found.Body start size) h = own_zeros start (reading 32 (part s start size) words) h
+    go (Err none) h = refl
+    go (Ok body) h = own_zeros body.start (reading 32 (part s body.start body.length) words) h
 
 -- by the answer's variant
-pub job_refused_zeros : (s : List ℕ) (words : ℕ) (f : Found) {T : List ℕ} {m : JobRefusal} {p : ℕ} → Reads s words f T (Missing m p) → T ≡ replicate words 0
+pub job_refused_zeros : (s : List ℕ) (words : ℕ) (f : Found) {T : List ℕ} {m : JobRefusal} {p : ℕ} → Reads s words f T (Err (Missing m p)) → T ≡ replicate words 0
 job_refused_zeros s words f {m = m} d = refused_zeros s words f d (λ e. jobs_some m (sym e))
 
-pub card_refused_zeros : (s : List ℕ) (words : ℕ) (f : Found) {T : List ℕ} {m : Refusal} {p : ℕ} → Reads s words f T (Refused m p) → T ≡ replicate words 0
+pub card_refused_zeros : (s : List ℕ) (words : ℕ) (f : Found) {T : List ℕ} {m : Refusal} {p : ℕ} → Reads s words f T (Err (Refused m p)) → T ≡ replicate words 0
 card_refused_zeros s words f {m = m} d = refused_zeros s words f d (not_own_lem m 0 refl)

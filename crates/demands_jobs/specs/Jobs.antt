@@ -1,8 +1,7 @@
 -- What the page of E2 says of a card's report: what of it is the card's own, and a number with its place. Assumes nothing.
 use Rattle.std.specs.Prelude.{◌≡◌, ℕ}
 use Rattle.read_answer.specs.Answers as reader
-use Rattle.job.specs.declared.Answer.{Answer}
-use Rattle.job.specs.Cards.{Report, report_of}
+use Rattle.job.specs.Cards.{Answer, Report, report_of}
 
 -- a card's report, save where its body lies: what `reader::read` reports
 abbrev pub own : Report → reader.Report

@@ -10,24 +10,22 @@ use lib.Dec.{eqb}
 use lib.ListN.{length}
 use denote.Ref.{Bor}
 use borrow.Author.Tests.{eqb-true, eqb-false}
+use Rattle.std.specs.Prelude.{Option, Some, None, Ok, Err}
 use Rattle.text.proofs.Comparing.{clash}
 use Rattle.decimal.specs.Decimal.{decimal_of}
 use Rattle.draft.specs.Grammar.{Cell}
 use Rattle.member.specs.declared.Member.{Member}
-use Rattle.member.specs.declared.Found.{Found}
-use Rattle.member.specs.declared.Found.TheVariants as found
 use Rattle.member.specs.Members.{is_struct}
-use Rattle.lookup_answer.specs.declared.Answer.{Answer}
-use Rattle.lookup_answer.specs.declared.Answer.TheVariants as answer
-use Rattle.lookup_answer.specs.Answers.{look}
+use Rattle.lookup_answer.specs.Answers.{Answer, look}
+use Rattle.lookup_answer.specs.declared.Value.TheVariants as answer
 use Rattle.choice.specs.declared.Held.{Held}
 use Rattle.choice.specs.declared.Held.TheVariants as held
 use Rattle.choice.specs.declared.Refusal.TheVariants.{NoMember}
-use Rattle.choice.specs.declared.Choice.{Choice}
-use Rattle.choice.specs.declared.Choice.TheVariants.{Card, Defaults, Refused}
-use Rattle.choice.specs.Choosing.{preferred, byte_of, choice_number, Handed}
+use Rattle.choice.specs.declared.Source.TheVariants.{Card, Defaults}
+use Rattle.choice.specs.declared.Chosen.{Chosen}
+use Rattle.choice.specs.Choosing.{Choice, text_of, preferred, byte_of, choice_number, Handed}
 use Rattle.defaults.specs.Defaults.{Source, numbered_text, found_text, held_in, unless, structs_then, row_in, is_writable, chosen}
-use Rattle.sources.proofs.Asking.{decimal_other, Agrees, agrees, card_of, card_by, defaults_of, defaults_by, unchanged, Some, of_card, of_defaults_lem, past_refusals}
+use Rattle.sources.proofs.Asking.{decimal_other, Agrees, agrees, card_of, card_by, defaults_of, defaults_by, unchanged, Given, a_choice, past_refusals}
 use Rattle.meant.specs.Meant.{Meaning, Answers, whole_number, yes_or_no, decimal, text, datetime, binary, array, struct, other, Said, no_member, this_member, later_member, Answered, in_struct, no_struct}
 use Rattle.demands_writing.proofs.Writing.{Words, form_derived, judged}
 use Rattle.demands_lookups.specs.Asked.{looked, Has, Without, kind_in}
@@ -50,7 +48,7 @@ module _ (card defaults : Source) (key : List ℕ) where
   their_agrees = agrees (row_in defaults) defaults.text defaults.rows defaults.row key
 
   -- a text is chosen only if both are fit, and then as one is preferred to the other
-  fit : {c : Choice} → Some c → chosen card defaults key ≡ c → Fit card × Fit defaults × (preferred own theirs ≡ c)
+  fit : {c : Choice} → Given c → chosen card defaults key ≡ c → Fit card × Fit defaults × (preferred own theirs ≡ c)
   unfolding chosen structs_then
   fit i e =
       let h =
@@ -63,18 +61,18 @@ module _ (card defaults : Source) (key : List ℕ) where
 
   module _ {o n : ℕ} where
     -- THE CARD'S. The text is the card's exactly if both are fit and E5's lookup in the card answers with that text.
-    pub card_text : (chosen card defaults key ≡ Card o n) ↔ (Fit card × Fit defaults × (looked card key ≡ answer.Text o n))
+    pub card_text : (chosen card defaults key ≡ text_of Card o n) ↔ (Fit card × Fit defaults × (looked card key ≡ Ok (answer.Text o n)))
     card_text = (
-      λ e. let h = fit of_card e in (h.0, h.1, looks card key h.0.writes ∙ card_by theirs own_agrees h.2),
+      λ e. let h = fit a_choice e in (h.0, h.1, looks card key h.0.writes ∙ card_by theirs own_agrees h.2),
       λ (f, g, e). fit_chosen f g ∙ card_of theirs own_agrees (sym (looks card key f.writes) ∙ e),
     )
 
     -- THE DEFAULTS'. It is the defaults' exactly if both are fit, the card's Struct lacks the key, and E5's lookup in the defaults answers with it.
     pub defaults_text :
-        Words card.table → (chosen card defaults key ≡ Defaults o n) ↔ (Fit card × Fit defaults × Without card key × (looked defaults key ≡ answer.Text o n))
+        Words card.table → (chosen card defaults key ≡ text_of Defaults o n) ↔ (Fit card × Fit defaults × Without card key × (looked defaults key ≡ Ok (answer.Text o n)))
     defaults_text w = (
       λ e.
-          let h = fit of_defaults_lem e in
+          let h = fit a_choice e in
           let i = defaults_by own_agrees their_agrees h.2 in
           (h.0, h.1, found_without card h.0.writes w key i.0, looks defaults key h.1.writes ∙ i.1),
       λ (f, g, i, e). fit_chosen f g ∙ defaults_of own_agrees their_agrees (without_found card key i) (sym (looks defaults key g.writes) ∙ e),
@@ -86,11 +84,11 @@ pub defaults_change_nothing :
     → chosen card d key ≡ chosen card d' key
 unfolding chosen structs_then
 defaults_change_nothing card key {m} has e w d d' f f' =
-    let there : found_in card key ≡ found.Absent → ⊥ = λ i. found_without card e w key i m has in
+    let there : found_in card key ≡ None → ⊥ = λ i. found_without card e w key i m has in
     rw (f.writes, f'.writes, f.structs, f'.structs, unchanged (theirs card d key) (theirs card d' key) (own_agrees card d key) there)
 
 -- INSIDE. A text that is handed out lies wholly in the bytes of the one that it is of.
-value_inside : {s : List ℕ} {r o n : ℕ} {cs : List Cell} {a : Answer} → Answers s r cs a → a ≡ answer.Text o n → o + n ≤ length s
+value_inside : {s : List ℕ} {r o n : ℕ} {cs : List Cell} {a : Answer} → Answers s r cs a → a ≡ Ok (answer.Text o n) → o + n ≤ length s
 value_inside whole_number e = let z : ◌≡◌ {A = ℕ} 0 1 = cc in absurd (omega arith)
 value_inside yes_or_no e = let z : ◌≡◌ {A = ℕ} 0 1 = cc in absurd (omega arith)
 value_inside (decimal {t = t}) e = absurd (decimal_other (decimal_of t) e)
@@ -101,16 +99,16 @@ value_inside array e = let z : ◌≡◌ {A = ℕ} 0 1 = cc in absurd (omega ari
 value_inside struct e = let z : ◌≡◌ {A = ℕ} 0 1 = cc in absurd (omega arith)
 value_inside other e = let z : ◌≡◌ {A = ℕ} 0 1 = cc in absurd (omega arith)
 
-said_inside : {s key : List ℕ} {r o n : ℕ} {ms : List Meaning} {a : Answer} → Said s key r ms a → a ≡ answer.Text o n → o + n ≤ length s
+said_inside : {s key : List ℕ} {r o n : ℕ} {ms : List Meaning} {a : Answer} → Said s key r ms a → a ≡ Ok (answer.Text o n) → o + n ≤ length s
 said_inside no_member e = let z : ◌≡◌ {A = ℕ} 0 1 = cc in absurd (omega arith)
 said_inside (this_member k h) e = value_inside h e
 said_inside (later_member k h) e = said_inside h e
 
-answered_inside : {s key : List ℕ} {cells : List Cell} {r o n : ℕ} {a : Answer} → Answered s cells r key a → a ≡ answer.Text o n → o + n ≤ length s
+answered_inside : {s key : List ℕ} {cells : List Cell} {r o n : ℕ} {a : Answer} → Answered s cells r key a → a ≡ Ok (answer.Text o n) → o + n ≤ length s
 answered_inside (in_struct st h) e = said_inside h e
 answered_inside (no_struct h i) e = let z : ◌≡◌ {A = ℕ} 0 1 = cc in absurd (omega arith)
 
-looked_inside : (c : Source) (key : List ℕ) {o n : ℕ} → Words c.table → is_writable c ≡ true → looked c key ≡ answer.Text o n → o + n ≤ length c.text
+looked_inside : (c : Source) (key : List ℕ) {o n : ℕ} → Words c.table → is_writable c ≡ true → looked c key ≡ Ok (answer.Text o n) → o + n ≤ length c.text
 looked_inside c key w e i =
     answered_inside (table_says c.table c.rows c.text e (form_derived 32 c.table c.rows c.text (sym (judged c.table c.rows c.text) ∙ e) w) c.row key) i
 
@@ -118,31 +116,30 @@ looked_inside c key w e i =
 -- names the card.
 module _ (card defaults : Source) (key : List ℕ) {s d r : Bor (List ℕ)} {number from : ℕ} (h : Handed s d (chosen card defaults key) r number from) where
   pub card_part :
-      Words card.table → s.now ≡ card.text → {o n : ℕ} → chosen card defaults key ≡ Card o n → Lies s o n r × (number ≡ 0) × (from ≡ 0)
+      Words card.table → s.now ≡ card.text → {o n : ℕ} → chosen card defaults key ≡ text_of Card o n → Lies s o n r × (number ≡ 0) × (from ≡ 0)
   card_part w t {o} {n} e =
       let f = (card_text card defaults key).0 e in
       let i : o + n ≤ length s.now = rw t (looked_inside card key w f.0.writes f.2) in
       let m : min o (length s.now) ≡ o = omega arith in
-      let g : Handed s d (Card o n) r number from = rw e at h in
+      let g : Handed s d (text_of Card o n) r number from = rw e at h in
       (record { inside = i; bytes = g.gives.bytes; first = g.gives.lies ∙ ap (byte_of s) m }, g.says, g.names)
 
   pub defaults_part :
-      Words card.table → Words defaults.table → d.now ≡ defaults.text → {o n : ℕ} → chosen card defaults key ≡ Defaults o n
+      Words card.table → Words defaults.table → d.now ≡ defaults.text → {o n : ℕ} → chosen card defaults key ≡ text_of Defaults o n
       → Lies d o n r × (number ≡ 0) × (from ≡ 1)
   defaults_part w w' t {o} {n} e =
       let f = (defaults_text card defaults key w).0 e in
       let i : o + n ≤ length d.now = rw t (looked_inside defaults key w' f.1.writes f.3) in
       let m : min o (length d.now) ≡ o = omega arith in
-      let g : Handed s d (Defaults o n) r number from = rw e at h in
+      let g : Handed s d (text_of Defaults o n) r number from = rw e at h in
       (record { inside = i; bytes = g.gives.bytes; first = g.gives.lies ∙ ap (byte_of d) m }, g.says, g.names)
 
   pub refused_part : (number ≡ 0 → ⊥) → (r.now ≡ []) × (r.ref_ptr ≡ byte_of s 0) × (from ≡ 0)
   refused_part n = go (chosen card defaults key) h
     where
       go : (c : Choice) → Handed s d c r number from → (r.now ≡ []) × (r.ref_ptr ≡ byte_of s 0) × (from ≡ 0)
-      go (Card o k) g = absurd (n g.says)
-      go (Defaults o k) g = absurd (n g.says)
-      go (Refused why) g =
+      go (Ok part) g = absurd (n g.says)
+      go (Err why) g =
           let m : min 0 (length s.now) ≡ 0 = omega arith in
           (g.gives.bytes, g.gives.lies ∙ ap (byte_of s) m, g.names)
 
@@ -163,9 +160,9 @@ held_is c key e w = go (found_in c key) refl
     kind m h true i = a_string m h (eqb-true (kind_in c m) 11 i)
     kind m h false i = no_string m h (eqb-false (kind_in c m) 11 i)
 
-    go : (f : Found) → found_in c key ≡ f → HeldIs c key (found_text (row_in c) f)
-    go (found.At m) i = kind m (has_by c key i) (eqb (kind_in c m) 11) refl
-    go found.Absent i = lacks (found_without c e w key i)
+    go : (f : Option Member) → found_in c key ≡ f → HeldIs c key (found_text (row_in c) f)
+    go (Some m) i = kind m (has_by c key i) (eqb (kind_in c m) 11) refl
+    go None i = lacks (found_without c e w key i)
 
 module _ (card defaults : Source) (key : List ℕ) (w : Words card.table) (w' : Words defaults.table) where
   -- the number, and why

@@ -20,7 +20,7 @@ use Rattle.member.specs.declared.Member.{Member}
 use Rattle.member.specs.Members.{is_struct, members, is_among}
 use Rattle.member.proofs.Apart.{Apart, apart_half}
 use Rattle.order.specs.ByteOrder.{compared}
-use Rattle.order.specs.declared.Relation.TheVariants.{Before}
+use Rattle.std.proofs.Common.{Less}
 use Rattle.order.proofs.Ordering.{compared_self, before_equal}
 use Rattle.lookup_answer.specs.declared.Report.{Report}
 use Rattle.lookup_answer.specs.Answers.{lookup}
@@ -110,7 +110,7 @@ module _ (T : List ℕ) (rows : ℕ) (s : List ℕ) (e : writable T rows s ≡ t
     filled_all m h = rw is (index.member_placed (room_of 4096 (length T)) row rows s its stand (omega arith) most within n filled_room m h)
 
     -- IN BYTE ORDER: the key of each is before the key of every later one, so none is named twice;
-    pub filled_sorted : (i j : ℕ) → i < j → j < length its → compared (text_of s (row (get_or es i unused).key)) (text_of s (row (get_or es j unused).key)) ≡ Before
+    pub filled_sorted : (i j : ℕ) → i < j → j < length its → compared (text_of s (row (get_or es i unused).key)) (text_of s (row (get_or es j unused).key)) ≡ Less
     filled_sorted i j h l =
         let c = index.sorted_count (room_of 4096 (length T)) row rows s its stand (omega arith) most within in
         rw (

@@ -12,10 +12,11 @@ use lib.IntN.{pos}
 use lib.Ieee.{Float, binary64, of_int, div}
 use lib.Ieee.Exact.{HasValue}
 use borrow.Author.Tests.{le-leb, lt-leb, leb-true}
+use Rattle.std.specs.Prelude.{Ok, Err}
 use Rattle.text.specs.Texts.{same}
 use Rattle.text.proofs.Comparing.{both}
 use Rattle.lexical.specs.Grammar.{Digits, Sign}
-use Rattle.decimal.specs.declared.Decimal.TheVariants.{Value}
+use Rattle.std.proofs.Common.{Ok}
 use Rattle.decimal.specs.Digits.{digits_of, significant, whole, places}
 use Rattle.decimal.specs.Decimal.{power, quotient, signed, held, decimal_of, nearest_to}
 use Rattle.decimal.proofs.Powers as powers
@@ -38,12 +39,10 @@ use Rattle.member.specs.declared.Member.{Member}
 use Rattle.member.specs.Members.{members, keys_of}
 use Rattle.lookup_answer.specs.declared.Refusal as Why
 use Rattle.lookup_answer.specs.declared.Refusal.TheVariants.{NotWritable, TooManyDigits}
-use Rattle.lookup_answer.specs.declared.Answer.TheVariants.{Decimal, Refused}
-use Rattle.lookup_answer.specs.Answers.{lookup}
+use Rattle.lookup_answer.specs.declared.Value.TheVariants.{Decimal}
+use Rattle.lookup_answer.specs.Answers.{lookup, decimal_answer}
 use Rattle.lookup_answer.specs.Reports.{plus_zero}
-use Rattle.placing.specs.declared.Outcome.TheVariants as outcome
 use Rattle.placing.specs.Placing.{at, accepted_at, refused_with, position}
-use Rattle.lookup_answer.specs.Answers.{decimal_answer}
 use Rattle.placing.proofs.Together.{accepted_of, accepted_by, zeros_of, unwritable_of}
 use Rattle.meant.specs.Parts.{values, Parts}
 use Rattle.meant.proofs.Parting.{double_parts}
@@ -55,7 +54,7 @@ use Rattle.demands_reading.specs.Members.{Distinct}
 use Rattle.demands_writing.proofs.Writing.{Words, Octets, form_derived, judged, read_rows, read_writable}
 
 -- UNWRITABLE first: an unwritable table is refused with 11, and one whose text bytes are too many is unwritable.
-pub unwritable_first : (T : List ℕ) (rows : ℕ) (s : List ℕ) (r : ℕ) (key : List ℕ) → writable T rows s ≡ false → lookup T rows s r key ≡ Refused NotWritable
+pub unwritable_first : (T : List ℕ) (rows : ℕ) (s : List ℕ) (r : ℕ) (key : List ℕ) → writable T rows s ≡ false → lookup T rows s r key ≡ Err NotWritable
 unfolding lookup
 unwritable_first T rows s r key e = rw e
 
@@ -115,7 +114,7 @@ module _ (T : List ℕ) (rows : ℕ) (s : List ℕ) (e : writable T rows s ≡ t
 pub powers_exact : (k : ℕ) → k ≤ 22 → HasValue (power k) false (10 ^ k) 1
 powers_exact k h = powers.power_exact k h
 
-pub decimals_nearest : (t : List ℕ) → held t ≡ true → decimal_of t ≡ Value (nearest_to t)
+pub decimals_nearest : (t : List ℕ) → held t ≡ true → decimal_of t ≡ Ok (nearest_to t)
 decimals_nearest t e = nearest.nearest t e
 
 -- Of a Double, as the grammar derives it, the digits that count are those before and after the point, its places those after it, and its sign is minus
@@ -140,7 +139,7 @@ module _ {sign before fraction t : List ℕ} (p : Parts sign before fraction t) 
   pub held_value :
       held t ≡ true
       → decimal_of t
-      ≡ Value (signed (same sign (code "-" ∷ [])) (div binary64 (of_int binary64 (pos (whole 0 (significant (values (before ++ fraction)))))) (power (length fraction))))
+      ≡ Ok (signed (same sign (code "-" ∷ [])) (div binary64 (of_int binary64 (pos (whole 0 (significant (values (before ++ fraction)))))) (power (length fraction))))
   unfolding decimal_of quotient
   held_value e = rw (e, p.digits, p.after, p.minus)
 
@@ -148,14 +147,14 @@ module _ {sign before fraction t : List ℕ} (p : Parts sign before fraction t) 
 pub position_accepted :
     (T : List ℕ) (rows : ℕ) (s : List ℕ) (r : ℕ) (x y turn : Float)
     → (position T rows s r ≡ accepted_at (at x y turn))
-    ↔ ((lookup T rows s r (bytes "x") ≡ Decimal x) × (lookup T rows s r (bytes "y") ≡ Decimal y) × (lookup T rows s r (bytes "turn") ≡ Decimal turn))
+    ↔ ((lookup T rows s r (bytes "x") ≡ Ok (Decimal x)) × (lookup T rows s r (bytes "y") ≡ Ok (Decimal y)) × (lookup T rows s r (bytes "turn") ≡ Ok (Decimal turn)))
 unfolding position
 position_accepted T rows s r x y turn =
     (accepted_by (lookup T rows s r (bytes "x")) (lookup T rows s r (bytes "y")) (lookup T rows s r (bytes "turn")), λ (h, i, j). rw (h, i, j) (accepted_of x y turn))
 
 -- REFUSED. A refused position is three plus zeros; with 11 if the table is unwritable.
 module _ (T : List ℕ) (rows : ℕ) (s : List ℕ) (r : ℕ) where
-  pub position_zeros : {why : Why.Refusal} → (position T rows s r).outcome ≡ outcome.Refused why → (position T rows s r).position ≡ at plus_zero plus_zero plus_zero
+  pub position_zeros : {why : Why.Refusal} → (position T rows s r).outcome ≡ Err why → (position T rows s r).position ≡ at plus_zero plus_zero plus_zero
   unfolding position
   position_zeros e = zeros_of (lookup T rows s r (bytes "x")) (lookup T rows s r (bytes "y")) (lookup T rows s r (bytes "turn")) e
 
@@ -164,6 +163,6 @@ module _ (T : List ℕ) (rows : ℕ) (s : List ℕ) (r : ℕ) where
   position_unwritable e = rw (unwritable_first T rows s r (bytes "x") e) (unwritable_of (lookup T rows s r (bytes "y")) (lookup T rows s r (bytes "turn")))
 
 -- A Double of too many digits answers 19.
-pub long_nineteen : (t : List ℕ) → held t ≡ false → decimal_answer (decimal_of t) ≡ Refused TooManyDigits
+pub long_nineteen : (t : List ℕ) → held t ≡ false → decimal_answer (decimal_of t) ≡ Err TooManyDigits
 unfolding decimal_of
 long_nineteen t e = rw e

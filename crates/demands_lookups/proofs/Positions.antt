@@ -8,17 +8,16 @@ use native.Mathlib.Omega.{arith}
 use lib.Dec.{eqb}
 use lib.Ieee.{Float}
 use borrow.Author.Tests.{eq-eqb, eqb-true}
+use Rattle.std.specs.Prelude.{Ok, Err}
 use Rattle.text.proofs.Comparing.{clash}
 use Rattle.draft.specs.Bytes.{bytes}
 use Rattle.member.specs.declared.Member.{Member}
 use Rattle.lookup_answer.specs.declared.Refusal.TheVariants as why
-use Rattle.lookup_answer.specs.declared.Answer.{Answer}
+use Rattle.lookup_answer.specs.Answers.{Answer}
 use Rattle.lookup_answer.specs.Reports.{plus_zero}
-use Rattle.placing.specs.declared.Outcome.{Outcome}
-use Rattle.placing.specs.declared.Outcome.TheVariants as outcome
 use Rattle.placing.specs.declared.Position.{Position}
 use Rattle.placing.specs.declared.Placed.{Placed}
-use Rattle.placing.specs.Placing.{coordinate_number, coordinate_value, outcome_number, at, accepted_at, refused_with, is_any, together, settled, position}
+use Rattle.placing.specs.Placing.{Outcome, coordinate_number, coordinate_value, outcome_number, at, accepted_at, refused_with, is_any, together, settled, position}
 use Rattle.defaults.specs.Defaults.{Source, is_writable}
 use Rattle.demands_writing.proofs.Writing.{Words}
 use Rattle.demands_lookups.specs.Asked.{looked, placed, placed_number, Has, kind_in, value_text, Yields, integer, boolean, double, long_double, string, datetime, binary, array, struct, other, absent, NoDouble, missing, wrong_sort, IsDouble, LongDouble, DoubleOf, OneOf, for_x, for_y, for_turn, AllOf}
@@ -284,5 +283,5 @@ module _ (c : Source) (w : Words c.table) where
   refused_zeros n = go (placed c).outcome refl
     where
       go : (o : Outcome) → (placed c).outcome ≡ o → (placed c).position ≡ at plus_zero plus_zero plus_zero
-      go outcome.Accepted h = absurd (n (ap outcome_number h))
-      go (outcome.Refused why) h = position_zeros c.table c.rows c.text c.row h
+      go (Ok done) h = absurd (n (ap outcome_number h))
+      go (Err why) h = position_zeros c.table c.rows c.text c.row h

@@ -8,9 +8,10 @@ use Prim.Native.Nat.{ℕ, ◌+◌}
 use native.Mathlib.Omega.{arith}
 use lib.Ieee.{Float}
 use borrow.Author.Tests.{eq-eqb}
+use Rattle.std.specs.Prelude.{Option, Some, None, Ok, Err}
 use Rattle.text.proofs.Comparing.{clash, same_is}
-use Rattle.decimal.specs.declared.Decimal as D
-use Rattle.decimal.specs.declared.Decimal.TheVariants.{Value, TooManyDigits}
+use Rattle.std.proofs.Common.{Ok, Err}
+use Rattle.decimal.specs.Decimal as D
 use Rattle.decimal.specs.Decimal.{held, decimal_of}
 use Rattle.draft.specs.declared.Row.{Row}
 use Rattle.draft.specs.Rows.{item_of}
@@ -19,14 +20,11 @@ use Rattle.draft.specs.Written.{rows_of}
 use Rattle.exact.proofs.Realising.{counts}
 use Rattle.written.proofs.Concluding.{rows_length}
 use Rattle.member.specs.declared.Member.{Member}
-use Rattle.member.specs.declared.Found.{Found}
-use Rattle.member.specs.declared.Found.TheVariants.{At, Absent}
 use Rattle.member.specs.Members.{members, has_key, find, same_member, is_among}
 use Rattle.member.proofs.Apart.{Apart}
 use Rattle.lookup_answer.specs.declared.Refusal.TheVariants as why
-use Rattle.lookup_answer.specs.declared.Answer.{Answer}
-use Rattle.lookup_answer.specs.declared.Answer.TheVariants as answer
-use Rattle.lookup_answer.specs.Answers.{decimal_answer, answer_at, found_answer, look, lookup}
+use Rattle.lookup_answer.specs.Answers.{Answer, decimal_answer, answer_at, found_answer, look, lookup}
+use Rattle.lookup_answer.specs.declared.Value.TheVariants as answer
 use Rattle.index_search.proofs.Members.{of_key_row, found_at}
 use Rattle.defaults.specs.Defaults.{Source, row_in, is_writable}
 use Rattle.meant.proofs.Saying.{standing}
@@ -46,31 +44,31 @@ or_true true = refl
 or_true false = refl
 
 found_has :
-    (row : ℕ → Row) (s key : List ℕ) (ms : List Member) {m : Member} → find row s key ms ≡ At m
+    (row : ℕ → Row) (s key : List ℕ) (ms : List Member) {m : Member} → find row s key ms ≡ Some m
     → (is_among m ms ≡ true) × (text_of s (row m.key) ≡ key)
 unfolding find is_among has_key
 found_has row s key [] e = let z : ◌≡◌ {A = ℕ} 0 1 = cc in absurd (omega arith)
 found_has row s key (x ∷ ms) {m} e = go (has_key row s key x.key) refl e (λ h. found_has row s key ms h)
   where
-    go : (b : Bool) → has_key row s key x.key ≡ b → cond b (At x) (find row s key ms) ≡ At m
-        → (find row s key ms ≡ At m → (is_among m ms ≡ true) × (text_of s (row m.key) ≡ key))
+    go : (b : Bool) → has_key row s key x.key ≡ b → cond b (Some x) (find row s key ms) ≡ Some m
+        → (find row s key ms ≡ Some m → (is_among m ms ≡ true) × (text_of s (row m.key) ≡ key))
         → (same_member x m || is_among m ms ≡ true) × (text_of s (row m.key) ≡ key)
     go true h f more = let g : x ≡ m = cc in rw (← g) (rw (same_self x), same_is (text_of s (row x.key)) key h)
     go false h f more = let w = more f in (rw w.0 (or_true (same_member x m)), w.1)
 
 -- the Struct's member with a key by the search from the front, or that it lacks the key
-abbrev pub found_in : Source → List ℕ → Found
+abbrev pub found_in : Source → List ℕ → Option Member
 found_in c key = find (row_in c) c.text key (its_members c)
 
-pub has_by : (c : Source) (key : List ℕ) {m : Member} → found_in c key ≡ At m → Has c key m
+pub has_by : (c : Source) (key : List ℕ) {m : Member} → found_in c key ≡ Some m → Has c key m
 has_by c key e = let h = found_has (row_in c) c.text key (its_members c) e in record { among = h.0; named = h.1 }
 
-pub without_found : (c : Source) (key : List ℕ) → Without c key → found_in c key ≡ Absent
+pub without_found : (c : Source) (key : List ℕ) → Without c key → found_in c key ≡ None
 without_found c key n = go (found_in c key) refl
   where
-    go : (f : Found) → found_in c key ≡ f → found_in c key ≡ Absent
-    go (At m) i = absurd (n m (has_by c key i))
-    go Absent i = i
+    go : (f : Option Member) → found_in c key ≡ f → found_in c key ≡ None
+    go (Some m) i = absurd (n m (has_by c key i))
+    go None i = i
 
 -- a row that is no Struct has no members
 pub missing_without : (c : Source) (key : List ℕ) → Missing c key → Without c key
@@ -88,7 +86,7 @@ found_answers c key e = looks c key e
 
 -- ---- a value's row answers by its kind
 
-long_by : (t : List ℕ) → decimal_of t ≡ TooManyDigits → held t ≡ false
+long_by : (t : List ℕ) → decimal_of t ≡ D.too_many → held t ≡ false
 unfolding decimal_of
 long_by t e = go (held t) refl
   where
@@ -97,8 +95,8 @@ long_by t e = go (held t) refl
     go false h = h
 
 double_yields : (c : Source) (m : Member) → kind_in c m ≡ 6 → (d : D.Decimal) → decimal_of (value_text c m) ≡ d → Yields c m (decimal_answer d)
-double_yields c m k (Value x) e = double k e
-double_yields c m k TooManyDigits e = long_double k (long_by (value_text c m) e)
+double_yields c m k (Ok x) e = double k e
+double_yields c m k (Err x) e = long_double k (long_by (value_text c m) e)
 
 value_yields : (c : Source) (m : Member) {k : ℕ} → ValueKind k → kind_in c m ≡ k → Yields c m (answer_at (row_in c) c.text m.value)
 unfolding answer_at item_of
@@ -130,18 +128,18 @@ module _ (c : Source) (e : is_writable c ≡ true) (w : Words c.table) where
       (sym (counts g.meaning) ∙ rows_length 4096 c.table c.rows) g.derived c.row
 
   module _ (key : List ℕ) where
-    pub has_found : {m : Member} → Has c key m → found_in c key ≡ At m
+    pub has_found : {m : Member} → Has c key m → found_in c key ≡ Some m
     has_found {m} h =
         let u = of_key_row apart m h.among in
         found_at (row_in c) c.text apart key (distinct_members c.table c.rows c.text e w c.row) m.key u.there h.named
-        ∙ ap At (sym u.is)
+        ∙ ap Some (sym u.is)
 
-    pub found_without : found_in c key ≡ Absent → Without c key
-    found_without i m h = let f : At m ≡ Absent = sym (has_found h) ∙ i in let z : ◌≡◌ {A = ℕ} 0 1 = cc in omega arith
+    pub found_without : found_in c key ≡ None → Without c key
+    found_without i m h = let f : Some m ≡ None = sym (has_found h) ∙ i in let z : ◌≡◌ {A = ℕ} 0 1 = cc in omega arith
 
     -- THE ONLY ONE: no two members have the key
     pub only_one : {m m' : Member} → Has c key m → Has c key m' → m ≡ m'
-    only_one {m} {m'} h i = let f : At m ≡ At m' = sym (has_found h) ∙ has_found i in cc
+    only_one {m} {m'} h i = let f : Some m ≡ Some m' = sym (has_found h) ∙ has_found i in cc
 
     has_answers : {m : Member} → Has c key m → looked c key ≡ answer_at (row_in c) c.text m.value
     has_answers h = found_answers c key e ∙ rw (has_found h)
@@ -157,14 +155,14 @@ module _ (c : Source) (e : is_writable c ≡ true) (w : Words c.table) where
     -- the member with the key, or that there is none
     pub data Sought : Type 0 where
       there : (m : Member) → Has c key m → Yields c m (looked c key) → Sought
-      nowhere : Without c key → looked c key ≡ answer.Refused why.NoMember → Sought
+      nowhere : Without c key → looked c key ≡ Err why.NoMember → Sought
 
     pub sought : Sought
     sought = go (found_in c key) refl
       where
-        go : (f : Found) → found_in c key ≡ f → Sought
-        go (At m) h = let i = has_by c key h in there m i (yields i)
-        go Absent h = nowhere (found_without h) (found_answers c key e ∙ rw h)
+        go : (f : Option Member) → found_in c key ≡ f → Sought
+        go (Some m) h = let i = has_by c key h in there m i (yields i)
+        go None h = nowhere (found_without h) (found_answers c key e ∙ rw h)
 
 -- ---- the numbers
 
@@ -181,7 +179,7 @@ yields_told (array k) = inl refl
 yields_told (struct k) = inl refl
 yields_told (other k) = inl refl
 
-decimal_by : {c : Source} {m : Member} {a : Answer} {x : Float} → Yields c m a → a ≡ answer.Decimal x → (kind_in c m ≡ 6) × (decimal_of (value_text c m) ≡ Value x)
+decimal_by : {c : Source} {m : Member} {a : Answer} {x : Float} → Yields c m a → a ≡ Ok (answer.Decimal x) → (kind_in c m ≡ 6) × (decimal_of (value_text c m) ≡ Ok x)
 decimal_by (integer k) e = let z : ◌≡◌ {A = ℕ} 0 1 = cc in absurd (omega arith)
 decimal_by (boolean k) e = let z : ◌≡◌ {A = ℕ} 0 1 = cc in absurd (omega arith)
 decimal_by (double k h) e = (k, cc)
@@ -243,7 +241,7 @@ module _ (c : Source) (w : Words c.table) (key : List ℕ) where
       from e n (long z f l) = absurd (n l.double.member l.double.has)
       from e n (fine z f m i) = absurd (n m i)
 
-  pub long_answers : is_writable c ≡ true → LongDouble c key → looked c key ≡ answer.Refused why.TooManyDigits
+  pub long_answers : is_writable c ≡ true → LongDouble c key → looked c key ≡ Err why.TooManyDigits
   long_answers e l =
       let d = l.double in
       double_answers c e w key d.has d.kind ∙ rw d.text (long_nineteen l.text l.long)
@@ -259,12 +257,12 @@ module _ (c : Source) (w : Words c.table) (key : List ℕ) where
       to h (fine z e m i) = absurd (omega arith)
 
   -- a decimal exactly if the table is writable and the member with the key is a Double of that decimal
-  pub decimal_exactly : {x : Float} → (looked c key ≡ answer.Decimal x) ↔ ((is_writable c ≡ true) × DoubleOf c key x)
+  pub decimal_exactly : {x : Float} → (looked c key ≡ Ok (answer.Decimal x)) ↔ ((is_writable c ≡ true) × DoubleOf c key x)
   decimal_exactly {x} = (λ h. to h (is_writable c) refl, λ (e, d). from e d)
     where
-      to : looked c key ≡ answer.Decimal x → (b : Bool) → is_writable c ≡ b → (is_writable c ≡ true) × DoubleOf c key x
+      to : looked c key ≡ Ok (answer.Decimal x) → (b : Bool) → is_writable c ≡ b → (is_writable c ≡ true) × DoubleOf c key x
       to h false e =
-          let f : answer.Refused why.NotWritable ≡ answer.Decimal x = sym (unwritable_first c.table c.rows c.text c.row key e) ∙ h in
+          let f : Err why.NotWritable ≡ Ok (answer.Decimal x) = sym (unwritable_first c.table c.rows c.text c.row key e) ∙ h in
           let z : ◌≡◌ {A = ℕ} 0 1 = cc in absurd (omega arith)
       to h true e = (e, by (sought c e w key))
         where
@@ -272,7 +270,7 @@ module _ (c : Source) (w : Words c.table) (key : List ℕ) where
           by (there m i y) =
               let g = decimal_by y h in
               record { text = value_text c m; double = record { member = m; has = i; kind = g.0; text = refl }; value = g.1 }
-          by (nowhere n f) = let g : answer.Refused why.NoMember ≡ answer.Decimal x = sym f ∙ h in let z : ◌≡◌ {A = ℕ} 0 1 = cc in absurd (omega arith)
+          by (nowhere n f) = let g : Err why.NoMember ≡ Ok (answer.Decimal x) = sym f ∙ h in let z : ◌≡◌ {A = ℕ} 0 1 = cc in absurd (omega arith)
 
-      from : is_writable c ≡ true → DoubleOf c key x → looked c key ≡ answer.Decimal x
+      from : is_writable c ≡ true → DoubleOf c key x → looked c key ≡ Ok (answer.Decimal x)
       from e d = double_answers c e w key d.double.has d.double.kind ∙ rw (d.double.text, d.value)

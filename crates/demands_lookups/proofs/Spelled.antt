@@ -14,11 +14,11 @@ use borrow.Author.Tests.{lt-ltb, le-ltb, ltb-true, ltb-false, eqb-true, ne_eqb}
 use Rattle.text.specs.Texts.{same}
 use Rattle.lexical.specs.Digits.{digit_value}
 use Rattle.lexical.specs.Grammar.{Sign, none, plus, minus}
-use Rattle.decimal.specs.declared.Decimal.TheVariants.{Value}
+use Rattle.std.proofs.Common.{Ok}
 use Rattle.decimal.specs.Digits.{significant, whole}
 use Rattle.decimal.specs.Decimal.{power, held, decimal_of}
 use Rattle.decimal.specs.Decimal as decimal
-use Rattle.order.specs.declared.Relation.TheVariants.{Before, After}
+use Rattle.std.proofs.Common.{Less, Greater}
 use Rattle.order.specs.ByteOrder.{compared}
 use Rattle.order.proofs.Ordering.{before_equal, before_after}
 use Rattle.lookup_answer.specs.Answers.{signed}
@@ -99,25 +99,25 @@ module _ {sign before fraction t : List ℕ} (p : Parts sign before fraction t) 
 
   module _ {n : ℕ} (w : WholeNumber (before ++ fraction) n) (e : held t ≡ true) where
     -- without a minus the value is the quotient,
-    pub value_plain : Sign sign → (sign ≡ code "-" ∷ [] → ⊥) → decimal_of t ≡ Value (div binary64 (of_int binary64 (pos n)) (power (length fraction)))
+    pub value_plain : Sign sign → (sign ≡ code "-" ∷ [] → ⊥) → decimal_of t ≡ Ok (div binary64 (of_int binary64 (pos n)) (power (length fraction)))
     unfolding decimal.signed
     value_plain g m = rw (no_minus g m, counts w) at (held_value p e)
 
     -- with one it is negated
-    pub value_minus : sign ≡ code "-" ∷ [] → decimal_of t ≡ Value (neg (div binary64 (of_int binary64 (pos n)) (power (length fraction))))
+    pub value_minus : sign ≡ code "-" ∷ [] → decimal_of t ≡ Ok (neg (div binary64 (of_int binary64 (pos n)) (power (length fraction))))
     unfolding decimal.signed same
     value_minus m = rw (m, counts w) at (held_value p e)
 
 -- ---- byte order
 
-pub bytes_before : (s t : List ℕ) → compared s t ≡ Before → BytesBefore s t
+pub bytes_before : (s t : List ℕ) → compared s t ≡ Less → BytesBefore s t
 unfolding compared
 bytes_before [] [] e = before_equal e refl
 bytes_before [] (c ∷ t) e = ends_first
 bytes_before (b ∷ s) [] e = before_after e refl
 bytes_before (b ∷ s) (c ∷ t) e = go (bytes_before s t) (ltb b c) refl (ltb c b) refl e
   where
-    go : (compared s t ≡ Before → BytesBefore s t) → (p : Bool) → ltb b c ≡ p → (q : Bool) → ltb c b ≡ q → cond p Before (cond q After (compared s t)) ≡ Before
+    go : (compared s t ≡ Less → BytesBefore s t) → (p : Bool) → ltb b c ≡ p → (q : Bool) → ltb c b ≡ q → cond p Less (cond q Greater (compared s t)) ≡ Less
         → BytesBefore (b ∷ s) (c ∷ t)
     go ih true f q g e = smaller_byte (ltb-true b c f)
     go ih false f true g e = before_after e refl

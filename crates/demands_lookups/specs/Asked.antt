@@ -1,16 +1,14 @@
 -- What E5's answers and refusals speak of, in a table's own terms: the member of a Struct with a key, and the kind of its value. A `Source` is a table
 -- with its stated rows, its text bytes, and the row that the caller names. Assumes nothing.
-use Rattle.std.specs.Prelude.{◌≡◌, true, false, List, ℕ, eqb, Float}
-use Rattle.decimal.specs.declared.Decimal.TheVariants.{Value}
+use Rattle.std.specs.Prelude.{◌≡◌, true, false, List, ℕ, eqb, Float, Ok, Err}
 use Rattle.decimal.specs.Decimal.{held, decimal_of}
 use Rattle.draft.specs.Bytes.{bytes}
 use Rattle.draft.specs.Read.{text_of}
 use Rattle.member.specs.declared.Member.{Member}
 use Rattle.member.specs.Members.{is_struct, members, is_among}
 use Rattle.lookup_answer.specs.declared.Refusal.TheVariants.{TooManyDigits}
-use Rattle.lookup_answer.specs.declared.Answer.{Answer}
-use Rattle.lookup_answer.specs.declared.Answer.TheVariants.{Whole, Decimal, Truth, Text, Row, Refused}
-use Rattle.lookup_answer.specs.Answers.{signed, lookup}
+use Rattle.lookup_answer.specs.Answers.{Answer, signed, lookup}
+use Rattle.lookup_answer.specs.declared.Value.TheVariants.{Whole, Decimal, Truth, Text, Row}
 use Rattle.lookup_answer.specs.Reports.{report_of}
 use Rattle.placing.specs.declared.Placed.{Placed}
 use Rattle.placing.specs.Placing.{outcome_number, position}
@@ -56,16 +54,16 @@ value_text c m = text_of c.text (row_in c m.value)
 
 -- 'a whole number, a decimal, a yes or no, a text, or another item's row', by the kind of the member's value; of a Double with too many digits, why not
 pub data Yields (c : Source) (m : Member) : Answer → Type 0 where
-  integer : kind_in c m ≡ 4 → Yields c m (Whole (signed (row_in c m.value).a))
-  boolean : kind_in c m ≡ 5 → Yields c m (Truth (eqb (row_in c m.value).a 1))
-  double : {x : Float} → kind_in c m ≡ 6 → decimal_of (value_text c m) ≡ Value x → Yields c m (Decimal x)
-  long_double : kind_in c m ≡ 6 → held (value_text c m) ≡ false → Yields c m (Refused TooManyDigits)
-  string : kind_in c m ≡ 11 → Yields c m (Text (row_in c m.value).a (row_in c m.value).b)
-  datetime : kind_in c m ≡ 7 → Yields c m (Row m.value)
-  binary : kind_in c m ≡ 8 → Yields c m (Row m.value)
-  array : kind_in c m ≡ 9 → Yields c m (Row m.value)
-  struct : kind_in c m ≡ 10 → Yields c m (Row m.value)
-  other : kind_in c m ≡ 12 → Yields c m (Row m.value)
+  integer : kind_in c m ≡ 4 → Yields c m (Ok (Whole (signed (row_in c m.value).a)))
+  boolean : kind_in c m ≡ 5 → Yields c m (Ok (Truth (eqb (row_in c m.value).a 1)))
+  double : {x : Float} → kind_in c m ≡ 6 → decimal_of (value_text c m) ≡ Ok x → Yields c m (Ok (Decimal x))
+  long_double : kind_in c m ≡ 6 → held (value_text c m) ≡ false → Yields c m (Err TooManyDigits)
+  string : kind_in c m ≡ 11 → Yields c m (Ok (Text (row_in c m.value).a (row_in c m.value).b))
+  datetime : kind_in c m ≡ 7 → Yields c m (Ok (Row m.value))
+  binary : kind_in c m ≡ 8 → Yields c m (Ok (Row m.value))
+  array : kind_in c m ≡ 9 → Yields c m (Ok (Row m.value))
+  struct : kind_in c m ≡ 10 → Yields c m (Ok (Row m.value))
+  other : kind_in c m ≡ 12 → Yields c m (Ok (Row m.value))
 
 -- 'a row that is no Struct, an absent member'
 pub data Missing (c : Source) (key : List ℕ) : Type 0 where
@@ -97,7 +95,7 @@ pub record LongDouble (c : Source) (key : List ℕ) : Type 0 where
 pub record DoubleOf (c : Source) (key : List ℕ) (x : Float) : Type 0 where
   pub text : List ℕ
   pub double : Double c key text
-  pub value : decimal_of text ≡ Value x
+  pub value : decimal_of text ≡ Ok x
 
 -- for one of the members asked for, and for all three
 pub data OneOf (P : List ℕ → Type 0) : Type 0 where

@@ -1,7 +1,7 @@
 -- What E8 says of filling a list and of looking a key up through one, for a source. Assumes nothing.
 use Rattle.std.specs.Prelude.{◌≡◌, List, ℕ, ◌<◌, length, get_or}
 use Rattle.member.specs.declared.Member.{Member}
-use Rattle.lookup_answer.specs.declared.Answer.{Answer}
+use Rattle.lookup_answer.specs.Answers.{Answer}
 use Rattle.seeking.specs.Seeking.{unused}
 use Rattle.index.specs.Filling.{Filled}
 use Rattle.index_search.specs.Through.{through}

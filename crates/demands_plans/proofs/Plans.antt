@@ -32,8 +32,9 @@ use Rattle.read_answer.specs.Answers.{reading, table_of, Answers}
 use Rattle.read_answer.specs.Answers as reader
 use Rattle.read_answer.proofs.Limited.{reading_within}
 use Rattle.plans.specs.Plans.{sent_at, sents_from, planned, taken}
-use Rattle.plan_writer.specs.declared.Answer.{Answer}
-use Rattle.plan_writer.specs.declared.Answer.TheVariants.{Written, Refused, NotTaken}
+use Rattle.plan_writer.specs.Answers.{Answer}
+use Rattle.std.specs.Prelude.{Ok, Err}
+use Rattle.plan_writer.specs.declared.PlanRefusal.TheVariants.{Refused, NotTaken}
 use Rattle.plan_writer.specs.Answers.{given, shorter, chosen, message_for, answer_by, answer_of, Did, report_of}
 use Rattle.prices.specs.Prices.{total, bound}
 use Rattle.certificate.specs.Certificate.{proving, certified_texts, certified}
@@ -172,26 +173,26 @@ record Passed (limit : ℕ) (T : List ℕ) (rows : ℕ) (s p : List ℕ) (room n
   pub fits : n ≤ room
 
 -- an answer behind a test
-given_written : (b : Bool) (m o : Answer) {n : ℕ} → (m ≡ Written n → ⊥) → given b m o ≡ Written n → (b ≡ true) × (o ≡ Written n)
+given_written : (b : Bool) (m o : Answer) {n : ℕ} → (m ≡ Ok n → ⊥) → given b m o ≡ Ok n → (b ≡ true) × (o ≡ Ok n)
 given_written true m o h e = (refl, e)
 given_written false m o h e = absurd (h e)
 
-never : {m : Refusal} {n : ℕ} → Refused m ≡ Written n → ⊥
+never : {m : Refusal} {n : ℕ} → Err (Refused m) ≡ Ok n → ⊥
 never e = let z : ◌≡◌ {A = ℕ} 0 1 = cc in omega arith
 
-never_taken : {n : ℕ} → NotTaken ≡ Written n → ⊥
+never_taken : {n : ℕ} → (Err NotTaken) ≡ Ok n → ⊥
 never_taken e = let z : ◌≡◌ {A = ℕ} 0 1 = cc in omega arith
 
-passed : (limit : ℕ) (T : List ℕ) (rows : ℕ) (s p : List ℕ) (room n : ℕ) → answer_of limit T rows s p room ≡ Written n → Passed limit T rows s p room n
+passed : (limit : ℕ) (T : List ℕ) (rows : ℕ) (s p : List ℕ) (room n : ℕ) → answer_of limit T rows s p room ≡ Ok n → Passed limit T rows s p room n
 unfolding answer_of answer_by message_for
 passed limit T rows s p room n e =
     let size = length (chosen s (rows_of 4096 T rows) p) in
-    let l = given_written (allowed limit) (Refused NoLimit) _ never e in
-    let a = given_written (leb (length s) 65536) (Refused TooLong) _ never l.1 in
-    let b = given_written (writable_to limit T rows s) (Refused NotWritable) _ never a.1 in
-    let t = given_written (taken p (texts_of s (rows_of 4096 T rows))) NotTaken _ never_taken b.1 in
-    let c = given_written (leb size 65536) (Refused FormTooLong) _ never t.1 in
-    let d = given_written (leb size room) (Refused OutputTooShort) _ never c.1 in
+    let l = given_written (allowed limit) (Err (Refused NoLimit)) _ never e in
+    let a = given_written (leb (length s) 65536) (Err (Refused TooLong)) _ never l.1 in
+    let b = given_written (writable_to limit T rows s) (Err (Refused NotWritable)) _ never a.1 in
+    let t = given_written (taken p (texts_of s (rows_of 4096 T rows))) (Err NotTaken) _ never_taken b.1 in
+    let c = given_written (leb size 65536) (Err (Refused FormTooLong)) _ never t.1 in
+    let d = given_written (leb size room) (Err (Refused OutputTooShort)) _ never c.1 in
     let i : n ≡ size = cc in
     record {
       stated = l.0;
@@ -214,7 +215,7 @@ module _ (limit : ℕ) (T : List ℕ) (rows : ℕ) (s p : List ℕ) (room : ℕ)
   long_so : {m : List ℕ} → Chosen s (rows_of 4096 T rows) p m → size ≡ length m
   long_so c = ap length (chosen_is s (rows_of 4096 T rows) p c)
 
-  accepted_so : {n : ℕ} → AcceptedFor limit T rows s p room n → answer_of limit T rows s p room ≡ Written n
+  accepted_so : {n : ℕ} → AcceptedFor limit T rows s p room n → answer_of limit T rows s p room ≡ Ok n
   unfolding answer_of answer_by
   accepted_so h =
       let l = long_so h.chosen in
@@ -237,17 +238,17 @@ module _ (limit : ℕ) (T : List ℕ) (rows : ℕ) (s p : List ℕ) (room : ℕ)
 
   refused_so : {k : ℕ} → RefusedFor limit T rows s p room k → number ≡ k
   unfolding answer_of answer_by
-  refused_so (no_limit l) = with_number (Refused NoLimit) (rw l)
-  refused_so (long_text_lem l a) = with_number (Refused TooLong) (rw (l, lt-leb (length s) 65536 a))
-  refused_so (not_writable l a b) = with_number (Refused NotWritable) (rw (l, le-leb (length s) 65536 a, b))
-  refused_so (not_taken r n) = with_number NotTaken (rw (r.0, le-leb (length s) 65536 r.1, r.2, not_taken_so r n))
+  refused_so (no_limit l) = with_number (Err (Refused NoLimit)) (rw l)
+  refused_so (long_text_lem l a) = with_number (Err (Refused TooLong)) (rw (l, lt-leb (length s) 65536 a))
+  refused_so (not_writable l a b) = with_number (Err (Refused NotWritable)) (rw (l, le-leb (length s) 65536 a, b))
+  refused_so (not_taken r n) = with_number (Err NotTaken) (rw (r.0, le-leb (length s) 65536 r.1, r.2, not_taken_so r n))
   refused_so (long_message r t c l) =
       let k : 65536 < size = omega (arith, long_so c, l) in
-      with_number (Refused FormTooLong) (rw (r.0, le-leb (length s) 65536 r.1, r.2, takes_so r t, lt-leb size 65536 k))
+      with_number (Err (Refused FormTooLong)) (rw (r.0, le-leb (length s) 65536 r.1, r.2, takes_so r t, lt-leb size 65536 k))
   refused_so (short_output r t c l f) =
       let k : size ≤ 65536 = omega (arith, long_so c, l) in
       let j : room < size = omega (arith, long_so c, f) in
-      with_number (Refused OutputTooShort) (rw (r.0, le-leb (length s) 65536 r.1, r.2, takes_so r t, le-leb size 65536 k, lt-leb size room j))
+      with_number (Err (Refused OutputTooShort)) (rw (r.0, le-leb (length s) 65536 r.1, r.2, takes_so r t, le-leb size 65536 k, lt-leb size room j))
 
   positive : {k : ℕ} → RefusedFor limit T rows s p room k → 0 < k
   positive (no_limit l) = omega arith
@@ -259,9 +260,9 @@ module _ (limit : ℕ) (T : List ℕ) (rows : ℕ) (s p : List ℕ) (room : ℕ)
 
   -- what an answer says of the call
   data Says : Answer → Type 0 where
-    accepts : {n : ℕ} → AcceptedFor limit T rows s p room n → Says (Written n)
-    refuses : {m : Refusal} → RefusedFor limit T rows s p room (number_of m) → Says (Refused m)
-    takes_not : RefusedFor limit T rows s p room 24 → Says NotTaken
+    accepts : {n : ℕ} → AcceptedFor limit T rows s p room n → Says (Ok n)
+    refuses : {m : Refusal} → RefusedFor limit T rows s p room (number_of m) → Says (Err (Refused m))
+    takes_not : RefusedFor limit T rows s p room 24 → Says (Err NotTaken)
 
   say : Says (answer_of limit T rows s p room)
   unfolding answer_of answer_by
@@ -280,9 +281,9 @@ module _ (limit : ℕ) (T : List ℕ) (rows : ℕ) (s p : List ℕ) (room : ℕ)
           (x : Bool) → allowed limit ≡ x → (a : Bool) → leb (length s) 65536 ≡ a → (b : Bool) → writable_to limit T rows s ≡ b
           → (c : Bool) → taken p (texts_of s (rows_of 4096 T rows)) ≡ c → (d : Bool) → leb size 65536 ≡ d → (f : Bool) → leb size room ≡ f
           → Says
-          (given x (Refused NoLimit)
-          (given a (Refused TooLong)
-          (given b (Refused NotWritable) (given c NotTaken (given d (Refused FormTooLong) (given f (Refused OutputTooShort) (Written size)))))))
+          (given x (Err (Refused NoLimit))
+          (given a (Err (Refused TooLong))
+          (given b (Err (Refused NotWritable)) (given c (Err NotTaken) (given d (Err (Refused FormTooLong)) (given f (Err (Refused OutputTooShort)) (Ok size)))))))
       go false z a i b j c k d l f m = refuses (no_limit z)
       go true z false i b j c k d l f m = refuses (long_text_lem z (leb-false (length s) 65536 i))
       go true z true i false j c k d l f m = refuses (not_writable z (leb-true (length s) 65536 i) j)
@@ -308,7 +309,7 @@ module _ (limit : ℕ) (T : List ℕ) (rows : ℕ) (s p out₀ out : List ℕ) {
   pub accepted_exactly : (n : ℕ) → (((report_of a).number ≡ 0) × ((report_of a).length ≡ n)) ↔ AcceptedFor limit T rows s p (length out₀) n
   accepted_exactly n = (
     λ h. there (say limit T rows s p (length out₀) w) d.says h.0 h.1,
-    λ h. let e : a ≡ Written n = d.says ∙ accepted_so limit T rows s p (length out₀) w h in rw e (refl, refl),
+    λ h. let e : a ≡ Ok n = d.says ∙ accepted_so limit T rows s p (length out₀) w h in rw e (refl, refl),
   )
     where
       there : {b : Answer} → Says limit T rows s p (length out₀) w b → a ≡ b → (report_of a).number ≡ 0 → (report_of a).length ≡ n → AcceptedFor limit T rows s p (length out₀) n
@@ -361,9 +362,9 @@ settled limit T T' rows s p out₀ out₁ out out' {a} {a'} l t d d' =
 pub refused_zeros :
     (limit : ℕ) (T : List ℕ) (rows : ℕ) (s p out₀ out : List ℕ) (a : Answer) → Did limit T rows s p out₀ out a → ((report_of a).number ≡ 0 → ⊥)
     → ((report_of a).length ≡ 0) × ((report_of a).place ≡ 0) × (out ≡ replicate (length out₀) 0)
-refused_zeros limit T rows s p out₀ out (Written n) d h = absurd (h refl)
-refused_zeros limit T rows s p out₀ out (Refused m) d h = (refl, refl, d.leaves)
-refused_zeros limit T rows s p out₀ out NotTaken d h = (refl, refl, d.leaves)
+refused_zeros limit T rows s p out₀ out (Ok n) d h = absurd (h refl)
+refused_zeros limit T rows s p out₀ out (Err (Refused m)) d h = (refl, refl, d.leaves)
+refused_zeros limit T rows s p out₀ out (Err NotTaken) d h = (refl, refl, d.leaves)
 
 -- what is derived with the meaning of so many rows is read back with a limit that is not lower, whatever follows
 derived_back :
@@ -375,8 +376,8 @@ derived_back {zs = zs} g l later f j more words h k =
     let a = complete 65536 (zs ++ more) (room_of 4096 words) later (begins_with more g.derived) h (omega (arith, i)) (omega arith) in
     record { back = a.rows; book = a.book; is = reading_within later (zs ++ more) words j ∙ a.is; as_many = counts a.meaning ∙ sym i ∙ l; same = (mean_same g.meaning a.meaning).1 refl }
 
--- a call that answered `Written n`
-module _ (limit : ℕ) (T : List ℕ) (rows : ℕ) (s p out₀ out : List ℕ) {n : ℕ} (d : Did limit T rows s p out₀ out (Written n)) where
+-- a call that answered `Ok n`
+module _ (limit : ℕ) (T : List ℕ) (rows : ℕ) (s p out₀ out : List ℕ) {n : ℕ} (d : Did limit T rows s p out₀ out (Ok n)) where
   was_accepted : Passed limit T rows s p (length out₀) n
   was_accepted = passed limit T rows s p (length out₀) n (sym d.says)
 
@@ -439,8 +440,8 @@ module _ (limit : ℕ) (T : List ℕ) (rows : ℕ) (s p out₀ out : List ℕ) {
 -- ONE MESSAGE. Meaning and plan settle the bytes, and equal bytes come only from equal meaning: two accepted calls with one plan wrote the same bytes
 -- exactly if the tables, each with its text bytes, mean the same.
 pub same_bytes :
-    (limit limit' : ℕ) (T T' : List ℕ) (rows rows' : ℕ) (s s' p out₀ out₁ out out' : List ℕ) {n n' : ℕ} → Below 4294967296 T → Below 4294967296 T' → Did limit T rows s p out₀ out (Written n)
-    → Did limit' T' rows' s' p out₁ out' (Written n') → MeanSame s s' (rows_of 4096 T rows) (rows_of 4096 T' rows') ↔ (take n out ≡ take n' out')
+    (limit limit' : ℕ) (T T' : List ℕ) (rows rows' : ℕ) (s s' p out₀ out₁ out out' : List ℕ) {n n' : ℕ} → Below 4294967296 T → Below 4294967296 T' → Did limit T rows s p out₀ out (Ok n)
+    → Did limit' T' rows' s' p out₁ out' (Ok n') → MeanSame s s' (rows_of 4096 T rows) (rows_of 4096 T' rows') ↔ (take n out ≡ take n' out')
 unfolding message_for chosen
 same_bytes limit limit' T T' rows rows' s s' p out₀ out₁ out out' w w' d d' =
     let a = was_accepted limit T rows s p out₀ out d in
@@ -495,7 +496,7 @@ module _ (T : List ℕ) (rows : ℕ) (s p prices : List ℕ) (yes : certified T 
 
   -- and so has what `plan_writer::write` writes with that plan
   pub written_shortest :
-      (limit : ℕ) (out₀ out : List ℕ) {n : ℕ} → Did limit T rows s p out₀ out (Written n) → (t : List ℕ) → Below 256 t → (room deep : ℕ) {others : List Row} {used : ℕ} {book : Book}
+      (limit : ℕ) (out₀ out : List ℕ) {n : ℕ} → Did limit T rows s p out₀ out (Ok n) → (t : List ℕ) → Below 256 t → (room deep : ℕ) {others : List Row} {used : ℕ} {book : Book}
       → message t room deep ≡ got others used book → MeanSame s t (rows_of 4096 T rows) others → (n ≤ used) × (used ≤ length t)
   written_shortest limit out₀ out d t o room deep e z =
       let h = certified_shortest t o room deep e z in

@@ -13,12 +13,11 @@ use Rattle.draft.specs.declared.Tag.{Tag}
 use Rattle.draft.specs.declared.Tag.TheVariants as tag
 use Rattle.draft.specs.declared.Plain.TheVariants as plain
 use Rattle.draft.specs.declared.Form.TheVariants.{Regular, Recorded, Recalled}
-use Rattle.draft.specs.declared.Entry.{Entry}
-use Rattle.draft.specs.declared.Entry.TheVariants.{Unset, Text}
+use Rattle.std.specs.Prelude.{Some, None}
 use Rattle.draft.specs.Bytes.{byte_at, unsigned_at, part}
 use Rattle.draft.specs.Rows.{kind_of}
 use Rattle.draft.specs.Content.{content_rule, verdict}
-use Rattle.draft.specs.Codebook.{Book}
+use Rattle.draft.specs.Codebook.{Entry, Book}
 use Rattle.draft.specs.Read.{Reading, refused, judged, leaf, opened, contents as read-contents, recalled as recalledEntry, item, value, nested}
 use Rattle.wanting.specs.Want.{fields_of, announced}
 use Rattle.exact.proofs.Completing.{value_is}
@@ -107,9 +106,9 @@ module _ (s : List ℕ) (room : ℕ) where
         → value s room deep at r book ≡ recalledEntry s room (book (byte_at s (at + 1))) at r book
     recall_there b k j = by_item (tag.String Recalled) b (omega (arith, j)) ∙ rw (lt-ltb r room k, le-leb (at + 2) (length s) j)
 
-    unset_only : (x : Entry) {m : Refusal} → recalledEntry s room x at r book ≡ refused m at → x ≡ Unset
-    unset_only Unset e = refl
-    unset_only (Text o n) e = refused_got (sym e)
+    unset_only : (x : Entry) {m : Refusal} → recalledEntry s room x at r book ≡ refused m at → x ≡ None
+    unset_only None e = refl
+    unset_only (Some y) e = refused_got (sym e)
 
     -- WITHIN AN ITEM, of whatever tag.
     pub ordered : (t : Tag) → Begun s at t → Ordered s room deep at r book t

@@ -20,8 +20,8 @@ use Rattle.lexical.proofs.Doubles.{double_exactly}
 use Rattle.lexical.proofs.DateTimes.{datetime_exactly}
 use Rattle.draft.specs.declared.Refusal.{Refusal}
 use Rattle.draft.specs.declared.Refusal.TheVariants.{Ended, WrongPrefix, UnexpectedByte, BadText, UnsetPosition, StandardName, TooDeep, NoRow, BadFault, BadValue, RepeatedKey}
-use Rattle.draft.specs.declared.Verdict.{Verdict}
-use Rattle.draft.specs.declared.Verdict.TheVariants.{Fine, Bad}
+use Rattle.draft.specs.Verdict.{Verdict}
+use Rattle.std.specs.Prelude.{Ok, Err}
 use Rattle.draft.specs.declared.Content.{Content}
 use Rattle.draft.specs.declared.Content.TheVariants as content
 use Rattle.draft.specs.declared.Tag.{Tag}
@@ -30,14 +30,14 @@ use Rattle.draft.specs.declared.Plain.{Plain}
 use Rattle.draft.specs.declared.Plain.TheVariants as plain
 use Rattle.draft.specs.declared.Form.{Form}
 use Rattle.draft.specs.declared.Form.TheVariants.{Regular, Recorded, Recalled}
-use Rattle.draft.specs.declared.Entry.{Entry}
-use Rattle.draft.specs.declared.Entry.TheVariants.{Unset, Text}
+use Rattle.std.specs.Prelude.{Some, None}
+use Rattle.draft.specs.declared.Span.{Span}
 use Rattle.draft.specs.declared.Row.{Row}
 use Rattle.draft.specs.Bytes.{byte_at, unsigned_at, part}
 use Rattle.draft.specs.Rows.{row, below, kind_of}
 use Rattle.draft.specs.Refusals.{number_of}
 use Rattle.draft.specs.Content.{content_rule, fine_if, ascii_then, bad_if, all_there, verdict, name_rule, key_rule, Held, is_fault, fault_rule}
-use Rattle.draft.specs.Codebook.{Book, clear, recorded as record-text}
+use Rattle.draft.specs.Codebook.{Entry, span, Book, clear, recorded as record-text}
 use Rattle.draft.specs.Read.{Reading, got, refused, then, judged, Reader, behind, over, leaf, pair as read-pair, Texts, items, alike, nothing as kept-nothing, tag_of, Nest, floor, under, present, opened, contents as read-contents, long_item, recalled as recalledEntry, string_item, if_string, string as read-string, only, first_text, string_by, name, key, member, keeping, counted, array_item, struct_item, plain_item, item, value, nested, call_item, held_rows, fault_struct, response_item, call_or_response, prefix, agree, message}
 use Rattle.wanting.specs.Want.{fields_of, announced, want_of}
 use Rattle.wanting.proofs.Wanting.{want_fields, want_content}
@@ -52,7 +52,7 @@ use Rattle.demands_reading.proofs.Reading.{two_members}
 -- what the codebook holds was recorded before a place
 record Booked (s : List ℕ) (at : ℕ) (book : Book) : Type 0 where
   each :
-      (p o n : ℕ) → book p ≡ Text o n
+      (p o n : ℕ) → book p ≡ Some (span o n)
       → (q : ℕ) × Whole s q (tag.String Recorded) × (q < at) × (byte_at s (q + 1) ≡ p) × (part s o n ≡ recorded_text s q)
 
 abbrev Reached : List ℕ → ℕ → Book → Type 0
@@ -71,11 +71,12 @@ unfolding record-text
 booked_more {s} {at} {to} {book} h w b = record { each = λ p o n e. go p o n (eqb p (byte_at s (at + 1))) refl e }
   where
     go :
-        (p o n : ℕ) (x : Bool) → eqb p (byte_at s (at + 1)) ≡ x → cond x (Text (at + 6) (unsigned_at s (at + 2))) (book p) ≡ Text o n
+        (p o n : ℕ) (x : Bool) → eqb p (byte_at s (at + 1)) ≡ x → cond x (Some (span (at + 6) (unsigned_at s (at + 2)))) (book p) ≡ Some (span o n)
         → (q : ℕ) × Whole s q (tag.String Recorded) × (q < to) × (byte_at s (q + 1) ≡ p) × (part s o n ≡ recorded_text s q)
     go p o n true i e =
-        let j : o ≡ at + 6 = cc in
-        let k : n ≡ unsigned_at s (at + 2) = cc in
+        let z : span (at + 6) (unsigned_at s (at + 2)) ≡ span o n = cc in
+        let j : o ≡ at + 6 = ap (λ (y : Span). y.offset) (sym z) in
+        let k : n ≡ unsigned_at s (at + 2) = ap (λ (y : Span). y.length) (sym z) in
         (at, w, h, sym (eqb-true p (byte_at s (at + 1)) i), rw (j, k) refl)
     go p o n false i e = let g = b.each p o n e in (g.0, g.1, omega (arith, h, g.2), g.3, g.4)
 
@@ -89,27 +90,27 @@ said (ends h) e = refused_got (sym e)
 said (says {m = n} {p = q} h) {m} {p} e = let i : n ≡ m = cc in let j : q ≡ p = cc in rw (i, j) at h
 
 -- the rules, by what they refuse
-fine_is : (b : Bool) (n : Refusal) {m : Refusal} → fine_if b n ≡ Bad m → (b ≡ false) × (n ≡ m)
+fine_is : (b : Bool) (n : Refusal) {m : Refusal} → fine_if b n ≡ Err m → (b ≡ false) × (n ≡ m)
 fine_is true n e = let z : ◌≡◌ {A = ℕ} 0 1 = cc in absurd (omega arith)
 fine_is false n e = (refl, cc)
 
-bad_is : (b : Bool) (n : Refusal) {m : Refusal} → bad_if b n ≡ Bad m → n ≡ m
+bad_is : (b : Bool) (n : Refusal) {m : Refusal} → bad_if b n ≡ Err m → n ≡ m
 bad_is true n e = cc
 bad_is false n e = let z : ◌≡◌ {A = ℕ} 0 1 = cc in absurd (omega arith)
 
-name_is : (t : List ℕ) {m : Refusal} → name_rule t ≡ Bad m → StandardName ≡ m
+name_is : (t : List ℕ) {m : Refusal} → name_rule t ≡ Err m → StandardName ≡ m
 unfolding name_rule
 name_is t e = bad_is (standard_name t) StandardName e
 
-key_is : (seen : Texts) (t : List ℕ) {m : Refusal} → key_rule seen t ≡ Bad m → RepeatedKey ≡ m
+key_is : (seen : Texts) (t : List ℕ) {m : Refusal} → key_rule seen t ≡ Err m → RepeatedKey ≡ m
 unfolding key_rule
 key_is seen t e = bad_is (among seen t) RepeatedKey e
 
-fault_is : (held : List Held) {m : Refusal} → fault_rule held ≡ Bad m → BadFault ≡ m
+fault_is : (held : List Held) {m : Refusal} → fault_rule held ≡ Err m → BadFault ≡ m
 unfolding fault_rule
 fault_is held e = (fine_is (is_fault held) BadFault e).1
 
-not_two : (held : List Held) {m : Refusal} → fault_rule held ≡ Bad m → TwoMembers held → ⊥
+not_two : (held : List Held) {m : Refusal} → fault_rule held ≡ Err m → TwoMembers held → ⊥
 not_two held e two = let f = (two_members held).1 two in let z : ◌≡◌ {A = ℕ} 0 1 = cc in omega (arith, z)
 
 tag_binary : tag_of (code "B") ≡ tag.Plain plain.Binary
@@ -124,7 +125,7 @@ tag_struct : tag_of (code "S") ≡ tag.Struct
 unfolding tag_of
 tag_struct = refl
 
-not_fine : {v : Verdict} {m : Refusal} → v ≡ Bad m → v ≢ Fine
+not_fine : {v : Verdict} {m : Refusal} → v ≡ Err m → v ≢ Ok tt
 not_fine e f = let z : ◌≡◌ {A = ℕ} 0 1 = cc in omega (arith, z)
 
 -- a message's bytes
@@ -148,35 +149,35 @@ module _ (s : List ℕ) where
   pick_tells false f g = g refl
 
   judged_tells :
-      (v : Verdict) (at : ℕ) {o : Reading} → Tells s o → ((m : Refusal) → v ≡ Bad m → Stands s (number_of m) at) → Tells s (judged v at o)
-  judged_tells Fine at t f = t
-  judged_tells (Bad m) at t f = says {m = m} (f m refl)
+      (v : Verdict) (at : ℕ) {o : Reading} → Tells s o → ((m : Refusal) → v ≡ Err m → Stands s (number_of m) at) → Tells s (judged v at o)
+  judged_tells (Ok tt) at t f = t
+  judged_tells (Err m) at t f = says {m = m} (f m refl)
 
   -- the content of an item
-  text_bad : (t : List ℕ) {at : ℕ} → ((UTF8-octets t → ⊥) → Stands s 5 at) → (m : Refusal) → content_rule content.Text t ≡ Bad m → Stands s (number_of m) at
+  text_bad : (t : List ℕ) {at : ℕ} → ((UTF8-octets t → ⊥) → Stands s 5 at) → (m : Refusal) → content_rule content.Text t ≡ Err m → Stands s (number_of m) at
   unfolding content_rule
   text_bad t f m e = let i = fine_is (well_formed t) BadText e in rw (← i.1) (f (λ u. clash (accepted u) i.0))
 
   ascii_bad :
-      (a b : Bool) {at : ℕ} → (a ≡ false → Stands s 5 at) → (a ≡ true → b ≡ false → Stands s 17 at) → (m : Refusal) → ascii_then a b ≡ Bad m
+      (a b : Bool) {at : ℕ} → (a ≡ false → Stands s 5 at) → (a ≡ true → b ≡ false → Stands s 17 at) → (m : Refusal) → ascii_then a b ≡ Err m
       → Stands s (number_of m) at
   ascii_bad true b f g m e = let i = fine_is b BadValue e in rw (← i.1) (g refl i.0)
   ascii_bad false b f g m e = let i = fine_is false BadText e in rw (← i.1) (f refl)
 
-  double_said : (at : ℕ) → Whole s at (tag.Plain plain.Double) → (m : Refusal) → content_rule content.Double (short_text s at) ≡ Bad m → Stands s (number_of m) at
+  double_said : (at : ℕ) → Whole s at (tag.Plain plain.Double) → (m : Refusal) → content_rule content.Double (short_text s at) ≡ Err m → Stands s (number_of m) at
   unfolding content_rule
   double_said at b m e =
       ascii_bad (ascii (short_text s at)) (is_double (short_text s at)) (λ i. double_bad b i)
       (λ i j. no_double b i (λ d. clash ((double_exactly (short_text s at)).1 d) j)) m e
 
   datetime_said :
-      (at : ℕ) → Whole s at (tag.Plain plain.DateTime) → (m : Refusal) → content_rule content.DateTime (short_text s at) ≡ Bad m → Stands s (number_of m) at
+      (at : ℕ) → Whole s at (tag.Plain plain.DateTime) → (m : Refusal) → content_rule content.DateTime (short_text s at) ≡ Err m → Stands s (number_of m) at
   unfolding content_rule
   datetime_said at b m e =
       ascii_bad (ascii (short_text s at)) (is_date_time (short_text s at)) (λ i. datetime_bad b i)
       (λ i j. no_datetime b i (λ d. clash ((datetime_exactly (short_text s at)).1 d) j)) m e
 
-  binary_said : (t : List ℕ) {at : ℕ} (m : Refusal) → content_rule content.Binary t ≡ Bad m → Stands s (number_of m) at
+  binary_said : (t : List ℕ) {at : ℕ} (m : Refusal) → content_rule content.Binary t ≡ Err m → Stands s (number_of m) at
   unfolding content_rule
   binary_said t m e = let z : ◌≡◌ {A = ℕ} 0 1 = cc in absurd (omega arith)
 
@@ -209,7 +210,7 @@ module _ (s : List ℕ) where
 
     contents_tells :
         (c : Content) (o n at r : ℕ) (book : Book) → at < length s → (length s < o + n → length s < want_of s at)
-        → (o + n ≤ length s → Booked s (o + n) book) → (o + n ≤ length s → (m : Refusal) → content_rule c (part s o n) ≡ Bad m → Stands s (number_of m) at) → Tells s (read-contents s room c o n at r book)
+        → (o + n ≤ length s → Booked s (o + n) book) → (o + n ≤ length s → (m : Refusal) → content_rule c (part s o n) ≡ Err m → Stands s (number_of m) at) → Tells s (read-contents s room c o n at r book)
     unfolding verdict read-contents
     contents_tells c o n at r book h w k f = go (leb (o + n) (length s)) refl
       where
@@ -222,8 +223,8 @@ module _ (s : List ℕ) where
     recalled_tells :
         (x : Entry) (at r : ℕ) (book : Book) → Whole s at (tag.String Recalled) → at + 2 ≤ length s → Booked s at book
         → Tells s (recalledEntry s room x at r book)
-    recalled_tells Unset at r book b j k = says {m = UnsetPosition} (unset b)
-    recalled_tells (Text o n) at r book b j k = ends (j, later (omega arith) k)
+    recalled_tells None at r book b j k = says {m = UnsetPosition} (unset b)
+    recalled_tells (Some y) at r book b j k = ends (j, later (omega arith) k)
 
     string_item_tells : (form : Form) (at r : ℕ) (book : Book) → Begun s at (tag.String form) → at < length s → Booked s at book → Tells s (string_item s room form at r book)
     string_item_tells Regular at r book b h z =
@@ -264,8 +265,8 @@ module _ (s : List ℕ) where
           go :
               (b : Bool) → leb (o + n) (length s) ≡ b → (v : Verdict) → judged (all_there b v) at (leaf (kind_of c) o n r (o + n) book) ≡ got rows to book'
               → (o + n ≤ length s) × (first_text s room rows ≡ part s o n)
-          go true i Fine e = (leb-true (o + n) (length s) i, leaf_first (kind_of c) o n r (o + n) book e)
-          go true i (Bad m) e = refused_got e
+          go true i (Ok tt) e = (leb-true (o + n) (length s) i, leaf_first (kind_of c) o n r (o + n) book e)
+          go true i (Err m) e = refused_got e
           go false i v e = refused_got e
 
       string_sends :
@@ -286,10 +287,10 @@ module _ (s : List ℕ) where
         where
           go :
               (x : Entry) → book (byte_at s (at + 1)) ≡ x → Whole s at (tag.String Recalled) → recalledEntry s room x at r book ≡ got rows to book' → Sends s at (first_text s room rows)
-          go Unset i w e = refused_got e
-          go (Text o n) i w e =
-              let g = z.each (byte_at s (at + 1)) o n i in
-              rw (leaf_first (kind_of content.Text) o n r (at + 2) book e ∙ g.4) (by_recalled g.0 w g.1 g.2 g.3)
+          go None i w e = refused_got e
+          go (Some y) i w e =
+              let g = z.each (byte_at s (at + 1)) y.offset y.length i in
+              rw (leaf_first (kind_of content.Text) y.offset y.length r (at + 2) book e ∙ g.4) (by_recalled g.0 w g.1 g.2 g.3)
 
     -- a String, and one that is judged as soon as it is read
     if_string_tells : (t : Tag) (at r : ℕ) (book : Book) → Begun s at t → at < length s → Booked s at book → Tells s (if_string s room t at r book)
@@ -305,7 +306,7 @@ module _ (s : List ℕ) where
 
     string_by_tells :
         (rule : List ℕ → Verdict) (o at r : ℕ) (book : Book) → Reached s at book
-        → ((t : List ℕ) → Sends s at t → (m : Refusal) → rule t ≡ Bad m → Stands s (number_of m) o)
+        → ((t : List ℕ) → Sends s at t → (m : Refusal) → rule t ≡ Err m → Stands s (number_of m) o)
         → Tells s (string_by s room rule o at r book)
     unfolding string_by read-string
     string_by_tells rule o at r book h f = go (ltb at (length s)) refl (tag_of (byte_at s at)) refl

@@ -20,7 +20,7 @@ use Rattle.lexical.proofs.Doubles.{double_exactly, double_ascii}
 use Rattle.lexical.proofs.DateTimes.{datetime_exactly, datetime_ascii}
 use Rattle.draft.specs.declared.Refusal.{Refusal}
 use Rattle.draft.specs.declared.Refusal.TheVariants.{Ended, BadText, StandardName, TooDeep, NoRow, BadFault, BadValue, RepeatedKey}
-use Rattle.draft.specs.declared.Verdict.TheVariants.{Fine}
+use Rattle.std.specs.Prelude.{Ok}
 use Rattle.draft.specs.declared.Content.TheVariants as content
 use Rattle.draft.specs.declared.Row.{Row}
 use Rattle.draft.specs.Bytes.{bytes}
@@ -154,13 +154,13 @@ unfolding content_rule
 text_is_utf8 t = (λ h. derived t (fine_by (well_formed t) BadText h), λ h. rw (accepted h))
 
 -- NAMES. An Other's name is none of the nine.
-bad_fine : (b : Bool) (m : Refusal) → (bad_if b m ≡ Fine) ↔ (b ≡ false)
+bad_fine : (b : Bool) (m : Refusal) → (bad_if b m ≡ Ok tt) ↔ (b ≡ false)
 bad_fine true m = (λ e. let z : ◌≡◌ {A = ℕ} 0 1 = cc in absurd (omega arith), λ e. clash refl e)
 bad_fine false m = (λ e. refl, λ e. refl)
 
 pub other_name :
     (t : List ℕ)
-    → (name_rule t ≡ Fine)
+    → (name_rule t ≡ Ok tt)
     ↔ (among (bytes "i4" ∷ bytes "int" ∷ bytes "boolean" ∷ bytes "string" ∷ bytes "double" ∷ bytes "dateTime.iso8601" ∷ bytes "base64" ∷ bytes "struct"
     ∷ bytes "array" ∷ []) t ≡ false)
 unfolding name_rule standard_name
@@ -168,7 +168,7 @@ other_name t = bad_fine (standard_name t) StandardName
 
 -- DOUBLES AND DATES. What the grammar asks of a Double's text and of a DateTime's are document 02's productions (crate lexical's Grammar): a sign or
 -- none, digits, a point, digits; and 17 bytes, as in `19980717T14:08:55`, of a day that there is.
-then_fine : (a b : Bool) → (b ≡ true → a ≡ true) → (ascii_then a b ≡ Fine) ↔ (b ≡ true)
+then_fine : (a b : Bool) → (b ≡ true → a ≡ true) → (ascii_then a b ≡ Ok tt) ↔ (b ≡ true)
 then_fine true b h = (fine_by b BadValue, λ e. rw e)
 then_fine false b h = (λ e. clash (fine_by false BadText e) refl, λ e. clash (h e) refl)
 
@@ -220,10 +220,10 @@ module _ (s : List ℕ) (room : ℕ) (value : Reader) (seen : List (List ℕ)) (
 
 -- FAULTS. What the grammar asks of a fault's Struct: the items below it are a faultCode, an Integer, and a faultString, a String, in either order,
 -- and no more.
-pub two_members : (items : List Held) → (fault_rule items ≡ Fine) ↔ TwoMembers items
+pub two_members : (items : List Held) → (fault_rule items ≡ Ok tt) ↔ TwoMembers items
 unfolding fault_rule is_fault is_code is_message same
 two_members items = (λ h. fault_by TwoMembers code_first message_first items (fine_by (is_fault items) BadFault h), back)
   where
-    back : {items : List Held} → TwoMembers items → fault_rule items ≡ Fine
+    back : {items : List Held} → TwoMembers items → fault_rule items ≡ Ok tt
     back (code_first t) = refl
     back (message_first t) = refl

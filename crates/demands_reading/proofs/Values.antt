@@ -12,7 +12,7 @@ use lib.Seq.{take-append_seam}
 use borrow.Author.Tests.{lt-ltb, le-leb, eqb-true, eqb-false}
 use Rattle.lexical.specs.Grammar.{Double, DateTime}
 use Rattle.draft.specs.declared.Refusal.TheVariants.{BadFault}
-use Rattle.draft.specs.declared.Verdict.TheVariants.{Fine, Bad}
+use Rattle.std.specs.Prelude.{Ok, Err}
 use Rattle.draft.specs.declared.Content.{Content}
 use Rattle.draft.specs.declared.Content.TheVariants as content
 use Rattle.draft.specs.declared.Row.{Row}
@@ -141,15 +141,15 @@ module _ (row : ℕ → Row) (s : List ℕ) where
           rw (j, held_same t) ((two_members _).0 f)
 
 -- FOURTEEN. A fault's Struct that is read whole and does not hold its two members is refused with 14 at its `S`, whatever follows.
-fault_fine : (items : List Held) → is_fault items ≡ true → fault_rule items ≡ Fine
+fault_fine : (items : List Held) → is_fault items ≡ true → fault_rule items ≡ Ok tt
 unfolding fault_rule
 fault_fine items e = rw e
 
-bad_fault : (items : List Held) → (TwoMembers items → ⊥) → fault_rule items ≡ Bad BadFault
+bad_fault : (items : List Held) → (TwoMembers items → ⊥) → fault_rule items ≡ Err BadFault
 unfolding fault_rule
 bad_fault items f = go (is_fault items) refl
   where
-    go : (b : Bool) → is_fault items ≡ b → fine_if b BadFault ≡ Bad BadFault
+    go : (b : Bool) → is_fault items ≡ b → fine_if b BadFault ≡ Err BadFault
     go false e = refl
     go true e = absurd (f ((two_members items).0 (fault_fine items e)))
 

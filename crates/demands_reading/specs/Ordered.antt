@@ -4,7 +4,7 @@ use Rattle.draft.specs.declared.Refusal.{Refusal}
 use Rattle.draft.specs.declared.Tag.{Tag}
 use Rattle.draft.specs.declared.Tag.TheVariants as tag
 use Rattle.draft.specs.declared.Form.TheVariants.{Recalled}
-use Rattle.draft.specs.declared.Entry.TheVariants.{Unset}
+use Rattle.std.specs.Prelude.{None}
 use Rattle.draft.specs.Bytes.{byte_at}
 use Rattle.draft.specs.Refusals.{number_of}
 use Rattle.draft.specs.Codebook.{Book}
@@ -44,4 +44,4 @@ pub record Ordered (s : List ℕ) (room deep at r : ℕ) (book : Book) (t : Tag)
       at < length s → Allowed t deep → r < room → at + fields_of t ≤ length s → length s < at + fields_of t + announced s at t
       → Refuses (value s room deep at r book) 1 at
   -- 6 of a recall exactly if its position holds nothing in the codebook there
-  pub six : t ≡ tag.String Recalled → r < room → at + 2 ≤ length s → Refuses (value s room deep at r book) 6 at ↔ (book (byte_at s (at + 1)) ≡ Unset)
+  pub six : t ≡ tag.String Recalled → r < room → at + 2 ≤ length s → Refuses (value s room deep at r book) 6 at ↔ (book (byte_at s (at + 1)) ≡ None)

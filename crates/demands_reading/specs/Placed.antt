@@ -7,7 +7,7 @@ use Rattle.lexical.specs.Grammar.{Double, DateTime}
 use Rattle.draft.specs.declared.Tag.{Tag}
 use Rattle.draft.specs.declared.Tag.TheVariants as tag
 use Rattle.draft.specs.declared.Plain.TheVariants as plain
-use Rattle.draft.specs.declared.Verdict.TheVariants.{Fine}
+use Rattle.std.specs.Prelude.{Ok}
 use Rattle.draft.specs.declared.Form.TheVariants.{Regular, Recorded, Recalled}
 use Rattle.draft.specs.Bytes.{byte_at, unsigned_at, part}
 use Rattle.draft.specs.Rows.{below}
@@ -60,7 +60,7 @@ pub data Stands (s : List ℕ) : ℕ → ℕ → Type 0 where
   -- 6: a recall
   unset : {at : ℕ} → Whole s at (tag.String Recalled) → Stands s 6 at
   -- 7: an Other, and behind its `O` a String whose text may not be its name
-  standard : {at : ℕ} {t : List ℕ} → Begun s at (tag.Plain plain.Other) → Sends s (at + 1) t → name_rule t ≢ Fine → Stands s 7 at
+  standard : {at : ℕ} {t : List ℕ} → Begun s at (tag.Plain plain.Other) → Sends s (at + 1) t → name_rule t ≢ Ok tt → Stands s 7 at
   -- 8: an Array or a Struct
   deep_array : {at : ℕ} → Begun s at tag.Array → Stands s 8 at
   deep_struct : {at : ℕ} → Begun s at tag.Struct → Stands s 8 at

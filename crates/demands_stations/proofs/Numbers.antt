@@ -6,6 +6,7 @@ use mathlib.Core.List.{List}
 use Prim.Native.Nat.{ℕ}
 use native.Mathlib.Omega.{arith}
 use lib.ListN.{length}
+use Rattle.std.specs.Prelude.{Ok, Err}
 use Rattle.draft.specs.declared.Refusal.{Refusal}
 use Rattle.draft.specs.Refusals.{number_of, refusal_of}
 use Rattle.draft.proofs.Naming.{number_own}
@@ -15,29 +16,28 @@ use Rattle.read_answer.specs.Answers as reader
 use Rattle.records.specs.declared.JobRefusal.{JobRefusal}
 use Rattle.records.specs.declared.JobRefusal.TheVariants.{FileEnded, WrongEnd, NoCard}
 use Rattle.records.specs.Job.{refusal_number, body_of}
-use Rattle.job.specs.declared.Answer.{Answer as JobAnswer}
-use Rattle.job.specs.declared.Answer.TheVariants as card
+use Rattle.job.specs.Cards.{Answer as JobAnswer, accepted_at}
+use Rattle.job.specs.declared.JobFault.TheVariants as card
 use Rattle.job.specs.Cards as job
 use Rattle.pieces.specs.declared.PieceRefusal.{PieceRefusal}
 use Rattle.pieces.specs.declared.PieceRefusal.TheVariants.{Message, ShortRoom}
 use Rattle.pieces.specs.declared.State.{State}
 use Rattle.pieces.specs.declared.State.TheVariants.{More, Accepted, Refused}
 use Rattle.pieces.specs.Steps.{number_for, told, at_first, state_went, state_closed}
-use Rattle.write_answer.specs.declared.Answer.{Answer as WriterAnswer}
-use Rattle.write_answer.specs.declared.Answer.TheVariants as written
+use Rattle.write_answer.specs.Answers.{Answer as WriterAnswer}
+use Rattle.std.specs.declared.result.Result.TheVariants as written
 use Rattle.write_answer.specs.Answers as writer
-use Rattle.plan_writer.specs.declared.Answer.{Answer as PlanAnswer}
-use Rattle.plan_writer.specs.declared.Answer.TheVariants as planned
+use Rattle.plan_writer.specs.Answers.{Answer as PlanAnswer}
+use Rattle.std.specs.Prelude.{Ok, Err}
+use Rattle.plan_writer.specs.declared.PlanRefusal.TheVariants as planned
 use Rattle.plan_writer.specs.Answers as planner
 use Rattle.lookup_answer.specs.declared.Refusal as Why
 use Rattle.lookup_answer.specs.declared.Refusal.TheVariants as why
-use Rattle.lookup_answer.specs.declared.Answer.{Answer as LookupAnswer}
-use Rattle.lookup_answer.specs.declared.Answer.TheVariants as found
+use Rattle.lookup_answer.specs.Answers.{Answer as LookupAnswer}
+use Rattle.lookup_answer.specs.declared.Value.TheVariants as found
 use Rattle.lookup_answer.specs.Answers as lookups
 use Rattle.lookup_answer.specs.Reports as reports
-use Rattle.placing.specs.declared.Outcome.{Outcome}
-use Rattle.placing.specs.declared.Outcome.TheVariants as outcome
-use Rattle.placing.specs.Placing.{outcome_number}
+use Rattle.placing.specs.Placing.{Outcome, outcome_number}
 use Rattle.shares.specs.declared.Station.{Station}
 use Rattle.shares.specs.Share.{splits, share_of, on_share}
 use Rattle.shares.proofs.Sharing.{given_there, unsplit_told}
@@ -65,9 +65,9 @@ job_not WrongEnd e = omega arith
 job_not NoCard e = omega arith
 
 pub card_not : (a : JobAnswer) → (job.report_of a).number ≢ 22
-card_not (card.Accepted rows used body) e = omega arith
-card_not (card.Refused m place) e = refusal_not m e
-card_not (card.Missing m place) e = job_not m e
+card_not (Ok read) e = omega arith
+card_not (Err (card.Refused m place)) e = refusal_not m e
+card_not (Err (card.Missing m place)) e = job_not m e
 
 piece_not : (m : PieceRefusal) → number_for m ≢ 22
 piece_not (Message m) e = refusal_not m e
@@ -79,13 +79,13 @@ told_not (Accepted rows used) e = omega arith
 told_not (Refused m place) e = piece_not m e
 
 pub write_not : (a : WriterAnswer) → (writer.report_of a).number ≢ 22
-write_not (written.Written n) e = omega arith
-write_not (written.Refused m) e = refusal_not m e
+write_not (written.Ok n) e = omega arith
+write_not (written.Err m) e = refusal_not m e
 
 pub plan_not : (a : PlanAnswer) → (planner.report_of a).number ≢ 22
-plan_not (planned.Written n) e = omega arith
-plan_not (planned.Refused m) e = refusal_not m e
-plan_not planned.NotTaken e = omega arith
+plan_not (Ok n) e = omega arith
+plan_not (Err (planned.Refused m)) e = refusal_not m e
+plan_not (Err planned.NotTaken) e = omega arith
 
 why_not : (m : Why.Refusal) → lookups.number_of m ≢ 22
 why_not why.NotWritable e = omega arith
@@ -93,16 +93,16 @@ why_not why.NoMember e = omega arith
 why_not why.TooManyDigits e = omega arith
 
 pub lookup_not : (a : LookupAnswer) → (reports.report_of a).number ≢ 22
-lookup_not (found.Whole n) e = omega arith
-lookup_not (found.Decimal x) e = omega arith
-lookup_not (found.Truth b) e = omega arith
-lookup_not (found.Text offset size) e = omega arith
-lookup_not (found.Row r) e = omega arith
-lookup_not (found.Refused m) e = why_not m e
+lookup_not (Ok (found.Whole n)) e = omega arith
+lookup_not (Ok (found.Decimal x)) e = omega arith
+lookup_not (Ok (found.Truth b)) e = omega arith
+lookup_not (Ok (found.Text offset size)) e = omega arith
+lookup_not (Ok (found.Row r)) e = omega arith
+lookup_not (Err m) e = why_not m e
 
 pub position_not : (o : Outcome) → outcome_number o ≢ 22
-position_not outcome.Accepted e = omega arith
-position_not (outcome.Refused m) e = why_not m e
+position_not (Ok done) e = omega arith
+position_not (Err m) e = why_not m e
 
 -- ---- 22 exactly
 

@@ -2,6 +2,7 @@
 -- nesting, a message s, a table T that is split at a row and is T' after the call, and the answer a; `CardFor` that of `read_card`; `NextFor` and `EndFor`
 -- those of `station_pieces::next` and `end`; `WroteFor` that of `station_tables::write`, and `planned.WroteFor` that of `station_plans::write`. `Called
 -- station split T T' q a` is any of the first four, asked q and told a. `share_of station split T` are the share's words. Assumes nothing.
+use Rattle.std.specs.Prelude.{Ok, Err}
 use mathlib.Core.Path.{◌≡◌, refl, sym, ap, ◌∙◌}
 use mathlib.Core.Bool.{true, false}
 use mathlib.Core.Logic.{◌↔◌}
@@ -12,7 +13,7 @@ use lib.ListN.{length, drop}
 use Rattle.draft.specs.Limits.{allowed}
 use Rattle.shares.specs.declared.Station.{Station}
 use Rattle.shares.specs.declared.Station.TheVariants.{Four, Five}
-use Rattle.shares.specs.Share.{other, splits, first_word, size_of, share_of, on_share}
+use Rattle.shares.specs.Share.{no_share, other, splits, first_word, size_of, share_of, on_share}
 use Rattle.shares.proofs.Sharing as sharing
 use Rattle.read_answer.specs.Answers.{reading, table_of}
 use Rattle.lookup_answer.specs.Answers as lookups
@@ -22,21 +23,11 @@ use Rattle.pieces.specs.Pieces.{joined, outcome, through, room_with, so_far}
 use Rattle.pieces.specs.Steps.{told, Closed}
 use Rattle.pieces.specs.Runs.{begun}
 use Rattle.cuts.proofs.Running.{Ends}
-use Rattle.station_reading.specs.declared.Answer.{Answer}
-use Rattle.station_reading.specs.declared.Answer.TheVariants as answer
-use Rattle.station_reading.specs.declared.CardAnswer.{CardAnswer}
-use Rattle.station_reading.specs.Answers.{ReadFor, CardFor}
-use Rattle.station_pieces.specs.declared.Answer.{Answer as PieceAnswer}
-use Rattle.station_pieces.specs.declared.Answer.TheVariants.{Stands}
-use Rattle.station_pieces.specs.Steps.{NextFor, EndFor}
-use Rattle.station_plans.specs.declared.Answer.{Answer as PlanAnswer}
-use Rattle.station_plans.specs.declared.Answer.TheVariants as plan
+use Rattle.station_reading.specs.Answers.{Answer, CardAnswer, ReadFor, CardFor}
+use Rattle.station_pieces.specs.Steps.{Answer as PieceAnswer, NextFor, EndFor}
+use Rattle.station_plans.specs.Answers.{Answer as PlanAnswer}
 use Rattle.station_plans.specs.Answers as planned
-use Rattle.station_tables.specs.declared.WriteAnswer.{WriteAnswer}
-use Rattle.station_tables.specs.declared.WriteAnswer.TheVariants as write
-use Rattle.station_tables.specs.declared.LookupAnswer.TheVariants as lookup
-use Rattle.station_tables.specs.declared.PositionAnswer.TheVariants as place
-use Rattle.station_tables.specs.Answers.{write_answer, written_bytes, WroteFor, lookup_answer, position_answer, write_report_of, lookup_report_of, position_number}
+use Rattle.station_tables.specs.Answers.{WriteAnswer, write_answer, written_bytes, WroteFor, lookup_answer, position_answer, write_report_of, lookup_report_of, position_number}
 use Rattle.write_answer.specs.Answers as writer
 use Rattle.plan_writer.specs.Answers as planner
 use Rattle.stations.specs.Calls.{Asked, Told, Called, ends, not_split}
@@ -84,7 +75,7 @@ module _ (station : Station) (split : ℕ) (T : List ℕ) (rows : ℕ) (s : List
         → (((write_report_of a).number ≡ 22) ↔ (splits split (length T) ≡ false)) × (splits split (length T) ≡ false → out' ≡ out)
     unfolding write_answer
     write_exactly d = (
-      exactly (λ a. (write_report_of a).number) station split T (write_answer limit rows s (length out)) write.NotSplit refl
+      exactly (λ a. (write_report_of a).number) station split T (write_answer limit rows s (length out)) (Err no_share) refl
           (λ W e. write_not (writer.answer_of limit W rows s (length out)) e) d.says,
       λ h. d.leaves ∙ sharing.unsplit_told station split T (written_bytes limit rows s (length out)) out h,
     )
@@ -94,24 +85,24 @@ module _ (station : Station) (split : ℕ) (T : List ℕ) (rows : ℕ) (s : List
         → (((planned.report_of a).number ≡ 22) ↔ (splits split (length T) ≡ false)) × (splits split (length T) ≡ false → out' ≡ out)
     unfolding planned.write_answer
     planned_exactly p d = (
-      exactly (λ a. (planned.report_of a).number) station split T (planned.write_answer limit rows s p (length out)) plan.NotSplit refl
+      exactly (λ a. (planned.report_of a).number) station split T (planned.write_answer limit rows s p (length out)) (Err no_share) refl
           (λ W e. plan_not (planner.answer_of limit W rows s p (length out)) e) d.says,
       λ h. d.leaves ∙ sharing.unsplit_told station split T (planned.written_bytes limit rows s p (length out)) out h,
     )
 
   module _ (r : ℕ) where
     pub lookup_exactly :
-        (key : List ℕ) → ((lookup_report_of (on_share station split T (lookup_answer rows s r key) lookup.NotSplit)).number ≡ 22) ↔ (splits split (length T) ≡ false)
+        (key : List ℕ) → ((lookup_report_of (on_share station split T (lookup_answer rows s r key) (Err no_share))).number ≡ 22) ↔ (splits split (length T) ≡ false)
     unfolding lookup_answer
     lookup_exactly key =
-        exactly (λ a. (lookup_report_of a).number) station split T (lookup_answer rows s r key) lookup.NotSplit refl
+        exactly (λ a. (lookup_report_of a).number) station split T (lookup_answer rows s r key) (Err no_share) refl
         (λ W e. lookup_not (lookups.lookup W rows s r key) e) refl
 
     pub position_exactly :
-        (position_number (on_share station split T (position_answer rows s r) place.NotSplit) ≡ 22) ↔ (splits split (length T) ≡ false)
+        (position_number (on_share station split T (position_answer rows s r) (Err no_share)) ≡ 22) ↔ (splits split (length T) ≡ false)
     unfolding position_answer
     position_exactly =
-        exactly position_number station split T (position_answer rows s r) place.NotSplit refl (λ W e. position_not (position W rows s r).outcome e) refl
+        exactly position_number station split T (position_answer rows s r) (Err no_share) refl (λ W e. position_not (position W rows s r).outcome e) refl
 
 -- ---- the share
 
@@ -150,16 +141,16 @@ module _ (station : Station) (split : ℕ) (T : List ℕ) (ok : splits split (le
 
   pub own_lookup :
       (rows : ℕ) (s : List ℕ) (r : ℕ) (key : List ℕ)
-      → on_share station split T (lookup_answer rows s r key) lookup.NotSplit
-      ≡ lookup.Answered (lookups.lookup (share_of station split T) rows s r key)
+      → on_share station split T (lookup_answer rows s r key) (Err no_share)
+      ≡ Ok (lookups.lookup (share_of station split T) rows s r key)
   unfolding lookup_answer
-  own_lookup rows s r key = sharing.given_there station split T ok (lookup_answer rows s r key) lookup.NotSplit
+  own_lookup rows s r key = sharing.given_there station split T ok (lookup_answer rows s r key) (Err no_share)
 
   pub own_position :
       (rows : ℕ) (s : List ℕ) (r : ℕ)
-      → on_share station split T (position_answer rows s r) place.NotSplit ≡ place.Answered (position (share_of station split T) rows s r)
+      → on_share station split T (position_answer rows s r) (Err no_share) ≡ Ok (position (share_of station split T) rows s r)
   unfolding position_answer
-  own_position rows s r = sharing.given_there station split T ok (position_answer rows s r) place.NotSplit
+  own_position rows s r = sharing.given_there station split T ok (position_answer rows s r) (Err no_share)
 
 -- ALIKE. Answer and share's words depend on the message and the limit, or the job file and the card's number, and on the share's size: for any two tables,
 -- rows and stations.
@@ -174,7 +165,7 @@ module _
       let x = own_read station split T ok limit s d in
       let y = rw (← size) at (own_read other-station other-split U ok' limit s e) in
       let z = whole-table.settled limit s (size_of station split (length T)) x.did y.did in
-      (x.is ∙ ap answer.Answered z.0 ∙ sym y.is, z.1)
+      (x.is ∙ ap Ok z.0 ∙ sym y.is, z.1)
 
   pub card_alike :
       (s : List ℕ) (number : ℕ) {a b : CardAnswer} → CardFor s number station split T T' a → CardFor s number other-station other-split U U' b
@@ -205,7 +196,7 @@ module _
         → (a ≡ b) × (out' ≡ out₁')
     write_alike d e = (
       d.says
-          ∙ given_alike station other-station split other-split T U ok ok' same (write_answer limit rows s (length out)) write.NotSplit write.NotSplit
+          ∙ given_alike station other-station split other-split T U ok ok' same (write_answer limit rows s (length out)) (Err no_share) (Err no_share)
           ∙ rw l (sym e.says),
       d.leaves
           ∙ given_alike station other-station split other-split T U ok ok' same (written_bytes limit rows s (length out)) out out₁
@@ -217,7 +208,7 @@ module _
         → planned.WroteFor limit U other-station other-split rows s p out₁ out₁' b → (a ≡ b) × (out' ≡ out₁')
     planned_alike p d e = (
       d.says
-          ∙ given_alike station other-station split other-split T U ok ok' same (planned.write_answer limit rows s p (length out)) plan.NotSplit plan.NotSplit
+          ∙ given_alike station other-station split other-split T U ok ok' same (planned.write_answer limit rows s p (length out)) (Err no_share) (Err no_share)
           ∙ rw l (sym e.says),
       d.leaves
           ∙ given_alike station other-station split other-split T U ok ok' same (planned.written_bytes limit rows s p (length out)) out out₁
@@ -251,7 +242,7 @@ in_turn split c d e f = calls.in_turn split c d e f
 
 -- An end call that was answered with a state is `pieces::end` on the share.
 pub its_end :
-    {limit bytes : ℕ} {state last : State} (station : Station) (split : ℕ) (T : List ℕ) {T' : List ℕ} → EndFor limit state bytes station split T T' (Stands last)
+    {limit bytes : ℕ} {state last : State} (station : Station) (split : ℕ) (T : List ℕ) {T' : List ℕ} → EndFor limit state bytes station split T T' (Ok last)
     → Closed limit state bytes (share_of station split T) (share_of station split T') last
 its_end {limit} {bytes} {state} {last} station split T d =
     let o = own_end station split T (has_share (ends d) (told_not last)) limit state bytes d in
@@ -263,7 +254,7 @@ its_end {limit} {bytes} {state} {last} station split T d =
 pub pieces_whole :
     (limit : ℕ) (fine : allowed limit ≡ true) (station : Station) (split : ℕ) (T R₀ W₀ : List ℕ) → 65536 ≤ length R₀
     → (ps : List (List ℕ)) {state last : State} {R T' : List ℕ} → Turns limit station ps begun R₀ W₀ state R (share_of station split T)
-    → length (joined ps) ≤ 65536 → EndFor limit state (length R) station split T T' (Stands last)
+    → length (joined ps) ≤ 65536 → EndFor limit state (length R) station split T T' (Ok last)
     → Ends (reading limit (joined ps) (length W₀)) (length W₀) last (share_of station split T')
 pieces_whole limit fine station split T R₀ W₀ long ps ts few d = pieces.as_whole limit fine R₀ W₀ long ps (owning.turns_run ts) few (its_end station split T d)
 

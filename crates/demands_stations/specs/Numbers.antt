@@ -1,10 +1,9 @@
 -- What is told of a call, in the papers' numbers: of a message in pieces, and of any call of a station that may change the table. Assumes nothing.
-use Rattle.std.specs.Prelude.{ℕ}
+use Rattle.std.specs.Prelude.{ℕ, Ok, Err}
 use Rattle.pieces.specs.Pieces as pieces
 use Rattle.pieces.specs.Steps.{told}
 use Rattle.station_reading.specs.Answers.{report_of, card_report_of}
-use Rattle.station_pieces.specs.declared.Answer.{Answer as PieceAnswer}
-use Rattle.station_pieces.specs.declared.Answer.TheVariants.{Stands, NotSplit}
+use Rattle.station_pieces.specs.Steps.{Answer as PieceAnswer}
 use Rattle.stations.specs.Calls.{Told, of_message, of_card, of_piece, of_end}
 
 -- in pieces: the refusal's number, 0 if there is none; and how many rows were accepted
@@ -20,8 +19,8 @@ rows_told (pieces.refusal n place) = 0
 
 -- in pieces, for a station
 abbrev pub piece_number : PieceAnswer → ℕ
-piece_number (Stands state) = number_told (told state)
-piece_number NotSplit = 22
+piece_number (Ok state) = number_told (told state)
+piece_number (Err why) = 22
 
 -- of a message, a card, a piece or the end
 abbrev pub call_number : Told → ℕ

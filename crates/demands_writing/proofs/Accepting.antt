@@ -31,12 +31,12 @@ use Rattle.demands_reading.specs.Refusing.{one_of}
 use Rattle.demands_reading.proofs.Settled.{accepted_read, accepted_rows_of}
 use Rattle.demands_reading.proofs.Reading.{sound}
 use Rattle.demands_writing.proofs.Writing.{Words, Octets, form_derived, read_writable, read_short}
-use Rattle.write_answer.specs.declared.Answer.{Answer}
-use Rattle.write_answer.specs.declared.Answer.TheVariants.{Written, Refused}
+use Rattle.write_answer.specs.Answers.{Answer}
+use Rattle.std.specs.Prelude.{Ok, Err}
 use Rattle.write_answer.specs.Answers.{given, answer_to, form_of, answer_of, Did, report_of}
 
 -- an answer behind a test
-given_written : (b : Bool) (m : Refusal) (o : Answer) {n : ℕ} → given b m o ≡ Written n → (b ≡ true) × (o ≡ Written n)
+given_written : (b : Bool) (m : Refusal) (o : Answer) {n : ℕ} → given b m o ≡ Ok n → (b ≡ true) × (o ≡ Ok n)
 given_written true m o e = (refl, e)
 given_written false m o e = let z : ◌≡◌ {A = ℕ} 0 1 = cc in absurd (omega arith)
 
@@ -51,14 +51,14 @@ pub record AcceptedFor (limit : ℕ) (T : List ℕ) (rows : ℕ) (s : List ℕ) 
   pub fits : n ≤ room
 
 -- ACCEPTANCE IS EXACT: the writer accepts, with length n, exactly for that
-pub accepted_exactly : (limit : ℕ) (T : List ℕ) (rows : ℕ) (s : List ℕ) (room n : ℕ) → (answer_of limit T rows s room ≡ Written n) ↔ AcceptedFor limit T rows s room n
+pub accepted_exactly : (limit : ℕ) (T : List ℕ) (rows : ℕ) (s : List ℕ) (room n : ℕ) → (answer_of limit T rows s room ≡ Ok n) ↔ AcceptedFor limit T rows s room n
 unfolding answer_of answer_to form_of
 accepted_exactly limit T rows s room n = (there, back)
   where
     size : ℕ
     size = length (written s (rows_of 4096 T rows))
 
-    there : answer_of limit T rows s room ≡ Written n → AcceptedFor limit T rows s room n
+    there : answer_of limit T rows s room ≡ Ok n → AcceptedFor limit T rows s room n
     there e =
         let l = given_written (allowed limit) NoLimit _ e in
         let a = given_written (leb (length s) 65536) TooLong _ l.1 in
@@ -75,7 +75,7 @@ accepted_exactly limit T rows s room n = (there, back)
           fits = omega (arith, i, leb-true size room d.0);
         }
 
-    back : AcceptedFor limit T rows s room n → answer_of limit T rows s room ≡ Written n
+    back : AcceptedFor limit T rows s room n → answer_of limit T rows s room ≡ Ok n
     back h =
         let c : size ≤ 65536 = omega (arith, h.long, h.most) in
         let d : size ≤ room = omega (arith, h.long, h.fits) in
@@ -95,7 +95,7 @@ pub data RefusedFor (limit : ℕ) (T : List ℕ) (rows : ℕ) (s : List ℕ) (ro
 -- what a refusal says that comes from the first of five tests that does not hold
 first_of :
     (l a b c d : Bool) (n : ℕ) {m : Refusal} (P : Refusal → Type 0)
-    → given l NoLimit (given a TooLong (given b NotWritable (given c FormTooLong (given d OutputTooShort (Written n))))) ≡ Refused m
+    → given l NoLimit (given a TooLong (given b NotWritable (given c FormTooLong (given d OutputTooShort (Ok n))))) ≡ Err m
     → (l ≡ false → P NoLimit) → (l ≡ true → a ≡ false → P TooLong) → (l ≡ true → a ≡ true → b ≡ false → P NotWritable)
     → (l ≡ true → a ≡ true → b ≡ true → c ≡ false → P FormTooLong) → (l ≡ true → a ≡ true → b ≡ true → c ≡ true → d ≡ false → P OutputTooShort) → P m
 first_of false a b c d n {m} P e i f g h k = let z : m ≡ NoLimit = cc in rw z (i refl)
@@ -107,14 +107,14 @@ first_of true true true true true n P e i f g h k = let z : ◌≡◌ {A = ℕ} 
 
 -- ORDER: the writer refuses with 23, 10, 11, 12 and 13 in this order, each exactly for its reason, and with no other number.
 pub refused_exactly :
-    (limit : ℕ) (T : List ℕ) (rows : ℕ) (s : List ℕ) (room : ℕ) {m : Refusal} → (answer_of limit T rows s room ≡ Refused m) ↔ RefusedFor limit T rows s room m
+    (limit : ℕ) (T : List ℕ) (rows : ℕ) (s : List ℕ) (room : ℕ) {m : Refusal} → (answer_of limit T rows s room ≡ Err m) ↔ RefusedFor limit T rows s room m
 unfolding answer_of answer_to form_of
 refused_exactly limit T rows s room {m} = (there, back)
   where
     size : ℕ
     size = length (written s (rows_of 4096 T rows))
 
-    there : answer_of limit T rows s room ≡ Refused m → RefusedFor limit T rows s room m
+    there : answer_of limit T rows s room ≡ Err m → RefusedFor limit T rows s room m
     there e =
         first_of (allowed limit) (leb (length s) 65536) (writable_to limit T rows s) (leb size 65536) (leb size room) size (RefusedFor limit T rows s room) e
         (λ l. no_limit l)
@@ -123,7 +123,7 @@ refused_exactly limit T rows s room {m} = (there, back)
         (λ l a b c. long_form l (leb-true (length s) 65536 a) b (leb-false size 65536 c))
         (λ l a b c d. short_output l (leb-true (length s) 65536 a) b (leb-true size 65536 c) (leb-false size room d))
 
-    back : {m : Refusal} → RefusedFor limit T rows s room m → answer_of limit T rows s room ≡ Refused m
+    back : {m : Refusal} → RefusedFor limit T rows s room m → answer_of limit T rows s room ≡ Err m
     back (no_limit l) = rw l
     back (long_text_lem l a) = rw (l, lt-leb (length s) 65536 a)
     back (not_writable l a b) = rw (l, le-leb (length s) 65536 a, b)
@@ -136,8 +136,8 @@ module _ (limit : ℕ) (T : List ℕ) (rows : ℕ) (s out₀ out : List ℕ) {a 
   number_exactly m = (there a refl, λ h. ap (λ (x : Answer). (report_of x).number) (d.says ∙ (refused_exactly limit T rows s (length out₀)).1 h))
     where
       there : (x : Answer) → a ≡ x → (report_of x).number ≡ number_of m → RefusedFor limit T rows s (length out₀) m
-      there (Written n) e f = absurd (number_some m (sym f))
-      there (Refused m') e f =
+      there (Ok n) e f = absurd (number_some m (sym f))
+      there (Err m') e f =
           let i : m' ≡ m = sym (number_own m') ∙ ap refusal_of f ∙ number_own m in
           rw i at ((refused_exactly limit T rows s (length out₀)).0 (sym d.says ∙ e))
 
@@ -195,12 +195,12 @@ settled limit T rows s out₀ out₁ out out' {a} {a'} l d d' =
     (e, d.leaves ∙ rw (e, l) (sym d'.leaves))
 
 -- REFUSED: all zeros
-pub refused_zeros : (limit : ℕ) (T : List ℕ) (rows : ℕ) (s out₀ out : List ℕ) {m : Refusal} → Did limit T rows s out₀ out (Refused m) → out ≡ replicate (length out₀) 0
+pub refused_zeros : (limit : ℕ) (T : List ℕ) (rows : ℕ) (s out₀ out : List ℕ) {m : Refusal} → Did limit T rows s out₀ out (Err m) → out ≡ replicate (length out₀) 0
 refused_zeros limit T rows s out₀ out d = d.leaves
 
 -- WRITTEN: the message, and zeros behind it, as many bytes as there were
 pub written_whole :
-    (limit : ℕ) (T : List ℕ) (rows : ℕ) (s out₀ out : List ℕ) {n : ℕ} → Did limit T rows s out₀ out (Written n)
+    (limit : ℕ) (T : List ℕ) (rows : ℕ) (s out₀ out : List ℕ) {n : ℕ} → Did limit T rows s out₀ out (Ok n)
     → (out ≡ written s (rows_of 4096 T rows) ++ replicate (length out₀ - n) 0) × (length out ≡ length out₀)
 unfolding form_of
 written_whole limit T rows s out₀ out {n} d =
@@ -214,11 +214,11 @@ pub whole : (limit : ℕ) (T : List ℕ) (rows : ℕ) (s out₀ out : List ℕ) 
 whole limit T rows s out₀ out {a} d = go a d
   where
     go : (a : Answer) → Did limit T rows s out₀ out a → length out ≡ length out₀
-    go (Written n) d = (written_whole limit T rows s out₀ out d).1
-    go (Refused m) d = ap length d.leaves ∙ length-replicate (length out₀) 0
+    go (Ok n) d = (written_whole limit T rows s out₀ out d).1
+    go (Err m) d = ap length d.leaves ∙ length-replicate (length out₀) 0
 
 -- NUMBERS: the writer refuses with these and no other
-pub refused_number : (limit : ℕ) (T : List ℕ) (rows : ℕ) (s out₀ out : List ℕ) {m : Refusal} → Did limit T rows s out₀ out (Refused m) → one_of (10 ∷ 11 ∷ 12 ∷ 13 ∷ 23 ∷ []) (number_of m) ≡ true
+pub refused_number : (limit : ℕ) (T : List ℕ) (rows : ℕ) (s out₀ out : List ℕ) {m : Refusal} → Did limit T rows s out₀ out (Err m) → one_of (10 ∷ 11 ∷ 12 ∷ 13 ∷ 23 ∷ []) (number_of m) ≡ true
 refused_number limit T rows s out₀ out {m} d = go ((refused_exactly limit T rows s (length out₀)).0 (sym d.says))
   where
     go : {m : Refusal} → RefusedFor limit T rows s (length out₀) m → one_of (10 ∷ 11 ∷ 12 ∷ 13 ∷ 23 ∷ []) (number_of m) ≡ true
@@ -238,7 +238,7 @@ read_derives limit s words d =
     record { cells = h.cells; meaning = rw (accepted_rows_of limit s words d) h.meaning; derived = h.begins.derived }
 
 pub written_derives :
-    (limit : ℕ) (T : List ℕ) (rows : ℕ) (s out₀ out : List ℕ) {n : ℕ} → Did limit T rows s out₀ out (Written n) → Words T
+    (limit : ℕ) (T : List ℕ) (rows : ℕ) (s out₀ out : List ℕ) {n : ℕ} → Did limit T rows s out₀ out (Ok n) → Words T
     → DerivesRows limit (written s (rows_of 4096 T rows)) s (rows_of 4096 T rows)
 written_derives limit T rows s out₀ out {n} d w = form_derived limit T rows s ((accepted_exactly limit T rows s (length out₀) n).0 (sym d.says)).shape w
 
@@ -267,7 +267,7 @@ read_refused limit s words later room o h e t l (short_output i a b c d) = (λ z
 -- whose limit is not lower; and if at most 256 texts repeat, not with 12 either
 pub from_the_reader :
     (limit : ℕ) (s : List ℕ) (words later : ℕ) {T : List ℕ} {n used : ℕ} (out₀ out : List ℕ) {m : Refusal} → Octets s → limit ≤ later
-    → Answers (reading limit s words) words T (Accepted n used) → Did later T n s out₀ out (Refused m)
+    → Answers (reading limit s words) words T (Accepted n used) → Did later T n s out₀ out (Err m)
     → (number_of m ≡ 11 → ⊥) × (length (repeated (texts_of s (rows_of 4096 T n))) ≤ 256 → number_of m ≡ 12 → ⊥)
 from_the_reader limit s words later {T} {n} out₀ out o h c d =
     let g = accepted_read limit s words c in

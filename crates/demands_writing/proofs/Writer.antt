@@ -1,4 +1,4 @@
--- Demands 2 and 3, said of the writer's own answer and output: if `writer::write` answers `Written n`, the first n bytes of the output are read
+-- Demands 2 and 3, said of the writer's own answer and output: if `writer::write` answers `Ok n`, the first n bytes of the output are read
 -- back with the table's meaning, are settled by it, and no message with it is shorter; and the words of the stated rows are all that is looked
 -- at. `Did limit T rows s out₀ out a` is the promise of that function, as in Accepting. Assumes nothing.
 use mathlib.Core.Path.{◌≡◌, refl, sym, ap, ◌∙◌}
@@ -23,8 +23,8 @@ use Rattle.read_answer.specs.declared.Answer.{Answer as ReaderAnswer}
 use Rattle.read_answer.specs.declared.Answer.TheVariants.{Accepted}
 use Rattle.read_answer.specs.Answers.{reading, table_of, Answers}
 use Rattle.read_answer.specs.Answers as reader
-use Rattle.write_answer.specs.declared.Answer.{Answer}
-use Rattle.write_answer.specs.declared.Answer.TheVariants.{Written}
+use Rattle.write_answer.specs.Answers.{Answer}
+use Rattle.std.specs.Prelude.{Ok}
 use Rattle.write_answer.specs.Answers.{form_of, answer_of, Did}
 use Rattle.exact.proofs.Realising.{same_meaning}
 use Rattle.exact.proofs.Concluding.{reads}
@@ -33,8 +33,8 @@ use Rattle.demands_writing.proofs.Writing.{Words, Octets, ReadsBack, reading_bac
 use Rattle.demands_writing.proofs.Accepting.{AcceptedFor, accepted_exactly, written_whole}
 use Rattle.demands_writing.proofs.Rows.{writable_alike, by_words, by_columns}
 
--- a call that answered `Written n`
-module _ (limit : ℕ) (T : List ℕ) (rows : ℕ) (s out₀ out : List ℕ) {n : ℕ} (d : Did limit T rows s out₀ out (Written n)) where
+-- a call that answered `Ok n`
+module _ (limit : ℕ) (T : List ℕ) (rows : ℕ) (s out₀ out : List ℕ) {n : ℕ} (d : Did limit T rows s out₀ out (Ok n)) where
   accepted : AcceptedFor limit T rows s (length out₀) n
   accepted = (accepted_exactly limit T rows s (length out₀) n).0 (sym d.says)
 
@@ -89,7 +89,7 @@ module _ (limit : ℕ) (T : List ℕ) (rows : ℕ) (s out₀ out : List ℕ) {n 
 -- ONE FORM. Two accepted calls wrote the same bytes exactly if the tables, each with its text bytes, mean the same, however many texts repeat.
 pub same_bytes :
     (limit limit' : ℕ) (T T' : List ℕ) (rows rows' : ℕ) (s s' out₀ out₁ out out' : List ℕ) {n n' : ℕ} → Words T → Words T'
-    → Did limit T rows s out₀ out (Written n) → Did limit' T' rows' s' out₁ out' (Written n')
+    → Did limit T rows s out₀ out (Ok n) → Did limit' T' rows' s' out₁ out' (Ok n')
     → MeanSame s s' (rows_of 4096 T rows) (rows_of 4096 T' rows') ↔ (take n out ≡ take n' out')
 same_bytes limit limit' T T' rows rows' s s' out₀ out₁ out out' w w' d d' =
     rw (first_bytes limit T rows s out₀ out d, first_bytes limit' T' rows' s' out₁ out' d')

@@ -8,12 +8,12 @@ ghost use Rattle.lexical.specs.Digits.{digit, digit_value};
 pub fn is_digit(b: u8) -> bool
     ensures { result ≡ digit b }
 {
-    (b'0' <= b) & (b <= b'9')
+    b.is_ascii_digit()
 }
 
 // What a digit counts; 0 for a byte before `0`.
 pub fn value_of(b: u8) -> usize
     ensures { (result ≡ digit_value b) × (result < 256) }
 {
-    if b < b'0' { 0 } else { (b - b'0') as usize }
+    usize::from(b.saturating_sub(b'0'))
 }

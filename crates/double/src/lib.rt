@@ -18,25 +18,20 @@ fn is_sign(b: u8) -> bool
 fn past_sign(s: &[u8]) -> usize
     ensures { result ≡ sign_length s.now }
 {
-    if 0 < s.len() {
-        if is_sign(s[0]) {
-            return 1;
-        }
+    match s.first() {
+        Some(b) if is_sign(*b) => 1,
+        _ => 0,
     }
-    0
 }
 
+// Stays: `at + s.iter().skip(at).take_while(|b| is_digit(**b)).count()` is no plainer.
 // The place after the digits that stand from `at` on.
 fn past_digits(s: &[u8], at: usize) -> usize
     ensures { result ≡ at + leading (drop at s.now) }
 {
     let mut i = at;
-    while i < s.len() {
-        if is_digit(s[i]) {
-            i += 1;
-        } else {
-            return i;
-        }
+    while i < s.len() && is_digit(s[i]) {
+        i += 1;
     }
     i
 }
@@ -46,18 +41,9 @@ pub fn is_double(s: &[u8]) -> bool
 {
     let start = past_sign(s);
     let point = past_digits(s, start);
-    if point == start {
+    if point == start || s.len() <= point || s[point] != b'.' {
         return false;
     }
-    if s.len() <= point {
-        return false;
-    }
-    if s[point] == b'.' {
-        let end = past_digits(s, point + 1);
-        if end == point + 1 {
-            return false;
-        }
-        return end == s.len();
-    }
-    false
+    let end = past_digits(s, point + 1);
+    point + 1 < end && end == s.len()
 }

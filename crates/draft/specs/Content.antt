@@ -6,40 +6,40 @@ use Rattle.lexical.specs.Double.{is_double}
 use Rattle.lexical.specs.DateTime.{is_date_time}
 use Rattle.draft.specs.declared.Refusal.{Refusal}
 use Rattle.draft.specs.declared.Refusal.TheVariants.{Ended, BadText, StandardName, BadFault, BadValue, RepeatedKey}
-use Rattle.draft.specs.declared.Verdict.{Verdict}
-use Rattle.draft.specs.declared.Verdict.TheVariants.{Fine, Bad}
+use Rattle.draft.specs.Verdict.{Verdict}
+use Rattle.std.specs.Prelude.{Ok, Err}
 use Rattle.draft.specs.declared.Content.{Content}
 use Rattle.draft.specs.declared.Content.TheVariants.{Double, DateTime, Binary, Text}
 use Rattle.draft.specs.Bytes.{bytes, part}
 use Rattle.draft.specs.Rows.{kind_of}
 
 abbrev pub fine_if : Bool → Refusal → Verdict
-fine_if true refusal = Fine
-fine_if false refusal = Bad refusal
+fine_if true refusal = Ok tt
+fine_if false refusal = Err refusal
 
 -- bytes that are not ASCII are 5, whatever else they are; then ASCII that is no such text is 17
 abbrev pub ascii_then : Bool → Bool → Verdict
 ascii_then true good = fine_if good BadValue
-ascii_then false good = Bad BadText
+ascii_then false good = Err BadText
 
 -- a Double's and a DateTime's bytes are ASCII and such a text, a String's are UTF-8, a Binary's are any
 unfoldable pub content_rule : Content → List ℕ → Verdict
 content_rule Double s = ascii_then (ascii s) (is_double s)
 content_rule DateTime s = ascii_then (ascii s) (is_date_time s)
-content_rule Binary s = Fine
+content_rule Binary s = Ok tt
 content_rule Text s = fine_if (well_formed s) BadText
 
 abbrev pub all_there : Bool → Verdict → Verdict
 all_there true v = v
-all_there false v = Bad Ended
+all_there false v = Err Ended
 
 -- of the n bytes at o: they are all there, and then what their rule says
 unfoldable pub verdict : Content → List ℕ → ℕ → ℕ → Verdict
 verdict c s o n = all_there (leb (o + n) (length s)) (content_rule c (part s o n))
 
 abbrev pub bad_if : Bool → Refusal → Verdict
-bad_if true refusal = Bad refusal
-bad_if false refusal = Fine
+bad_if true refusal = Err refusal
+bad_if false refusal = Ok tt
 
 -- the name in an Other is not a standard type's
 unfoldable pub name_rule : List ℕ → Verdict

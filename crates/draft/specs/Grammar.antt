@@ -4,7 +4,7 @@
 use Rattle.std.specs.Prelude.{◌≡◌, cond, List, [], ◌∷◌, ◌++◌, ℕ, zero, suc, ◌+◌, ◌*◌, ◌≤◌, eqb, length, take}
 use Rattle.std.proofs.Math.Option.{Option, some, none}
 use Prim.Native.Char.{code}
-use Rattle.draft.specs.declared.Verdict.TheVariants.{Fine}
+use Rattle.std.specs.Prelude.{Ok}
 use Rattle.draft.specs.declared.Content.{Content}
 use Rattle.draft.specs.declared.Content.TheVariants as content
 use Rattle.draft.specs.Bytes.{bytes}
@@ -74,7 +74,7 @@ LSB n i j k l = n ≡ i + 256 * (j + 256 * (k + 256 * l))
 
 -- content that keeps the rule of its kind, which reading cites too
 abbrev pub Keeps : Content → List ℕ → Type 0
-Keeps c t = content_rule c t ≡ Fine
+Keeps c t = content_rule c t ≡ Ok tt
 
 -- THE PRODUCTIONS. `P d xs cs fs`: the bytes xs are a P in which Arrays and Structs nest to a depth of at most d, P itself counted; cs is what
 -- it means, and fs are its Strings in order, as sent. A P without d nests nothing; one without cs means a number or content; one without fs has no
@@ -123,7 +123,7 @@ mutual
     fault :
         {d : ℕ} {xs : List ℕ} {cs : List Cell} {fs : List Sent}
         → Struct d xs cs fs
-        → fault_rule (held_cells (below cs)) ≡ Fine
+        → fault_rule (held_cells (below cs)) ≡ Ok tt
         → Fault d (code "F" ∷ xs) cs fs
 
   -- Value := (Integer|Boolean|Double|DateTimeISO8601Binary|Array|Struct|String|Other)
@@ -206,7 +206,7 @@ mutual
     more_pairs :
         {d n : ℕ} {seen : List (List ℕ)} {t xs ys zs : List ℕ} {us vs ws : List Cell} {fs gs hs : List Sent}
         → Pair d t xs us fs
-        → key_rule seen t ≡ Fine
+        → key_rule seen t ≡ Ok tt
         → Pairs d (t ∷ seen) n ys vs gs
         → zs ≡ xs ++ ys
         → ws ≡ us ++ vs
@@ -229,7 +229,7 @@ mutual
     other :
         {xs ys zs t u : List ℕ} {f : Sent}
         → String xs t f
-        → name_rule t ≡ Fine
+        → name_rule t ≡ Ok tt
         → Binary ys u
         → zs ≡ xs ++ ys
         → Other (code "O" ∷ zs) (other_cell ∷ content_cell content.Text t ∷ content_cell content.Binary u ∷ []) f

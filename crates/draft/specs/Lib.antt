@@ -2,6 +2,7 @@ pub mod Refusals
 pub mod Limits
 pub mod Rows
 pub mod Bytes
+pub mod Verdict
 pub mod Content
 pub mod Codebook
 pub mod Table

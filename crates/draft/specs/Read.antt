@@ -4,8 +4,8 @@ use Rattle.std.specs.Prelude.{ℕ, zero, suc, ◌+◌, Bool, true, ◌&&◌, con
 use Prim.Native.Char.{code}
 use Rattle.draft.specs.declared.Refusal.{Refusal}
 use Rattle.draft.specs.declared.Refusal.TheVariants.{Ended, WrongPrefix, UnexpectedByte, UnsetPosition, TooDeep, NoRow, TooLong}
-use Rattle.draft.specs.declared.Verdict.{Verdict}
-use Rattle.draft.specs.declared.Verdict.TheVariants.{Fine, Bad}
+use Rattle.draft.specs.Verdict.{Verdict}
+use Rattle.std.specs.Prelude.{Ok, Err, Some, None}
 use Rattle.draft.specs.declared.Content.{Content}
 use Rattle.draft.specs.declared.Content.TheVariants as content
 use Rattle.draft.specs.declared.Tag.{Tag}
@@ -14,13 +14,11 @@ use Rattle.draft.specs.declared.Plain.{Plain as PlainItem}
 use Rattle.draft.specs.declared.Plain.TheVariants.{Integer, True, False, Double, DateTime, Binary, Other}
 use Rattle.draft.specs.declared.Form.{Form}
 use Rattle.draft.specs.declared.Form.TheVariants.{Regular, Recorded, Recalled}
-use Rattle.draft.specs.declared.Entry.{Entry}
-use Rattle.draft.specs.declared.Entry.TheVariants.{Unset, Text}
 use Rattle.draft.specs.declared.Row.{Row}
 use Rattle.draft.specs.Bytes.{bytes, byte_at, unsigned_at, part}
 use Rattle.draft.specs.Rows.{row, below, kind_of}
 use Rattle.draft.specs.Content.{verdict, name_rule, key_rule, Held, held_of, fault_rule}
-use Rattle.draft.specs.Codebook.{Book, clear, recorded}
+use Rattle.draft.specs.Codebook.{Entry, Book, clear, recorded}
 
 -- the rows, where the next byte stands, and the codebook; or why and where it is refused
 pub data Reading : Type 0 where
@@ -38,8 +36,8 @@ Reader = ℕ → ℕ → Book → Reading
 
 -- what a rule says, for the item at `at`
 abbrev pub judged : Verdict → ℕ → Reading → Reading
-judged Fine at o = o
-judged (Bad m) at o = refused m at
+judged (Ok tt) at o = o
+judged (Err m) at o = refused m at
 
 -- the rows of what stands before, in front of a reading's rows
 abbrev pub behind : List Row → Reading → Reading
@@ -148,8 +146,8 @@ module _ (s : List ℕ) (room : ℕ) where
 
   -- the text set last at a position, or 6
   abbrev pub recalled : Entry → ℕ → ℕ → Book → Reading
-  recalled Unset at r book = refused UnsetPosition at
-  recalled (Text o n) at r book = leaf (kind_of content.Text) o n r (at + 2) book
+  recalled None at r book = refused UnsetPosition at
+  recalled (Some x) at r book = leaf (kind_of content.Text) x.offset x.length r (at + 2) book
 
   abbrev pub recalled_item : Reader
   recalled_item at r book = opened 2 at r (recalled (book (byte_at s (at + 1))) at r book)

@@ -1,8 +1,8 @@
 -- Writable tables, by document 01's rules: where the rows of an item end that begins at row r, if they are such an item's rows.
 -- Every word of every row is judged. Limits are parameters. Assumes nothing.
-use Rattle.std.specs.Prelude.{ℕ, zero, suc, ◌+◌, ◌*◌, ◌-◌, Bool, true, false, ◌&&◌, List, [], ◌∷◌, length, ltb, leb, eqb}
-use Rattle.draft.specs.declared.Verdict.{Verdict}
-use Rattle.draft.specs.declared.Verdict.TheVariants.{Fine, Bad}
+use Rattle.std.specs.Prelude.{ℕ, zero, suc, ◌+◌, ◌*◌, ◌-◌, Bool, true, false, ◌&&◌, List, [], ◌∷◌, length, ltb, leb, eqb, Option, Some, None}
+use Rattle.draft.specs.Verdict.{Verdict}
+use Rattle.std.specs.Prelude.{Ok, Err}
 use Rattle.draft.specs.declared.Content.{Content as ContentOf}
 use Rattle.draft.specs.declared.Content.TheVariants.{Double, DateTime, Binary, Text}
 use Rattle.draft.specs.declared.Item.{Item}
@@ -18,31 +18,29 @@ use Rattle.draft.specs.declared.Item.TheVariants.{
   Other,
   Unknown,
 }
-use Rattle.draft.specs.declared.Extent.{Extent}
-use Rattle.draft.specs.declared.Extent.TheVariants.{Until, Unfit}
 use Rattle.draft.specs.declared.Row.{Row}
 use Rattle.draft.specs.Rows.{kind_of, item_of}
 use Rattle.draft.specs.Content.{verdict, name_rule, key_rule, fault_rule}
 use Rattle.draft.specs.Table.{room_of, row_at, from}
 use Rattle.draft.specs.Read.{Texts, text_of, held_rows}
 
-abbrev pub fit : Bool → Extent → Extent
+abbrev pub fit : Bool → Option ℕ → Option ℕ
 fit true o = o
-fit false o = Unfit
+fit false o = None
 
 -- what a rule says
-abbrev pub ruled : Verdict → Extent → Extent
-ruled Fine o = o
-ruled (Bad refusal) o = Unfit
+abbrev pub ruled : Verdict → Option ℕ → Option ℕ
+ruled (Ok tt) o = o
+ruled (Err refusal) o = None
 
 -- an extent, and what goes on from the row that it ends at
-abbrev pub then : Extent → (ℕ → Extent) → Extent
-then Unfit more = Unfit
-then (Until r) more = more r
+abbrev pub then : Option ℕ → (ℕ → Option ℕ) → Option ℕ
+then None more = None
+then (Some r) more = more r
 
 -- where an item that begins at a row ends
 abbrev pub Walk : Type 0
-Walk = ℕ → Extent
+Walk = ℕ → Option ℕ
 
 -- two items, one after the other
 unfoldable pub pair : Walk → Walk → Walk
@@ -50,7 +48,7 @@ pair f g r = then (f r) g
 
 -- n more items by f, the next at row r. f sees the texts `seen`, to which `more` adds what it keeps of the item at a row
 unfoldable pub items : (Texts → Walk) → (Texts → ℕ → Texts) → ℕ → Texts → Walk
-items f more zero seen r = Until r
+items f more zero seen r = Some r
 items f more (suc n) seen r = then (f seen r) (λ next. items f more n (more seen r) next)
 
 -- each alike, whatever was seen, and nothing is kept
@@ -61,19 +59,19 @@ unfoldable pub nothing : Texts → ℕ → Texts
 nothing seen r = seen
 
 -- 'end' is the row number just after the item's last descendant
-abbrev pub closed : Row → Extent → Extent
-closed x Unfit = Unfit
-closed x (Until r) = fit (eqb x.end r) (Until r)
+abbrev pub closed : Row → Option ℕ → Option ℕ
+closed x None = None
+closed x (Some r) = fit (eqb x.end r) (Some r)
 
 -- an item with nothing below it
 abbrev pub leaf : Row → Walk
-leaf x r = closed x (Until (r + 1))
+leaf x r = closed x (Some (r + 1))
 
 -- an item that holds others: a is 0, and b how many, where that is settled
-abbrev pub over : Row → Extent → Extent
+abbrev pub over : Row → Option ℕ → Option ℕ
 over x o = fit (eqb x.a 0) (closed x o)
 
-abbrev pub holding : ℕ → Row → Extent → Extent
+abbrev pub holding : ℕ → Row → Option ℕ → Option ℕ
 holding b x o = fit (eqb x.b b) (over x o)
 
 abbrev pub integer_item : Row → Walk
@@ -103,7 +101,7 @@ abbrev pub counted : (Texts → Walk) → (Texts → ℕ → Texts) → Row → 
 counted f more x r = over x (items f more x.b [] (r + 1))
 
 abbrev pub array_item : Nest → Row → Walk
-array_item floor x r = Unfit
+array_item floor x r = None
 array_item (under f) x r = counted (alike f) nothing x r
 
 -- the rows by their numbers, how many there are, and the text bytes
@@ -117,7 +115,7 @@ module _ (row : ℕ → Row) (rows : ℕ) (s : List ℕ) where
 
   -- a String that keeps a rule
   unfoldable pub string_by : (List ℕ → Verdict) → Walk
-  string_by rule r = then (string r) (λ next. ruled (rule (text_of s (row r))) (Until next))
+  string_by rule r = then (string r) (λ next. ruled (rule (text_of s (row r))) (Some next))
 
   -- an Other's name
   abbrev pub name : Walk
@@ -136,7 +134,7 @@ module _ (row : ℕ → Row) (rows : ℕ) (s : List ℕ) where
 
   -- b pairs of key and value
   abbrev pub struct_item : Nest → Row → Walk
-  struct_item floor x r = Unfit
+  struct_item floor x r = None
   struct_item (under f) x r = counted (member f) keeping x r
 
   abbrev pub item : Item → Nest → Row → Walk
@@ -146,10 +144,10 @@ module _ (row : ℕ → Row) (rows : ℕ) (s : List ℕ) where
   item Array nest x r = array_item nest x r
   item Struct nest x r = struct_item nest x r
   item Other nest x r = other_item x r
-  item Call nest x r = Unfit
-  item Response nest x r = Unfit
-  item Fault nest x r = Unfit
-  item Unknown nest x r = Unfit
+  item Call nest x r = None
+  item Response nest x r = None
+  item Fault nest x r = None
+  item Unknown nest x r = None
 
   -- a Value in which Arrays and Structs nest to a depth of at most `deep`
   unfoldable pub value : ℕ → Walk
@@ -164,7 +162,7 @@ module _ (row : ℕ → Row) (rows : ℕ) (s : List ℕ) where
   unfoldable pub fault_struct : ℕ → Walk
   fault_struct deep r =
       then (only 10 (struct_item (nested deep)) r)
-      (λ next. fit (leb next rows) (ruled (fault_rule (held_rows s (from row (r + 1) (next - (r + 1))))) (Until next)))
+      (λ next. fit (leb next rows) (ruled (fault_rule (held_rows s (from row (r + 1) (next - (r + 1))))) (Some next)))
 
   -- a Call holds its method and an Array, a Response a Value, a fault a Struct
   abbrev pub call_item : ℕ → Row → Walk
@@ -180,21 +178,21 @@ module _ (row : ℕ → Row) (rows : ℕ) (s : List ℕ) where
   first Call deep x r = call_item deep x r
   first Response deep x r = response_item deep x r
   first Fault deep x r = fault_item deep x r
-  first Integer deep x r = Unfit
-  first Boolean deep x r = Unfit
-  first (Content c) deep x r = Unfit
-  first Array deep x r = Unfit
-  first Struct deep x r = Unfit
-  first Other deep x r = Unfit
-  first Unknown deep x r = Unfit
+  first Integer deep x r = None
+  first Boolean deep x r = None
+  first (Content c) deep x r = None
+  first Array deep x r = None
+  first Struct deep x r = None
+  first Other deep x r = None
+  first Unknown deep x r = None
 
   unfoldable pub call_or_response : ℕ → Walk
   call_or_response deep r = fit (ltb r rows) (first (item_of (row r).kind) deep (row r) r)
 
 -- all the rows, and no other
-abbrev pub wholly : ℕ → Extent → Bool
-wholly rows (Until r) = eqb r rows
-wholly rows Unfit = false
+abbrev pub wholly : ℕ → Option ℕ → Bool
+wholly rows (Some r) = eqb r rows
+wholly rows None = false
 
 -- with text bytes, rows and nesting of at most so much: the number of rows is 1 at least, the words hold them, and row 0 is a Call or a
 -- Response that ends at that number

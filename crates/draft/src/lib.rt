@@ -11,36 +11,39 @@ pub const MOST_NESTING: usize = 32;
 
 pub const USUAL_NESTING: usize = 8;
 
-// Why a message or a table is refused, in the order of the papers' numbers.
-#[derive(Clone, Copy)]
+// Why a message or a table is refused, by the papers' numbers.
+#[derive(Clone, Copy, Debug, PartialEq, Eq)]
 pub enum Refusal {
-    Ended,
-    WrongPrefix,
-    UnexpectedByte,
-    BadText,
-    UnsetPosition,
-    StandardName,
-    TooDeep,
-    NoRow,
-    TooLong,
-    NotWritable,
-    FormTooLong,
-    OutputTooShort,
-    BadFault,
-    BadValue,
-    RepeatedKey,
-    NoLimit,
+    Ended = 1,
+    WrongPrefix = 2,
+    UnexpectedByte = 3,
+    BadText = 5,
+    UnsetPosition = 6,
+    StandardName = 7,
+    TooDeep = 8,
+    NoRow = 9,
+    TooLong = 10,
+    NotWritable = 11,
+    FormTooLong = 12,
+    OutputTooShort = 13,
+    BadFault = 14,
+    BadValue = 17,
+    RepeatedKey = 20,
+    NoLimit = 23,
+}
+
+// A refusal, and the place in the message that it is about.
+#[derive(Clone, Copy, Debug, PartialEq, Eq)]
+pub struct Refused<R = Refusal> {
+    pub refusal: R,
+    pub place: usize,
 }
 
 // What a rule says of some content.
-#[derive(Drop)]
-pub enum Verdict {
-    Fine,
-    Bad(Refusal),
-}
+pub type Verdict = Result<(), Refusal>;
 
 // The items whose rows name content bytes.
-#[derive(Clone, Copy)]
+#[derive(Clone, Copy, Debug, PartialEq, Eq)]
 pub enum Content {
     Double,
     DateTime,
@@ -49,7 +52,7 @@ pub enum Content {
 }
 
 // What a byte begins where a Value is looked for, if anything.
-#[derive(Drop)]
+#[derive(Clone, Copy, Debug, PartialEq, Eq)]
 pub enum Tag {
     Plain(Plain),
     String(Form),
@@ -59,7 +62,7 @@ pub enum Tag {
 }
 
 // The items that are no String and hold no Values.
-#[derive(Drop)]
+#[derive(Clone, Copy, Debug, PartialEq, Eq)]
 pub enum Plain {
     Integer,
     True,
@@ -71,22 +74,25 @@ pub enum Plain {
 }
 
 // The three kinds of String.
-#[derive(Drop)]
+#[derive(Clone, Copy, Debug, PartialEq, Eq)]
 pub enum Form {
     Regular,
     Recorded,
     Recalled,
 }
 
-// What a position of the codebook holds: nothing, or a text by where its bytes lie.
-#[derive(Drop)]
-pub enum Entry {
-    Unset,
-    Text { offset: u32, length: u32 },
+// Where the bytes of a text lie.
+#[derive(Clone, Copy, Debug, PartialEq, Eq)]
+pub struct Span {
+    pub offset: u32,
+    pub length: u32,
 }
 
+// What a position of the codebook holds: nothing, or a text by where its bytes lie.
+pub type Entry = Option<Span>;
+
 // A row of a table: four words.
-#[derive(Clone, Copy)]
+#[derive(Clone, Copy, Debug, PartialEq, Eq)]
 pub struct Row {
     pub kind: u32,
     pub a: u32,
@@ -95,7 +101,7 @@ pub struct Row {
 }
 
 // The item that a row's kind names, if any.
-#[derive(Drop)]
+#[derive(Clone, Copy, Debug, PartialEq, Eq)]
 pub enum Item {
     Call,
     Response,
@@ -109,13 +115,6 @@ pub enum Item {
     Unknown,
 }
 
-// Which rows of a table are an item's: those until a row, or that they are no such item's.
-#[derive(Drop)]
-pub enum Extent {
-    Until(usize),
-    Unfit,
-}
-
 // Whether a call may state this limit of nesting.
 pub fn allowed(limit: usize) -> bool
     ensures { result ≡ allowedBy limit }
@@ -127,27 +126,18 @@ pub fn allowed(limit: usize) -> bool
 }
 
 // The papers' number of a refusal.
+impl From<Refusal> for u8 {
+    ghost from_gives = { λ r n. n ≡ number_of r };
+
+    fn from(refusal: Refusal) -> u8 {
+        refusal as u8
+    }
+}
+
 pub fn number(refusal: Refusal) -> u8
     ensures { result ≡ number_of refusal }
 {
-    match refusal {
-        Refusal::Ended => 1,
-        Refusal::WrongPrefix => 2,
-        Refusal::UnexpectedByte => 3,
-        Refusal::BadText => 5,
-        Refusal::UnsetPosition => 6,
-        Refusal::StandardName => 7,
-        Refusal::TooDeep => 8,
-        Refusal::NoRow => 9,
-        Refusal::TooLong => 10,
-        Refusal::NotWritable => 11,
-        Refusal::FormTooLong => 12,
-        Refusal::OutputTooShort => 13,
-        Refusal::BadFault => 14,
-        Refusal::BadValue => 17,
-        Refusal::RepeatedKey => 20,
-        Refusal::NoLimit => 23,
-    }
+    u8::from(refusal)
 }
 
 // The refusal that has a number.

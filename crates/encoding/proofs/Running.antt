@@ -113,8 +113,8 @@ module _ {row : ℕ → Row} {rows : ℕ} {s : List ℕ} {first most : ℕ} {o :
         few = omega (arith, i.within);
       }
 
-  pub run_done : first < rows → rows ≤ r → Ran row rows s first most o out (record { end = r; bytes = at })
-  run_done h l = ended (omega arith)
+  pub run_done : first < rows → rows ≤ r → Ran row rows s first most o out (record { end = rows; bytes = at })
+  run_done h l = let q : r ≡ rows = omega (arith, i.between.within) in rw q at (ended (omega arith))
 
   -- a string ends the run, which has a row
   pub run_string : {x : Row} → ((row first).kind ≡ 11 → ⊥) → x ≡ row r → x.kind ≡ 11 → Ran row rows s first most o out (record { end = r; bytes = at })

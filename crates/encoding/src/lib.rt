@@ -7,7 +7,7 @@ ghost use Rattle.extents.specs.Asked.{Ready};
 ghost use Rattle.encoding.specs.Contract.{Ran};
 
 // A run of rows that are no strings: the row behind it, and how many bytes its items have.
-#[derive(Drop)]
+#[derive(Clone, Copy, PartialEq, Eq)]
 pub struct Run {
     pub end: usize,
     pub bytes: usize,
@@ -29,8 +29,7 @@ pub fn put_run(
     ensures { Ran (row_at room table.now) rows text.now first most out.old out.new result }
 {
     let mut at = 0;
-    let mut r = first;
-    while r < rows {
+    for r in first..rows {
         let row = table::get_row(table, room, r);
         if row.kind == 11 {
             return Run { end: r, bytes: at };
@@ -44,7 +43,9 @@ pub fn put_run(
             };
         }
         at += n;
-        r += 1;
     }
-    Run { end: r, bytes: at }
+    Run {
+        end: rows,
+        bytes: at,
+    }
 }

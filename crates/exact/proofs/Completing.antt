@@ -11,8 +11,8 @@ use lib.Dec.{eqb}
 use lib.ListN.{length, get_or, length-append}
 use borrow.Author.Tests.{lt-ltb, le-leb, eq-eqb}
 use Rattle.draft.specs.declared.Row.{Row}
-use Rattle.draft.specs.declared.Verdict.{Verdict}
-use Rattle.draft.specs.declared.Verdict.TheVariants.{Fine}
+use Rattle.draft.specs.Verdict.{Verdict}
+use Rattle.std.specs.Prelude.{Ok}
 use Rattle.draft.specs.declared.Content.{Content}
 use Rattle.draft.specs.declared.Content.TheVariants as content
 use Rattle.draft.specs.declared.Tag.{Tag}
@@ -274,7 +274,7 @@ module _ (s : List ℕ) (room : ℕ) where
   first_text_lem [] {r = r} {t = t} {cs = cs} c x' = elim x' [ ]
 
   string_by_read :
-      (rule : List ℕ → Verdict) {xs t : List ℕ} {f : Sent} → String xs t f → rule t ≡ Fine → (o : ℕ)
+      (rule : List ℕ → Verdict) {xs t : List ℕ} {f : Sent} → String xs t f → rule t ≡ Ok tt → (o : ℕ)
       → ReadBy s room (string_by s room rule o) xs (content_cell content.Text t ∷ []) (f ∷ [])
   unfolding string_by
   string_by_read rule x k o =
@@ -286,12 +286,12 @@ module _ (s : List ℕ) (room : ℕ) where
       }
 
   name_read :
-      (o : ℕ) {xs t : List ℕ} {f : Sent} → String xs t f → name_rule t ≡ Fine
+      (o : ℕ) {xs t : List ℕ} {f : Sent} → String xs t f → name_rule t ≡ Ok tt
       → ReadBy s room (name s room o) xs (content_cell content.Text t ∷ []) (f ∷ [])
   name_read o x k = string_by_read name_rule x k o
 
   key_read :
-      (seen : Texts) {xs t : List ℕ} {f : Sent} → String xs t f → key_rule seen t ≡ Fine
+      (seen : Texts) {xs t : List ℕ} {f : Sent} → String xs t f → key_rule seen t ≡ Ok tt
       → ReadBy s room (key s room seen) xs (content_cell content.Text t ∷ []) (f ∷ [])
   unfolding key
   key_read seen x k = record { reads = λ at. (string_by_read (key_rule seen) x k at).reads at }
@@ -412,7 +412,7 @@ module _ (s : List ℕ) (room : ℕ) where
         more_items (member_read p seen k) (λ r rows m. rw (key_text_lem rows p m)) (pairs_read ps) e f g
 
     pub member_read :
-        {d : ℕ} {t xs : List ℕ} {cs : List Cell} {fs : List Sent} → Pair d t xs cs fs → (seen : Texts) → key_rule seen t ≡ Fine
+        {d : ℕ} {t xs : List ℕ} {cs : List Cell} {fs : List Sent} → Pair d t xs cs fs → (seen : Texts) → key_rule seen t ≡ Ok tt
         → ReadBy s room (member s room (value s room d) seen) xs cs fs
     member_read (pair x v e) seen k = pair_read (key_read seen x k) (value_read v) e
 
@@ -440,7 +440,7 @@ module _ (s : List ℕ) (room : ℕ) where
 
   -- a fault's Struct that keeps its rule
   fault_read :
-      {d : ℕ} {xs : List ℕ} {cs : List Cell} {fs : List Sent} → Struct d xs cs fs → fault_rule (held_cells (below cs)) ≡ Fine
+      {d : ℕ} {xs : List ℕ} {cs : List Cell} {fs : List Sent} → Struct d xs cs fs → fault_rule (held_cells (below cs)) ≡ Ok tt
       → ReadBy s room (fault_struct s room d) xs cs fs
   unfolding fault_struct
   fault_read x k =

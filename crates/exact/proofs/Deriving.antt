@@ -13,8 +13,8 @@ use Rattle.text.proofs.Comparing.{clash}
 use Rattle.draft.specs.declared.Refusal.{Refusal}
 use Rattle.draft.specs.declared.Refusal.TheVariants.{UnexpectedByte}
 use Rattle.draft.specs.declared.Row.{Row}
-use Rattle.draft.specs.declared.Verdict.{Verdict}
-use Rattle.draft.specs.declared.Verdict.TheVariants.{Fine, Bad}
+use Rattle.draft.specs.Verdict.{Verdict}
+use Rattle.std.specs.Prelude.{Ok, Err}
 use Rattle.draft.specs.declared.Content.{Content}
 use Rattle.draft.specs.declared.Content.TheVariants as content
 use Rattle.draft.specs.declared.Tag.{Tag}
@@ -23,12 +23,11 @@ use Rattle.draft.specs.declared.Plain.{Plain}
 use Rattle.draft.specs.declared.Plain.TheVariants as plain
 use Rattle.draft.specs.declared.Form.{Form}
 use Rattle.draft.specs.declared.Form.TheVariants.{Regular, Recorded, Recalled}
-use Rattle.draft.specs.declared.Entry.{Entry}
-use Rattle.draft.specs.declared.Entry.TheVariants.{Unset, Text}
+use Rattle.std.specs.Prelude.{Some, None}
 use Rattle.draft.specs.Bytes.{byte_at, unsigned_at, part}
 use Rattle.draft.specs.Rows.{row, below, kind_of}
 use Rattle.draft.specs.Content.{content_rule, all_there, verdict, name_rule, key_rule, fault_rule}
-use Rattle.draft.specs.Codebook.{Book, clear, recorded as record-text}
+use Rattle.draft.specs.Codebook.{Entry, Book, clear, recorded as record-text}
 use Rattle.draft.specs.Read.{Reading, got, refused, then, judged, Reader, behind, over, pair as read-pair, items, alike, leaf, tag_of, Nest, floor, under, present, opened, contents as read-contents, integer_item, boolean_item, short_item, long_item, recorded_item, recalled as recalledEntry, recalled_item, string_item, if_string, string as read-string, only, first_text, string_by, name, Texts, nothing, key, member, keeping, other_item, counted, array_item, struct_item, item, value, nested, call_item, held_rows, fault_struct, response_item, call_or_response, prefix, agree, message}
 use Rattle.draft.specs.Grammar.{Cell, cell, holding, content_cell, held_cells, Sent, regular, LSB, Keeps, Message, call_message, response_message, Call, call, Response, value_response, fault_response, fault, Value, integer_value, boolean_value, double_value, datetime_value, binary_value, array_value, struct_value, string_value, other_value, integer, Boolean, boolean_true, boolean_false, double, datetime, Binary, binary, Array, array, Values, no_values, more_values, Struct, struct, Pairs, no_pairs, more_pairs, Pair, pair, other, String, regular_string, recorded_string, recalled_string, string_data, Recording, after, Legal, legal_none, legal_regular, legal_recorded, legal_recalled}
 use Rattle.draft.specs.Meaning.{has_number, has_content, Means, Realises, no_more, and_then}
@@ -46,9 +45,9 @@ module _ {rows : List Row} {to : ℕ} {book' : Book} where
   picked true x m q e = (refl, e)
   picked false x m q e = refused_got e
 
-  judged_by : (v : Verdict) (at : ℕ) (o : Reading) → judged v at o ≡ got rows to book' → (v ≡ Fine) × (o ≡ got rows to book')
-  judged_by Fine at o e = (refl, e)
-  judged_by (Bad m) at o e = refused_got e
+  judged_by : (v : Verdict) (at : ℕ) (o : Reading) → judged v at o ≡ got rows to book' → (v ≡ Ok tt) × (o ≡ got rows to book')
+  judged_by (Ok tt) at o e = (refl, e)
+  judged_by (Err m) at o e = refused_got e
 
   present_by : (s : List ℕ) (room at : ℕ) (o : Reading) → present s room at o ≡ got rows to book' → (at < length s) × (o ≡ got rows to book')
   present_by s room at o e = let f = picked (ltb at (length s)) _ _ _ e in (ltb-true _ _ f.0, f.1)
@@ -98,7 +97,7 @@ over_by kind b r (got new at book₁) {rows} {to} {book} e =
     let j : book₁ ≡ book = cc in
     record { new = new; is = cc; all = cc }
 
-pub there_by : (b : Bool) (v : Verdict) → all_there b v ≡ Fine → (b ≡ true) × (v ≡ Fine)
+pub there_by : (b : Bool) (v : Verdict) → all_there b v ≡ Ok tt → (b ≡ true) × (v ≡ Ok tt)
 there_by true v e = (refl, e)
 there_by false v e = let z : ◌≡◌ {A = ℕ} 0 1 = cc in absurd (omega arith)
 
@@ -174,11 +173,11 @@ pub data OneString : List ℕ → List Cell → List Sent → Type 0 where
   one_string : {xs t : List ℕ} {f : Sent} → String xs t f → OneString xs (content_cell content.Text t ∷ []) (f ∷ [])
 
 pub data OneBy (rule : List ℕ → Verdict) : List ℕ → List Cell → List Sent → Type 0 where
-  one_by : {xs t : List ℕ} {f : Sent} → String xs t f → rule t ≡ Fine → OneBy rule xs (content_cell content.Text t ∷ []) (f ∷ [])
+  one_by : {xs t : List ℕ} {f : Sent} → String xs t f → rule t ≡ Ok tt → OneBy rule xs (content_cell content.Text t ∷ []) (f ∷ [])
 
 -- a pair whose key is none of those seen
 pub data Member (d : ℕ) (seen : Texts) : List ℕ → List Cell → List Sent → Type 0 where
-  a_member : {t xs : List ℕ} {us : List Cell} {fs : List Sent} → Pair d t xs us fs → key_rule seen t ≡ Fine → Member d seen xs us fs
+  a_member : {t xs : List ℕ} {us : List Cell} {fs : List Sent} → Pair d t xs us fs → key_rule seen t ≡ Ok tt → Member d seen xs us fs
 
 pub data OneBinary : List ℕ → List Cell → List Sent → Type 0 where
   one_binary : {xs t : List ℕ} → Binary xs t → OneBinary xs (content_cell content.Binary t ∷ []) []
@@ -186,7 +185,7 @@ pub data OneBinary : List ℕ → List Cell → List Sent → Type 0 where
 -- two of them, one after the other
 pub data OtherBody : List ℕ → List Cell → List Sent → Type 0 where
   other_body :
-      {xs ys zs t u : List ℕ} {f : Sent} → String xs t f → name_rule t ≡ Fine → Binary ys u → zs ≡ xs ++ ys
+      {xs ys zs t u : List ℕ} {f : Sent} → String xs t f → name_rule t ≡ Ok tt → Binary ys u → zs ≡ xs ++ ys
       → OtherBody zs (content_cell content.Text t ∷ content_cell content.Binary u ∷ []) (f ∷ [])
 
 pub data CallBody (d : ℕ) : List ℕ → List Cell → List Sent → Type 0 where
@@ -196,7 +195,7 @@ pub data CallBody (d : ℕ) : List ℕ → List Cell → List Sent → Type 0 wh
 
 -- a fault's Struct that keeps its rule
 abbrev pub FaultStruct : ℕ → Production
-FaultStruct d xs cs fs = Struct d xs cs fs × (fault_rule (held_cells (below cs)) ≡ Fine)
+FaultStruct d xs cs fs = Struct d xs cs fs × (fault_rule (held_cells (below cs)) ≡ Ok tt)
 
 pub data CallOrResponse (d : ℕ) : List ℕ → List Cell → List Sent → Type 0 where
   of_call : {xs : List ℕ} {cs : List Cell} {fs : List Sent} → Call d xs cs fs → CallOrResponse d xs cs fs
@@ -350,8 +349,8 @@ module _ (s : List ℕ) (room : ℕ) where
           (at r : ℕ) (book : Book) (R : List Recording) (rows : List Row) (to : ℕ) (book' : Book) → byte_at s at ≡ code "<" → r < room
           → at + 2 ≤ length s → (x : Entry) → book (byte_at s (at + 1)) ≡ x → recalledEntry s room x at r book ≡ got rows to book' → Agrees s book R
           → Derived OneString s room at r R rows to book'
-      go at r book R rows to book' b k h Unset i e a = refused_got e
-      go at r book R rows to book' b k h (Text o n) i e a =
+      go at r book R rows to book' b k h None i e a = refused_got e
+      go at r book R rows to book' b k h (Some y) i e a =
           let f = said (book (byte_at s (at + 1))) (a.each (byte_at s (at + 1))) i in
           let j : Here s (at + 2) [] = nothing_here h in
           one {P = OneString} e (one_string recalled_string) (rw b at (two_before h j)) refl (legal_recalled f.is legal_none) a
@@ -403,13 +402,13 @@ module _ (s : List ℕ) (room : ℕ) where
             let g = judged_by (rule (first_text s room f.new)) o _ f.next in
             let h = string_sound.derived at r book R rows to book' (f.is ∙ g.1) a in
             let i : f.new ≡ rows = cc in
-            let k : rule (first_text s room rows) ≡ Fine = rw i at g.0 in
+            let k : rule (first_text s room rows) ≡ Ok tt = rw i at g.0 in
             named h k;
       }
     where
       named :
           {at r : ℕ} {R : List Recording} {rows : List Row} {to : ℕ} {book : Book} → Derived OneString s room at r R rows to book
-          → rule (first_text s room rows) ≡ Fine → Derived (OneBy rule) s room at r R rows to book
+          → rule (first_text s room rows) ≡ Ok tt → Derived (OneBy rule) s room at r R rows to book
       named {at} {r} {R} {rows} {to} {book} h k = go h.used h.cells h.sents h.derives h.here h.ends h.legal h.agrees h.realises h.fits
         where
           go :
@@ -751,7 +750,7 @@ module _ (s : List ℕ) (room : ℕ) where
             let g = judged_by (fault_rule (held_rows s (below f.new))) at _ f.next in
             let h = (only_sound (code "S") (struct_sound d)).derived at r book R rows to book' (f.is ∙ g.1) a in
             let i : f.new ≡ rows = cc in
-            let k : fault_rule (held_rows s (below rows)) ≡ Fine = rw i at g.0 in
+            let k : fault_rule (held_rows s (below rows)) ≡ Ok tt = rw i at g.0 in
             record {
               used = h.used;
               cells = h.cells;

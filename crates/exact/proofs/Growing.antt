@@ -18,8 +18,8 @@ use Rattle.lexical.specs.DateTime.{is_date_time}
 use Rattle.draft.specs.declared.Refusal.{Refusal}
 use Rattle.draft.specs.declared.Refusal.TheVariants.{Ended, WrongPrefix, UnexpectedByte, BadText, UnsetPosition, StandardName, TooDeep, NoRow, TooLong, NotWritable, FormTooLong, OutputTooShort, BadFault, BadValue, RepeatedKey, NoLimit}
 use Rattle.draft.specs.declared.Row.{Row}
-use Rattle.draft.specs.declared.Verdict.{Verdict}
-use Rattle.draft.specs.declared.Verdict.TheVariants.{Fine, Bad}
+use Rattle.draft.specs.Verdict.{Verdict}
+use Rattle.std.specs.Prelude.{Ok, Err}
 use Rattle.draft.specs.declared.Content.{Content}
 use Rattle.draft.specs.declared.Content.TheVariants as content
 use Rattle.draft.specs.declared.Tag.{Tag}
@@ -27,14 +27,13 @@ use Rattle.draft.specs.declared.Tag.TheVariants as tag
 use Rattle.draft.specs.declared.Plain.TheVariants as plain
 use Rattle.draft.specs.declared.Form.{Form}
 use Rattle.draft.specs.declared.Form.TheVariants.{Regular, Recorded, Recalled}
-use Rattle.draft.specs.declared.Entry.{Entry}
-use Rattle.draft.specs.declared.Entry.TheVariants.{Unset, Text}
+use Rattle.std.specs.Prelude.{Some, None}
 use Rattle.draft.specs.Bytes.{bytes, byte_at, unsigned_at, part}
 use Rattle.draft.specs.Rows.{below}
 use Rattle.draft.specs.Content.{content_rule, fine_if, ascii_then, bad_if, all_there, verdict, name_rule, key_rule, Held, is_fault, fault_rule}
 use Rattle.wanting.specs.Want.{fields_of, announced, want_of}
 use Rattle.wanting.proofs.Wanting.{want_none, want_fields, want_content}
-use Rattle.draft.specs.Codebook.{Book, clear, recorded as record-text}
+use Rattle.draft.specs.Codebook.{Entry, Book, clear, recorded as record-text}
 use Rattle.draft.specs.Grammar.{Payload, Cell, Sent, Recording, after, Value, pair}
 use Rattle.draft.specs.Meaning.{Realises, no_more, and_then, means, Says, says_holding, says_number, says_contents}
 use Rattle.draft.specs.Read.{Reading, got, refused, then, judged, Reader, behind, over, pair as read-pair, items, alike, tag_of, Nest, floor, under, present, opened, contents as read-contents, short_item, long_item, recalled as recalledEntry, string_item, if_string, string as read-string, only, first_text, string_by, name, Texts, nothing, key, member, keeping, other_item, counted, array_item, struct_item, item, value, nested, call_item, held_rows, fault_struct, response_item, call_or_response, prefix, agree, message}
@@ -156,42 +155,42 @@ module _ {more : Bool} {limits : Raised} {s s' : List ℕ} where
   enough_stays at false false h k = refuses {m = Ended} tt
 
 -- the rules give such alone
-fine_of : (b : Bool) (m : Refusal) {n : Refusal} → OfReading m → fine_if b m ≡ Bad n → OfReading n
+fine_of : (b : Bool) (m : Refusal) {n : Refusal} → OfReading m → fine_if b m ≡ Err n → OfReading n
 fine_of true m h e = let z : ◌≡◌ {A = ℕ} 0 1 = cc in absurd (omega arith)
 fine_of false m {n} h e = let i : m ≡ n = cc in rw i at h
 
-bad_of : (b : Bool) (m : Refusal) {n : Refusal} → OfReading m → bad_if b m ≡ Bad n → OfReading n
+bad_of : (b : Bool) (m : Refusal) {n : Refusal} → OfReading m → bad_if b m ≡ Err n → OfReading n
 bad_of true m {n} h e = let i : m ≡ n = cc in rw i at h
 bad_of false m h e = let z : ◌≡◌ {A = ℕ} 0 1 = cc in absurd (omega arith)
 
-ascii_of : (a b : Bool) {n : Refusal} → ascii_then a b ≡ Bad n → OfReading n
+ascii_of : (a b : Bool) {n : Refusal} → ascii_then a b ≡ Err n → OfReading n
 ascii_of true b e = fine_of b BadValue tt e
 ascii_of false b e = fine_of false BadText tt e
 
-content_of : (c : Content) (t : List ℕ) {m : Refusal} → content_rule c t ≡ Bad m → OfReading m
+content_of : (c : Content) (t : List ℕ) {m : Refusal} → content_rule c t ≡ Err m → OfReading m
 unfolding content_rule
 content_of content.Double t e = ascii_of (ascii t) (is_double t) e
 content_of content.DateTime t e = ascii_of (ascii t) (is_date_time t) e
 content_of content.Binary t e = let z : ◌≡◌ {A = ℕ} 0 1 = cc in absurd (omega arith)
 content_of content.Text t e = fine_of (well_formed t) BadText tt e
 
-name_of : (t : List ℕ) {m : Refusal} → name_rule t ≡ Bad m → OfReading m
+name_of : (t : List ℕ) {m : Refusal} → name_rule t ≡ Err m → OfReading m
 unfolding name_rule
 name_of t e = bad_of (standard_name t) StandardName tt e
 
-key_of : (seen : Texts) (t : List ℕ) {m : Refusal} → key_rule seen t ≡ Bad m → OfReading m
+key_of : (seen : Texts) (t : List ℕ) {m : Refusal} → key_rule seen t ≡ Err m → OfReading m
 unfolding key_rule
 key_of seen t e = bad_of (among seen t) RepeatedKey tt e
 
-fault_of : (items : List Held) {m : Refusal} → fault_rule items ≡ Bad m → OfReading m
+fault_of : (items : List Held) {m : Refusal} → fault_rule items ≡ Err m → OfReading m
 unfolding fault_rule
 fault_of items e = fine_of (is_fault items) BadFault tt e
 
 judged_stays :
-    {more : Bool} {limits : Raised} {s s' : List ℕ} (v : Verdict) (at : ℕ) (rows : List Row) (to : ℕ) (book : Book) → ((m : Refusal) → v ≡ Bad m → OfReading m)
+    {more : Bool} {limits : Raised} {s s' : List ℕ} (v : Verdict) (at : ℕ) (rows : List Row) (to : ℕ) (book : Book) → ((m : Refusal) → v ≡ Err m → OfReading m)
     → Stays more limits s s' (judged v at (got rows to book)) (judged v at (got rows to book))
-judged_stays Fine at rows to book h = accepts
-judged_stays (Bad m) at rows to book h = refuses (h m refl)
+judged_stays (Ok tt) at rows to book h = accepts
+judged_stays (Err m) at rows to book h = refuses (h m refl)
 
 there_is : (b : Bool) (v : Verdict) (at : ℕ) (o : Reading) → judged (all_there b v) at o ≡ cond b (judged v at o) (refused Ended at)
 there_is true v at o = refl
@@ -305,8 +304,8 @@ module _ {more : Bool} (limits : Raised) (s s' : List ℕ) (room room' : ℕ) (l
   unsigned_same at h = rw (same_byte l at (omega arith), same_byte l (at + 1) (omega arith), same_byte l (at + 2) (omega arith), same_byte l (at + 3) (omega arith))
 
   recalled_stays : (x : Entry) (at r : ℕ) (book : Book) → Stays more limits s s' (recalledEntry s room x at r book) (recalledEntry s' room' x at r book)
-  recalled_stays Unset at r book = refuses {m = UnsetPosition} tt
-  recalled_stays (Text o n) at r book = accepts
+  recalled_stays None at r book = refuses {m = UnsetPosition} tt
+  recalled_stays (Some x) at r book = accepts
 
   short_stays :
       (c : Content) (at r : ℕ) (book : Book) → (length s < at + 2 → want_of s at ≤ at + 2)
@@ -379,7 +378,7 @@ module _ {more : Bool} (limits : Raised) (s s' : List ℕ) (room room' : ℕ) (l
   first_same [] y m = refl
   first_same (x ∷ rows) (one_string y) (and_then (means i j (says_contents p q e)) m) = same_part l x.a x.b q
 
-  string_by_grows : (rule : List ℕ → Verdict) (o : ℕ) → ((t : List ℕ) (m : Refusal) → rule t ≡ Bad m → OfReading m) → Grows (string_by s room rule o) (string_by s' room' rule o)
+  string_by_grows : (rule : List ℕ → Verdict) (o : ℕ) → ((t : List ℕ) (m : Refusal) → rule t ≡ Err m → OfReading m) → Grows (string_by s room rule o) (string_by s' room' rule o)
   unfolding string_by
   string_by_grows rule o of =
       record {

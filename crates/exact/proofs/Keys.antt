@@ -9,11 +9,11 @@ use Rattle.text.specs.Texts.{same, among}
 use Rattle.text.proofs.Comparing.{clash, same_is, same_self}
 use Rattle.draft.specs.declared.Refusal.{Refusal}
 use Rattle.draft.specs.declared.Refusal.TheVariants.{RepeatedKey}
-use Rattle.draft.specs.declared.Verdict.TheVariants.{Fine}
+use Rattle.std.specs.Prelude.{Ok}
 use Rattle.draft.specs.Content.{bad_if, key_rule}
 use Rattle.draft.specs.Read.{Texts}
 
-not_by : (b : Bool) (m : Refusal) → bad_if b m ≡ Fine → b ≡ false
+not_by : (b : Bool) (m : Refusal) → bad_if b m ≡ Ok tt → b ≡ false
 not_by true m h = let z : ◌≡◌ {A = ℕ} 0 1 = cc in absurd (omega arith)
 not_by false m h = refl
 
@@ -40,7 +40,7 @@ same_none (u ∷ seen) t n = go (same t u) refl (same_none seen t (λ j h. n (su
 -- keys that the rule takes one after the other, behind those seen
 pub data Fresh : Texts → Texts → Type 0 where
   no_key : {seen : Texts} → Fresh seen []
-  new_key : {seen ts : Texts} {t : List ℕ} → key_rule seen t ≡ Fine → Fresh (t ∷ seen) ts → Fresh seen (t ∷ ts)
+  new_key : {seen ts : Texts} {t : List ℕ} → key_rule seen t ≡ Ok tt → Fresh (t ∷ seen) ts → Fresh seen (t ∷ ts)
 
 -- none of the keys is one of those seen
 abbrev Apart : Texts → Texts → Type 0
@@ -50,11 +50,11 @@ Apart seen ts = (i j : ℕ) → i < length ts → j < length seen → get_or see
 abbrev pub Distinct : Texts → Type 0
 Distinct ts = (i j : ℕ) → i < j → j < length ts → get_or ts i [] ≡ get_or ts j [] → ⊥
 
-rule_by : (seen : Texts) (t : List ℕ) → key_rule seen t ≡ Fine → among seen t ≡ false
+rule_by : (seen : Texts) (t : List ℕ) → key_rule seen t ≡ Ok tt → among seen t ≡ false
 unfolding key_rule
 rule_by seen t e = not_by (among seen t) RepeatedKey e
 
-by_rule : (seen : Texts) (t : List ℕ) → among seen t ≡ false → key_rule seen t ≡ Fine
+by_rule : (seen : Texts) (t : List ℕ) → among seen t ≡ false → key_rule seen t ≡ Ok tt
 unfolding key_rule
 by_rule seen t e = rw e
 

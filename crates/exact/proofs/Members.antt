@@ -6,11 +6,11 @@ use Prim.Native.Nat.{ℕ}
 use native.Mathlib.Omega.{arith}
 use Rattle.text.proofs.Comparing.{clash, both, same_is}
 use Rattle.draft.specs.declared.Refusal.{Refusal}
-use Rattle.draft.specs.declared.Verdict.TheVariants.{Fine}
+use Rattle.std.specs.Prelude.{Ok}
 use Rattle.draft.specs.Bytes.{bytes}
 use Rattle.draft.specs.Content.{fine_if, Held, string, integer, another, is_integer, is_string, is_text, is_code, is_message, is_fault}
 
-pub fine_by : (b : Bool) (m : Refusal) → fine_if b m ≡ Fine → b ≡ true
+pub fine_by : (b : Bool) (m : Refusal) → fine_if b m ≡ Ok tt → b ≡ true
 fine_by true m h = refl
 fine_by false m h = let z : ◌≡◌ {A = ℕ} 0 1 = cc in absurd (omega arith)
 

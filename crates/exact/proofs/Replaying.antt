@@ -1,6 +1,6 @@
 -- The codebook replayed over Strings as sent: legal sendings taken apart and put together, and how reading's codebook agrees with the recordings.
 -- Assumes nothing.
-use mathlib.Core.Path.{◌≡◌, refl}
+use mathlib.Core.Path.{◌≡◌, refl, ap}
 use mathlib.Core.Bool.{Bool, true, false, cond}
 use mathlib.Core.Option.{Option, some, none}
 use mathlib.Core.List.{List, [], ◌∷◌, ◌++◌}
@@ -8,9 +8,9 @@ use Prim.Native.Nat.{ℕ}
 use native.Mathlib.Omega.{arith}
 use lib.Dec.{eqb}
 use lib.ListN.{length}
-use Rattle.draft.specs.declared.Entry.{Entry}
-use Rattle.draft.specs.declared.Entry.TheVariants.{Unset, Text}
-use Rattle.draft.specs.Codebook.{Book, clear, recorded as record-text}
+use Rattle.std.specs.Prelude.{Some, None}
+use Rattle.draft.specs.declared.Span.{Span}
+use Rattle.draft.specs.Codebook.{Entry, span, Book, clear, recorded as record-text}
 use Rattle.draft.specs.Grammar.{Sent, regular, recorded, recalled, Recording, text_at, look, after, Legal, legal_none, legal_regular, legal_recorded, legal_recalled}
 use Rattle.exact.proofs.Standing.{Here}
 
@@ -40,8 +40,8 @@ legal_join (recalled p t ∷ fs) gs (legal_recalled e l) k = legal_recalled e (l
 
 -- what reading's codebook has at a position is where the recorded text stands
 pub data Same (s : List ℕ) : Entry → Option (List ℕ) → Type 0 where
-  same_unset : Same s Unset none
-  same_text : {o n : ℕ} {t : List ℕ} → Here s o t → n ≡ length t → Same s (Text o n) (some t)
+  same_unset : Same s None none
+  same_text : {x : Span} {t : List ℕ} → Here s x.offset t → x.length ≡ length t → Same s (Some x) (some t)
 
 pub record Agrees (s : List ℕ) (book : Book) (R : List Recording) : Type 0 where
   pub each : (p : ℕ) → Same s (book p) (look p R)
@@ -55,7 +55,7 @@ pub agrees_recorded :
 unfolding record-text
 agrees_recorded {s} {book} {R} p {o} {n} {t} a h l = record { each = λ q. go q (eqb q p) }
   where
-    go : (q : ℕ) (b : Bool) → Same s (cond b (Text o n) (book q)) (cond b (some t) (look q R))
+    go : (q : ℕ) (b : Bool) → Same s (cond b (Some (span o n)) (book q)) (cond b (some t) (look q R))
     go q true = same_text h l
     go q false = a.each q
 
@@ -63,15 +63,15 @@ agrees_recorded {s} {book} {R} p {o} {n} {t} a h l = record { each = λ q. go q 
 pub record Found (s : List ℕ) (e : Entry) (t : List ℕ) : Type 0 where
   pub offset : ℕ
   pub size : ℕ
-  pub is : e ≡ Text offset size
+  pub is : e ≡ Some (span offset size)
   pub here : Here s offset t
   pub long : size ≡ length t
 
 pub found : {s : List ℕ} {e : Entry} {t : List ℕ} (f : Option (List ℕ)) → Same s e f → f ≡ some t → Found s e t
 found none same_unset i = let z : ◌≡◌ {A = ℕ} 0 1 = cc in absurd (omega arith)
-found {s} {t = t} (some u) (same_text {o} {n} h l) i =
+found {s} {t = t} (some u) (same_text {x} h l) i =
     let j : u ≡ t = cc in
-    record { offset = o; size = n; is = refl; here = rw j at h; long = rw j at l }
+    record { offset = x.offset; size = x.length; is = refl; here = rw j at h; long = rw j at l }
 
 pub record Said (s : List ℕ) (o n : ℕ) (f : Option (List ℕ)) : Type 0 where
   pub content : List ℕ
@@ -79,9 +79,10 @@ pub record Said (s : List ℕ) (o n : ℕ) (f : Option (List ℕ)) : Type 0 wher
   pub here : Here s o content
   pub long : n ≡ length content
 
-pub said : {s : List ℕ} {o n : ℕ} {f : Option (List ℕ)} (e : Entry) → Same s e f → e ≡ Text o n → Said s o n f
-said Unset same_unset i = let z : ◌≡◌ {A = ℕ} 0 1 = cc in absurd (omega arith)
-said {s} {o} {n} (Text o' n') (same_text {t = t} h l) i =
-    let j : o' ≡ o = cc in
-    let k : n' ≡ n = cc in
+pub said : {s : List ℕ} {o n : ℕ} {f : Option (List ℕ)} (e : Entry) → Same s e f → e ≡ Some (span o n) → Said s o n f
+said None same_unset i = let z : ◌≡◌ {A = ℕ} 0 1 = cc in absurd (omega arith)
+said {s} {o} {n} (Some x) (same_text {t = t} h l) i =
+    let z : x ≡ span o n = cc in
+    let j : x.offset ≡ o = ap (λ (y : Span). y.offset) z in
+    let k : x.length ≡ n = ap (λ (y : Span). y.length) z in
     record { content = t; is = refl; here = rw j at h; long = rw k at l }

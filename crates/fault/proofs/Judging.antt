@@ -8,7 +8,7 @@ use lib.Dec.{eqb}
 use borrow.Author.Tests.{ne_eqb, eqb-true}
 use Rattle.text.specs.Texts.{same}
 use Rattle.draft.specs.declared.Refusal.TheVariants.{BadFault}
-use Rattle.draft.specs.declared.Verdict.TheVariants.{Fine, Bad}
+use Rattle.std.specs.Prelude.{Ok, Err}
 use Rattle.draft.specs.declared.Row.{Row}
 use Rattle.draft.specs.Bytes.{bytes, part}
 use Rattle.draft.specs.Content.{held_of, is_integer, is_string, is_text, is_code, is_message, is_fault, fault_rule}
@@ -72,7 +72,7 @@ module _ (s : List ℕ) (row : ℕ → Row) (r : ℕ) where
   other_number first (suc (suc (suc (suc zero)))) h = absurd (h refl)
   other_number first (suc (suc (suc (suc (suc n))))) h = refl
 
-  pub not_four : {end : ℕ} → (end ≡ r + 5 → ⊥) → Bad BadFault ≡ fault_rule (held_rows s (from row (r + 1) (end - (r + 1))))
+  pub not_four : {end : ℕ} → (end ≡ r + 5 → ⊥) → Err BadFault ≡ fault_rule (held_rows s (from row (r + 1) (end - (r + 1))))
   unfolding fault_rule
   not_four {end} h = rw (other_number (r + 1) (end - (r + 1)) (λ e. h (omega arith)))
 
@@ -90,11 +90,11 @@ module _ (s : List ℕ) (row : ℕ → Row) (r : ℕ) where
         let t : suc (suc (suc (r + 1))) ≡ r + 3 + 1 = omega arith in
         rw (n, t, q, p, h, i, j, k)
 
-    pub fault_fine : (a && b) || (c && d) ≡ true → Fine ≡ fault_rule (held_rows s (from row (r + 1) (end - (r + 1))))
+    pub fault_fine : (a && b) || (c && d) ≡ true → (Ok tt) ≡ fault_rule (held_rows s (from row (r + 1) (end - (r + 1))))
     unfolding fault_rule
     fault_fine t = rw (four_is, t)
 
-    pub fault_bad : (a && b) || (c && d) ≡ false → Bad BadFault ≡ fault_rule (held_rows s (from row (r + 1) (end - (r + 1))))
+    pub fault_bad : (a && b) || (c && d) ≡ false → Err BadFault ≡ fault_rule (held_rows s (from row (r + 1) (end - (r + 1))))
     unfolding fault_rule
     fault_bad t = rw (four_is, t)
 

@@ -59,13 +59,13 @@ pub fn judge(table: &[u32], room: usize, text: &[u8], r: usize, end: usize) -> V
     let first = r + 1;
     let second = r + 3;
     if end != r + 5 {
-        return Verdict::Bad(Refusal::BadFault);
+        return Err(Refusal::BadFault);
     }
     let code_first = is_code(table, room, text, first) & is_message(table, room, text, second);
     let message_first = is_message(table, room, text, first) & is_code(table, room, text, second);
     if code_first | message_first {
-        Verdict::Fine
+        Ok(())
     } else {
-        Verdict::Bad(Refusal::BadFault)
+        Err(Refusal::BadFault)
     }
 }

@@ -1,11 +1,11 @@
 -- What answers each return of the functions that read a fault's Struct. Assumes nothing.
-use mathlib.Core.Path.{◌≡◌, ap, ◌∙◌}
+use mathlib.Core.Path.{◌≡◌, sym, ap, ◌∙◌}
 use mathlib.Core.List.{List, [], ◌∷◌}
 use Prim.Native.Nat.{ℕ, suc, ◌+◌, ◌*◌, ◌-◌, ◌≤◌}
 use native.Mathlib.Omega.{arith}
 use lib.ListN.{length}
 use Rattle.draft.specs.declared.Refusal.{Refusal}
-use Rattle.draft.specs.declared.Verdict.{Verdict}
+use Rattle.draft.specs.Verdict.{Verdict}
 use Rattle.draft.specs.declared.Row.{Row}
 use Rattle.draft.specs.Rows.{below}
 use Rattle.draft.specs.Content.{fault_rule}
@@ -14,8 +14,10 @@ use Rattle.draft.specs.Table.{put_rows, from, rows_at}
 use Rattle.draft.specs.Read.{got, refused, judged, held_rows, only, struct_item, nested, fault_struct}
 use Rattle.codebook.specs.Words.{book_of}
 use Rattle.table.proofs.Stored.{rows_there}
-use Rattle.item.specs.declared.Step.{Step}
-use Rattle.item.specs.Contract.{judged_at, Did}
+use Rattle.std.specs.Prelude.{Ok, Err}
+use Rattle.draft.specs.declared.Refused.{Refused}
+use Rattle.item.specs.declared.Reached.{Reached}
+use Rattle.item.specs.Contract.{Step, judged_at, Did}
 use Rattle.item.proofs.Readings.{did_next, did_not, done, did_no, judged_did, row_in, only_short, only_no, only_on}
 use Rattle.item.proofs.Items.{got_did}
 use Rattle.member_keys.proofs.Keying.{prepared_blank, done_did}
@@ -39,20 +41,20 @@ unfolding fault_struct
 fault_not s room deep at r book e = rw e
 
 module _ (s : List ℕ) (deep at : ℕ) (book : Book) {bytes room from r : ℕ} {T T₁ W₁ : List ℕ} {step : Step} (d : Did (only s room 83 (struct_item s room (nested s room deep)) at r book) bytes room from r T T₁ W₁ step) where
-  pub fault_refused : {from' : ℕ} {T' W' : List ℕ} → (step.number ≡ 0 → ⊥) → Did (fault_struct s room deep at r book) bytes room from' r T T' W' step
+  pub fault_refused : {from' : ℕ} {T' W' : List ℕ} {x : Refused Refusal} {answer : Step} → step ≡ Err x → answer ≡ Err x → Did (fault_struct s room deep at r book) bytes room from' r T T' W' answer
   unfolding fault_struct
-  fault_refused n = let z = did_not d n in did_no z.why z.says (fault_not s room deep at r book z.reading)
+  fault_refused {x = x} n e = did_no x.refusal e (fault_not s room deep at r book (did_not d n))
 
   -- a Struct that was read, as its rule says
-  module _ {v : Verdict} (e : step.number ≡ 0) (l : room * 4 ≤ length T) (f : v ≡ fault_rule (held_rows s (rows_at room T₁ (r + 1) (step.row - (r + 1))))) where
-    fault_is : fault_struct s room deep at r book ≡ judged v at (got (did_next d e).rows step.at (book_of W₁))
+  module _ {v : Verdict} {x : Reached} (e : step ≡ Ok x) (l : room * 4 ≤ length T) (f : v ≡ fault_rule (held_rows s (rows_at room T₁ (r + 1) (x.row - (r + 1))))) where
+    fault_is : fault_struct s room deep at r book ≡ judged v at (got (did_next d e).rows x.at (book_of W₁))
     fault_is =
         let g = did_next d e in
-        let i : v ≡ fault_rule (held_rows s (below g.rows)) = f ∙ ap fault_rule (below_there s room r step.row T g.rows g.wrote g.next g.fits l) in
+        let i : v ≡ fault_rule (held_rows s (below g.rows)) = f ∙ ap fault_rule (below_there s room r x.row T g.rows g.wrote g.next g.fits l) in
         fault_by s room deep at r book g.reading i
 
-    pub fault_judged : {answer : Step} → answer ≡ judged_at v at step → Did (fault_struct s room deep at r book) bytes room from r T T₁ W₁ answer
-    fault_judged i = done fault_is (judged_did v at (got_did e (did_next d e)) i)
+    pub fault_judged : {answer : Step} → answer ≡ judged_at v at (Ok x) → Did (fault_struct s room deep at r book) bytes room from r T T₁ W₁ answer
+    fault_judged i = done fault_is (judged_did v at (got_did e (did_next d e)) (i ∙ ap (judged_at v at) (sym e)))
 
 pub ruleset faults = (row_in, fault_refused, fault_judged)
 

@@ -50,10 +50,7 @@ pub fn read_fault_struct(
     requires { Ready at row room (length s.now) (length table.old) (length book.old) × Entries at row room (length s.now) (length notes.old) × (notes.old ≡ replicate (length notes.old) 0) }
     ensures { Did (fault_struct s.now room deep at row (book_of book.old)) (length s.now) room (at + 1) row table.old table.new book.new result }
 {
-    let inside = read_struct_only(s, at, row, deep, room, table, book, notes);
-    if inside.number != 0 {
-        return inside;
-    }
+    let inside = read_struct_only(s, at, row, deep, room, table, book, notes)?;
     let verdict = fault::judge(table, room, s, row, inside.row);
-    item::judged(verdict, at, inside)
+    item::judged(verdict, at, Ok(inside))
 }

@@ -8,8 +8,7 @@ use borrow.Author.Tests.{lt-ltb, le-ltb, eq-eqb, ne_eqb}
 use Rattle.draft.specs.declared.Refusal.TheVariants.{Ended, UnexpectedByte}
 use Rattle.draft.specs.Codebook.{Book}
 use Rattle.draft.specs.Read.{call_item, response_item, call_or_response}
-use Rattle.item.specs.declared.Step.{Step}
-use Rattle.item.specs.Contract.{refused_at, Did}
+use Rattle.item.specs.Contract.{Step, refused_at, Did}
 use Rattle.item.proofs.Readings.{done, did_no}
 
 -- by its byte

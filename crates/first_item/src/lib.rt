@@ -2,7 +2,7 @@
 // Assumes that the place is in the message, the rows fit the table and the codebook has its 256 words.
 #![tactic(auto)]
 
-ghost use Rattle.std.specs.Prelude.{◌≡◌, ◌+◌, ◌≤◌, min, length, replicate};
+ghost use Rattle.std.specs.Prelude.{◌≡◌, ◌+◌, ◌/◌, ◌≤◌, min, length, replicate};
 ghost use Rattle.draft.specs.Read.{call_or_response};
 ghost use Rattle.codebook.specs.Words.{book_of};
 ghost use Rattle.item.specs.Contract.{Ready, Did};
@@ -36,67 +36,36 @@ fn read_call_or_response(
     item::refuse(Refusal::UnexpectedByte, at)
 }
 
-// Notes on keys for up to 16 rows. Laying out the largest takes longer than reading a small message, so a small one gets small ones; the
-// length of an array has to be a constant, so there is a function for each.
-fn read_least(s: &[u8], deep: usize, room: usize, table: &mut [u32], book: &mut [u32]) -> Step
-    requires { Ready 12 0 room (length s.now) (length table.old) (length book.old) × (min room (length s.now) ≤ 16) }
+// With notes on keys of so many words, three for each row.
+fn read_noted<const N: usize>(
+    s: &[u8],
+    deep: usize,
+    room: usize,
+    table: &mut [u32],
+    book: &mut [u32],
+) -> Step
+    requires { Ready 12 0 room (length s.now) (length table.old) (length book.old) × (min room (length s.now) ≤ N / 3) × (N ≤ 12288) }
     ensures { Did (call_or_response s.now room deep 12 0 (book_of book.old)) (length s.now) room 13 0 table.old table.new book.new result }
 {
-    let mut words = [0u16; 48];
-    let notes: &mut [u16] = &mut words;
-    read_call_or_response(s, 12, 0, deep, room, table, book, notes)
+    let mut notes = [0u16; N];
+    read_call_or_response(s, 12, 0, deep, room, table, book, &mut notes)
 }
 
-// For up to 64 rows.
-fn read_few(s: &[u8], deep: usize, room: usize, table: &mut [u32], book: &mut [u32]) -> Step
-    requires { Ready 12 0 room (length s.now) (length table.old) (length book.old) × (min room (length s.now) ≤ 64) }
-    ensures { Did (call_or_response s.now room deep 12 0 (book_of book.old)) (length s.now) room 13 0 table.old table.new book.new result }
-{
-    let mut words = [0u16; 192];
-    let notes: &mut [u16] = &mut words;
-    read_call_or_response(s, 12, 0, deep, room, table, book, notes)
-}
-
-// For up to 512 rows.
-fn read_some(s: &[u8], deep: usize, room: usize, table: &mut [u32], book: &mut [u32]) -> Step
-    requires { Ready 12 0 room (length s.now) (length table.old) (length book.old) × (min room (length s.now) ≤ 512) }
-    ensures { Did (call_or_response s.now room deep 12 0 (book_of book.old)) (length s.now) room 13 0 table.old table.new book.new result }
-{
-    let mut words = [0u16; 1536];
-    let notes: &mut [u16] = &mut words;
-    read_call_or_response(s, 12, 0, deep, room, table, book, notes)
-}
-
-// For as many rows as a table may have.
-fn read_many(s: &[u8], deep: usize, room: usize, table: &mut [u32], book: &mut [u32]) -> Step
-    requires { Ready 12 0 room (length s.now) (length table.old) (length book.old) }
-    ensures { Did (call_or_response s.now room deep 12 0 (book_of book.old)) (length s.now) room 13 0 table.old table.new book.new result }
-{
-    let mut words = [0u16; 12288];
-    let notes: &mut [u16] = &mut words;
-    read_call_or_response(s, 12, 0, deep, room, table, book, notes)
-}
-
-fn fewer(a: usize, b: usize) -> usize
-    ensures { result ≡ min a b }
-{
-    if a < b { a } else { b }
-}
-
-// The first item, with notes on keys for as many rows as there can be: no more than there is room for, nor than the message has bytes.
+// The first item, with notes on keys for as many rows as there can be: no more than there is room for, nor than the message has bytes. Laying
+// out the largest takes longer than reading a small message, so a small one gets small ones.
 pub fn read_first(s: &[u8], deep: usize, room: usize, table: &mut [u32], book: &mut [u32]) -> Step
     requires { Ready 12 0 room (length s.now) (length table.old) (length book.old) }
     ensures { Did (call_or_response s.now room deep 12 0 (book_of book.old)) (length s.now) room 13 0 table.old table.new book.new result }
 {
-    let rows = fewer(room, s.len());
+    let rows = room.min(s.len());
     if rows <= 16 {
-        return read_least(s, deep, room, table, book);
+        return read_noted::<48>(s, deep, room, table, book);
     }
     if rows <= 64 {
-        return read_few(s, deep, room, table, book);
+        return read_noted::<192>(s, deep, room, table, book);
     }
     if rows <= 512 {
-        return read_some(s, deep, room, table, book);
+        return read_noted::<1536>(s, deep, room, table, book);
     }
-    read_many(s, deep, room, table, book)
+    read_noted::<12288>(s, deep, room, table, book)
 }

@@ -1,5 +1,5 @@
 // The written form of a writable table's rows, into a lent output: how each string is sent is found first, in arrays that lie in the frame
-// of one of three functions and are lent to all the others.
+// of one function and are lent to all the others.
 #![tactic(auto)]
 
 ghost use Rattle.std.specs.Prelude.{◌≡◌, ◌≤◌, ◌<◌, length, replicate};
@@ -25,11 +25,11 @@ fn settle(
     requires { Strings room (length table.now) count strings.now × (length text.now ≤ 65536) × (count ≤ length firsts.old) × (count ≤ length spots.old) × (heads.old ≡ replicate (length heads.old) 0) × (0 < length heads.old) × (length heads.old ≤ 4096) }
     ensures { Settled (numbered_text (row_at room table.now) strings.now text.now) count firsts.new spots.new result }
 {
-    if texts::scan(table, room, strings, count, text, firsts, heads, spots) {
-        positions::place(count, &firsts[..], spots);
-        return true;
+    if !texts::scan(table, room, strings, count, text, firsts, heads, spots) {
+        return false;
     }
-    false
+    positions::place(count, &firsts[..], spots);
+    true
 }
 
 // Finds how each string is sent, in lent arrays that have room for as many strings as there are rows; or that the texts alone make the form
@@ -73,64 +73,22 @@ fn fill_prepared(
     message::TOO_LONG
 }
 
-// Arrays for up to 64 rows. Laying out the largest takes longer than writing a small message, so a small table gets small ones; the length
-// of an array has to be a constant, so there is a function for each.
-fn fill_few(table: &[u32], room: usize, rows: usize, text: &[u8], output: &mut [u8]) -> usize
-    requires { Ready rows room (length table.now) × (length text.now ≤ 65536) × (rows ≤ 64) }
+// The same with arrays for up to N rows, and H heads. Laying out the largest takes longer than writing a small message, so a small table gets
+// small ones.
+fn fill_within<const N: usize, const H: usize>(
+    table: &[u32],
+    room: usize,
+    rows: usize,
+    text: &[u8],
+    output: &mut [u8],
+) -> usize
+    requires { Ready rows room (length table.now) × (length text.now ≤ 65536) × (rows ≤ N) × (N ≤ 4096) × (0 < H) × (H ≤ 4096) }
     ensures { Filled (written text.now (from (row_at room table.now) 0 rows)) output.old output.new result }
 {
-    let mut strings = [0u16; 64];
-    let mut firsts = [0u16; 64];
-    let mut heads = [0u16; 32];
-    let mut spots = [0u16; 64];
-    let known = prepare(
-        table,
-        room,
-        rows,
-        text,
-        &mut strings,
-        &mut firsts,
-        &mut heads,
-        &mut spots,
-    );
-    fill_prepared(
-        table, room, rows, text, &strings, &firsts, &spots, known, output,
-    )
-}
-
-// Arrays for up to 1,024 rows.
-fn fill_some(table: &[u32], room: usize, rows: usize, text: &[u8], output: &mut [u8]) -> usize
-    requires { Ready rows room (length table.now) × (length text.now ≤ 65536) × (rows ≤ 1024) }
-    ensures { Filled (written text.now (from (row_at room table.now) 0 rows)) output.old output.new result }
-{
-    let mut strings = [0u16; 1024];
-    let mut firsts = [0u16; 1024];
-    let mut heads = [0u16; 512];
-    let mut spots = [0u16; 1024];
-    let known = prepare(
-        table,
-        room,
-        rows,
-        text,
-        &mut strings,
-        &mut firsts,
-        &mut heads,
-        &mut spots,
-    );
-    fill_prepared(
-        table, room, rows, text, &strings, &firsts, &spots, known, output,
-    )
-}
-
-// Arrays for as many rows as a table may have.
-fn fill_many(table: &[u32], room: usize, rows: usize, text: &[u8], output: &mut [u8]) -> usize
-    requires { Ready rows room (length table.now) × (length text.now ≤ 65536) }
-    ensures { Filled (written text.now (from (row_at room table.now) 0 rows)) output.old output.new result }
-{
-    let mut strings = [0u16; 4096];
-    let mut firsts = [0u16; 4096];
-    let mut heads = [0u16; 2048];
-    let mut spots = [0u16; 4096];
+    let mut strings = [0u16; N];
+    let mut firsts = [0u16; N];
+    let mut heads = [0u16; H];
+    let mut spots = [0u16; N];
     let known = prepare(
         table,
         room,
@@ -153,10 +111,10 @@ pub fn fill(table: &[u32], room: usize, rows: usize, text: &[u8], output: &mut [
     ensures { Filled (written text.now (from (row_at room table.now) 0 rows)) output.old output.new result }
 {
     if rows <= 64 {
-        return fill_few(table, room, rows, text, output);
+        return fill_within::<64, 32>(table, room, rows, text, output);
     }
     if rows <= 1024 {
-        return fill_some(table, room, rows, text, output);
+        return fill_within::<1024, 512>(table, room, rows, text, output);
     }
-    fill_many(table, room, rows, text, output)
+    fill_within::<4096, 2048>(table, room, rows, text, output)
 }

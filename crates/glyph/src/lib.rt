@@ -4,15 +4,17 @@
 ghost use Rattle.std.specs.Prelude.{◌≡◌};
 ghost use Rattle.glyph.specs.Refusals.{number_of};
 
+use draft::Refused;
+
 // The caller names it: `New` is hyperglyph 1.0 (document 003), `Old` is glyph 0.5 (document 000).
-#[derive(Clone, Copy)]
+#[derive(Clone, Copy, PartialEq, Eq, Debug)]
 pub enum Edition {
     New,
     Old,
 }
 
 // The objects without children.
-#[derive(Drop)]
+#[derive(Clone, Copy, PartialEq, Eq, Debug)]
 pub enum Leaf {
     Integer,
     Unicode,
@@ -23,7 +25,7 @@ pub enum Leaf {
 }
 
 // The objects that hold others until their `;`.
-#[derive(Clone, Copy)]
+#[derive(Clone, Copy, PartialEq, Eq, Debug)]
 pub enum Many {
     List,
     Dict,
@@ -31,14 +33,14 @@ pub enum Many {
 }
 
 // The objects that hold three others: a name, attributes and content.
-#[derive(Clone, Copy)]
+#[derive(Clone, Copy, PartialEq, Eq, Debug)]
 pub enum Three {
     Extension,
     Node,
 }
 
 // What a byte begins where an object is due, if anything.
-#[derive(Drop)]
+#[derive(Clone, Copy, PartialEq, Eq, Debug)]
 pub enum Letter {
     Leaf(Leaf),
     Many(Many),
@@ -47,7 +49,7 @@ pub enum Letter {
 }
 
 // Which objects may stand at a place.
-#[derive(Clone, Copy)]
+#[derive(Clone, Copy, PartialEq, Eq, Debug)]
 pub enum Want {
     Any,
     Text,
@@ -55,7 +57,7 @@ pub enum Want {
 }
 
 // Why a message is refused, in the order of the papers' numbers.
-#[derive(Drop)]
+#[derive(Clone, Copy, PartialEq, Eq, Debug)]
 pub enum Refusal {
     Ended,
     UnexpectedByte,
@@ -68,26 +70,31 @@ pub enum Refusal {
     OutOfRange,
 }
 
-// What reading a message answers: how many rows and bytes were read, or the number and the place of a refusal.
-#[derive(Drop)]
-pub enum Answer {
-    Accepted { rows: usize, used: usize },
-    Refused { number: usize, place: usize },
+// How many rows and bytes of a message were read.
+#[derive(Clone, Copy, PartialEq, Eq, Debug)]
+pub struct Accepted {
+    pub rows: usize,
+    pub used: usize,
 }
 
+// What reading a message answers.
+pub type Answer = Result<Accepted, Refused<Refusal>>;
+
 // The papers' number of a refusal.
-pub fn number(refusal: Refusal) -> u8
-    ensures { result ≡ number_of refusal }
-{
-    match refusal {
-        Refusal::Ended => 1,
-        Refusal::UnexpectedByte => 3,
-        Refusal::BadText => 5,
-        Refusal::TooDeep => 8,
-        Refusal::NoRow => 9,
-        Refusal::TooLong => 10,
-        Refusal::RepeatedKey => 20,
-        Refusal::BadLimit => 23,
-        Refusal::OutOfRange => 25,
+impl From<Refusal> for u8 {
+    ghost from_gives = { λ refusal number. number ≡ number_of refusal };
+
+    fn from(refusal: Refusal) -> u8 {
+        match refusal {
+            Refusal::Ended => 1,
+            Refusal::UnexpectedByte => 3,
+            Refusal::BadText => 5,
+            Refusal::TooDeep => 8,
+            Refusal::NoRow => 9,
+            Refusal::TooLong => 10,
+            Refusal::RepeatedKey => 20,
+            Refusal::BadLimit => 23,
+            Refusal::OutOfRange => 25,
+        }
     }
 }

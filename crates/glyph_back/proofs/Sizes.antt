@@ -4,8 +4,7 @@ use mathlib.Core.List.{List}
 use Prim.Native.Nat.{ℕ, suc, ◌+◌}
 use native.Mathlib.Omega.{arith}
 use lib.ListN.{length, length-append}
-use Rattle.order.specs.declared.Relation.{Relation}
-use Rattle.order.specs.declared.Relation.TheVariants.{Before, Equal, After}
+use Rattle.std.proofs.Common.{Ordering, Less, Equal, Greater}
 use Rattle.order.specs.ByteOrder.{compared}
 use Rattle.glyph.specs.Tree.{Tree, leaf, many, plain, ordered, Trees, none, also, Pairs, no_pairs, pair, cells, cells_of, pair_cells}
 use Rattle.glyph_form.specs.Form.{put, insert, sort, canon, canon_all, canon_pairs}
@@ -20,10 +19,10 @@ unfolding insert
 insert_size k t no_pairs = pair_size k t no_pairs
 insert_size k t (pair l u ps) = go (compared k l) (insert_size k t ps)
   where
-    go : (r : Relation) → length (pair_cells (insert k t ps)) ≡ 1 + length (cells t) + length (pair_cells ps) → length (pair_cells (put r k t l u ps (insert k t ps))) ≡ 1 + length (cells t) + length (pair_cells (pair l u ps))
-    go Before h = pair_size k t (pair l u ps)
+    go : (r : Ordering) → length (pair_cells (insert k t ps)) ≡ 1 + length (cells t) + length (pair_cells ps) → length (pair_cells (put r k t l u ps (insert k t ps))) ≡ 1 + length (cells t) + length (pair_cells (pair l u ps))
+    go Less h = pair_size k t (pair l u ps)
     go Equal h = omega (arith, h, pair_size l u (insert k t ps), pair_size l u ps)
-    go After h = omega (arith, h, pair_size l u (insert k t ps), pair_size l u ps)
+    go Greater h = omega (arith, h, pair_size l u (insert k t ps), pair_size l u ps)
 
 sort_size : (ps : Pairs) → length (pair_cells (sort ps)) ≡ length (pair_cells ps)
 unfolding sort

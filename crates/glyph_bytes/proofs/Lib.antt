@@ -1,3 +1,2 @@
 pub mod Bytes
-pub mod Letters
 pub mod Leafs

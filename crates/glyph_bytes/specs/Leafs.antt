@@ -24,12 +24,7 @@ is_leaf (Many l) = false
 is_leaf (Three l) = false
 is_leaf Unknown = false
 
--- whether a byte begins an object without children, in either edition; and then that object
-pub record Leafy (b : ℕ) (r : Bool) : Type 0 where
-  pub is : (e : Edition) → r ≡ is_leaf (letter_of e b)
-  pub letter : r ≡ true → (e : Edition) → letter_of e b ≡ Leaf (leaf_by b)
-
--- the same of the byte at a place, which is there then
+-- whether the byte at a place, which is there then, begins an object without children, in either edition; and then that object
 pub record LeafAt (s : List ℕ) (at : ℕ) (r : Bool) : Type 0 where
   pub is : (e : Edition) → r ≡ is_leaf (letter_of e (get_or s at 0))
   pub there : r ≡ true → at < length s

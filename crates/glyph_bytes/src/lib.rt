@@ -2,14 +2,15 @@
 #![tactic(auto)]
 
 ghost use Rattle.std.specs.Prelude.{◌≡◌, ◌+◌, ◌*◌, ◌≤◌, ◌<◌, min, eqb, length, get_or};
-ghost use Rattle.lexical.specs.Digits.{digit};
-ghost use Rattle.glyph.specs.Letters.{letter_of, only_text, only_dict, wanted, many_kind, keyed_by, three_kind, name_want, attributes_want};
+ghost use Rattle.std.specs.List.{prefix_len};
+ghost use Rattle.glyph.specs.Letters.{letter_of, wanted, many_kind, keyed_by, three_kind, name_want, attributes_want};
 ghost use Rattle.glyph.specs.Numbers.{is_blank};
 ghost use Rattle.glyph_bytes.specs.Places.{Skipped, Stands, Open, Counted};
-ghost use Rattle.glyph_bytes.specs.Leafs.{Leafy, LeafAt};
+ghost use Rattle.glyph_bytes.specs.Leafs.{LeafAt};
 
 use glyph::{Edition, Leaf, Letter, Many, Three, Want};
 
+#[tactic(auto, unfolding(glyph::specs::Letters::letter_of))]
 fn letter_of(edition: Edition, b: u8) -> Letter
     ensures { result ≡ letter_of edition b }
 {
@@ -35,46 +36,14 @@ fn letter_of(edition: Edition, b: u8) -> Letter
     }
 }
 
-fn only_text(leaf: Leaf) -> Letter
-    ensures { result ≡ only_text leaf }
-{
-    match leaf {
-        Leaf::Unicode => Letter::Leaf(Leaf::Unicode),
-        Leaf::Integer => Letter::Unknown,
-        Leaf::Bytes => Letter::Unknown,
-        Leaf::True => Letter::Unknown,
-        Leaf::False => Letter::Unknown,
-        Leaf::Nil => Letter::Unknown,
-    }
-}
-
-fn only_dict(many: Many) -> Letter
-    ensures { result ≡ only_dict many }
-{
-    match many {
-        Many::List => Letter::Unknown,
-        Many::Dict => Letter::Many(Many::Dict),
-        Many::Ordered => Letter::Many(Many::Ordered),
-    }
-}
-
 fn in_place(want: Want, letter: Letter) -> Letter
     ensures { result ≡ wanted want letter }
 {
-    match want {
-        Want::Any => letter,
-        Want::Text => match letter {
-            Letter::Leaf(leaf) => only_text(leaf),
-            Letter::Many(_) => Letter::Unknown,
-            Letter::Three(_) => Letter::Unknown,
-            Letter::Unknown => Letter::Unknown,
-        },
-        Want::EitherDict => match letter {
-            Letter::Leaf(_) => Letter::Unknown,
-            Letter::Many(many) => only_dict(many),
-            Letter::Three(_) => Letter::Unknown,
-            Letter::Unknown => Letter::Unknown,
-        },
+    match (want, letter) {
+        (Want::Any, _)
+        | (Want::Text, Letter::Leaf(Leaf::Unicode))
+        | (Want::EitherDict, Letter::Many(Many::Dict | Many::Ordered)) => letter,
+        _ => Letter::Unknown,
     }
 }
 
@@ -85,38 +54,19 @@ pub fn letter_for(edition: Edition, want: Want, b: u8) -> Letter
     in_place(want, letter_of(edition, b))
 }
 
-fn is_leaf(b: u8) -> bool
-    ensures { Leafy b result }
-{
-    match b {
-        b'i' => true,
-        b'u' => true,
-        b'b' => true,
-        b'T' => true,
-        b'F' => true,
-        b'N' => true,
-        _ => false,
-    }
-}
-
 // An object without children begins there.
+#[tactic(auto, using(crate::proofs::Leafs::leafs))]
 pub fn leaf_at(s: &[u8], at: usize) -> bool
     ensures { LeafAt s.now at result }
 {
-    if s.len() <= at {
-        return false;
-    }
-    is_leaf(s[at])
+    matches!(s.get(at), Some(b'i' | b'u' | b'b' | b'T' | b'F' | b'N'))
 }
 
 // A unicode begins there.
 pub fn text_at(s: &[u8], at: usize) -> bool
     ensures { Stands s.now at (eqb (get_or s.now at 0) 117) result }
 {
-    if s.len() <= at {
-        return false;
-    }
-    s[at] == b'u'
+    s.get(at) == Some(&b'u')
 }
 
 pub fn many_kind(many: Many) -> u32
@@ -133,11 +83,7 @@ pub fn many_kind(many: Many) -> u32
 pub fn is_keyed(many: Many) -> bool
     ensures { result ≡ keyed_by many }
 {
-    match many {
-        Many::List => false,
-        Many::Dict => true,
-        Many::Ordered => true,
-    }
+    many != Many::List
 }
 
 pub fn three_kind(three: Three) -> u32
@@ -168,27 +114,19 @@ pub fn attributes_want(three: Three) -> Want
     }
 }
 
+#[tactic(auto, unfolding(glyph::specs::Numbers::is_blank))]
 fn is_blank(b: u8) -> bool
     ensures { result ≡ is_blank b }
 {
-    match b {
-        b' ' => true,
-        b'\t' => true,
-        11 => true,
-        b'\r' => true,
-        b'\n' => true,
-        _ => false,
-    }
+    matches!(b, b' ' | b'\t' | b'\x0b' | b'\r' | b'\n')
 }
 
-// A blank stands there.
-fn blank_at(s: &[u8], at: usize) -> bool
-    ensures { Stands s.now at (is_blank (get_or s.now at 0)) result }
+// How many blanks stand in front.
+fn blanks(s: &[u8]) -> usize
+    ensures value { result ≡ prefix_len is_blank s.now }
+    ensures within { result ≤ length s.now }
 {
-    if s.len() <= at {
-        return false;
-    }
-    is_blank(s[at])
+    s.iter().take_while(|b| is_blank(**b)).count()
 }
 
 // The place past the blanks at a place.
@@ -196,47 +134,29 @@ pub fn past_blanks(s: &[u8], at: usize) -> usize
     requires { at ≤ length s.now }
     ensures { Skipped s.now at result }
 {
-    let mut i = at;
-    while blank_at(s, i) {
-        i += 1;
-    }
-    i
+    at + blanks(&s[at..])
 }
 
 // No `;` stands there.
 pub fn goes_on(s: &[u8], at: usize) -> bool
     ensures { Open s.now at result }
 {
-    if s.len() <= at {
-        return true;
-    }
-    s[at] != b';'
+    s.get(at) != Some(&b';')
 }
 
 // Where digits end, and the number that they are.
-#[derive(Drop)]
+#[derive(Clone, Copy, PartialEq, Eq, Debug)]
 pub struct Digits {
     pub end: usize,
     pub value: usize,
 }
 
-// A digit stands there.
-fn digit_at(s: &[u8], at: usize) -> bool
-    ensures { Stands s.now at (digit (get_or s.now at 0)) result }
-{
-    if s.len() <= at {
-        return false;
-    }
-    digits::is_digit(s[at])
-}
-
 // One digit more, cut.
-fn onward(value: usize, more: usize) -> usize
-    requires { (value ≤ 2147483649) × (more < 256) }
+fn onward(value: usize, more: u8) -> usize
+    requires { value ≤ 2147483649 }
     ensures { result ≡ min (value * 10 + more) 2147483649 }
 {
-    let next = value * 10 + more;
-    if next < 2147483649 { next } else { 2147483649 }
+    (value * 10 + more as usize).min(2147483649)
 }
 
 // The digits at a place, the number cut at 2,147,483,649, which is out of range for integers of both signs and past the end of any message.
@@ -244,11 +164,15 @@ pub fn count(s: &[u8], at: usize) -> Digits
     requires { at ≤ length s.now }
     ensures { Counted s.now at result.end result.value }
 {
-    let mut i = at;
-    let mut value: usize = 0;
-    while digit_at(s, i) {
-        value = onward(value, digits::value_of(s[i]));
-        i += 1;
+    let mut value = 0;
+    for (i, b) in s[at..].iter().enumerate() {
+        if !b.is_ascii_digit() {
+            return Digits { end: at + i, value };
+        }
+        value = onward(value, *b - b'0');
     }
-    Digits { end: i, value }
+    Digits {
+        end: s.len(),
+        value,
+    }
 }

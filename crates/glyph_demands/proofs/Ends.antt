@@ -13,7 +13,6 @@ use Rattle.draft.specs.declared.Row.{Row}
 use Rattle.draft.specs.Bytes.{byte_at, part}
 use Rattle.draft.specs.Table.{room_of, rows_at}
 use Rattle.glyph.specs.declared.Edition.{Edition}
-use Rattle.glyph.specs.declared.Answer.TheVariants.{Accepted}
 use Rattle.glyph.specs.declared.Leaf.{Leaf as LeafLetter}
 use Rattle.glyph.specs.declared.Leaf.TheVariants.{Integer, Unicode, Bytes, True, False, Nil}
 use Rattle.glyph.specs.declared.Many.{Many as ManyLetter}
@@ -27,7 +26,7 @@ use Rattle.glyph.specs.declared.Want.TheVariants.{Any, Text}
 use Rattle.glyph.specs.Letters.{letter_of, wanted, name_want, attributes_want, three_kind, many_kind, keyed_by}
 use Rattle.glyph.specs.Numbers.{past, digits, decimal, in_range}
 use Rattle.glyph.specs.Read.{Reading, got, refused, then, behind, Reader, Texts, floor, under, good_text, single, number_from, content, lengthened, text, leaf_of, next, run, first_text, distinct, entry, kept, closing, many, three, item, object, rooted, root}
-use Rattle.glyph.specs.Answers.{reading, Answers}
+use Rattle.glyph.specs.Answers.{reading, Answers, accepted_as}
 use Rattle.glyph_demands.specs.Answered.{has, AllEnd}
 use Rattle.glyph_demands.proofs.Reading.{message_is}
 use Rattle.glyph_demands.proofs.Settled.{accepted_read, derived, accepted_rows}
@@ -182,7 +181,7 @@ module _ (s : List ℕ) where
 
 -- ENDS, in the table after an accepted call.
 pub all_end :
-    (e : Edition) (limit : ℕ) (s : List ℕ) (words : ℕ) {T : List ℕ} {n used : ℕ} → Answers (reading e limit s words) words T (Accepted n used)
+    (e : Edition) (limit : ℕ) (s : List ℕ) (words : ℕ) {T : List ℕ} {n used : ℕ} → Answers (reading e limit s words) words T (accepted_as n used)
     → AllEnd s (rows_at (room_of 4096 words) T 0 n)
 unfolding reading
 all_end e limit s words d =

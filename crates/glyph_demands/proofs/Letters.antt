@@ -14,12 +14,10 @@ use Rattle.glyph.specs.declared.Edition.{Edition}
 use Rattle.glyph.specs.declared.Edition.TheVariants.{New, Old}
 use Rattle.glyph.specs.declared.Letter.TheVariants.{Unknown}
 use Rattle.glyph.specs.declared.Want.TheVariants.{Any}
-use Rattle.glyph.specs.declared.Answer.{Answer}
-use Rattle.glyph.specs.declared.Answer.TheVariants.{Refused}
 use Rattle.glyph.specs.Letters.{letter_h, letter_of}
 use Rattle.glyph.specs.Numbers.{is_blank, blanks, past}
 use Rattle.glyph.specs.Read.{refused, object, rooted, root}
-use Rattle.glyph.specs.Answers.{reading, answer_of, Answers}
+use Rattle.glyph.specs.Answers.{reading, answer_of, Answers, Answer, refused_as}
 use Rattle.glyph_demands.specs.Answered.{has, letters_of, Allowed}
 use Rattle.glyph_demands.proofs.Reading.{message_is}
 
@@ -54,7 +52,7 @@ no_letter Old x h = let g = not_common x (code "H" ∷ []) h Old in g.0 ∙ rw (
 -- OTHER LETTERS are 3, at their byte.
 pub other_letters :
     (e : Edition) (limit x : ℕ) (s : List ℕ) (words : ℕ) → Allowed limit (x ∷ s) → is_blank x ≡ false → has (letters_of e) x ≡ false → {T : List ℕ} {a : Answer}
-    → Answers (reading e limit (x ∷ s) words) words T a → a ≡ Refused 3 0
+    → Answers (reading e limit (x ∷ s) words) words T a → a ≡ refused_as UnexpectedByte 0
 unfolding reading root object past blanks
 other_letters e limit x s words ok b h d =
     let q : root (x ∷ s) (room_of 4096 words) e limit ≡ refused UnexpectedByte 0 = rw b (ap (rooted (x ∷ s) (room_of 4096 words)) (unknown limit)) in

@@ -17,14 +17,15 @@ use Rattle.exact.proofs.Realising.{counts}
 use Rattle.table.proofs.Stored.{rows_there, words_other}
 use Rattle.glyph.specs.declared.Refusal.{Refusal}
 use Rattle.glyph.specs.declared.Refusal.TheVariants.{TooDeep, NoRow, BadLimit}
+use Rattle.std.specs.Prelude.{Ok, Err}
+use Rattle.draft.specs.declared.Refused.{Refused}
+use Rattle.glyph.specs.declared.Accepted.{Accepted}
 use Rattle.glyph.specs.declared.Edition.{Edition}
-use Rattle.glyph.specs.declared.Answer.{Answer}
-use Rattle.glyph.specs.declared.Answer.TheVariants.{Accepted, Refused}
 use Rattle.glyph.specs.Refusals.{number_of}
 use Rattle.glyph.specs.Read.{Reading, got, refused, message}
 use Rattle.glyph.specs.Tree.{Tree, cells}
 use Rattle.glyph.specs.Grammar.{Root}
-use Rattle.glyph.specs.Answers.{reading, answer_of, table_of, Answers}
+use Rattle.glyph.specs.Answers.{reading, answer_of, table_of, Answers, Answer, accepted_as, refused_as}
 use Rattle.glyph_demands.specs.Answered.{Allowed, Derived, RefusedFor, ended, unexpected_byte, bad_text, repeated_key, out_of_range, too_deep, no_row, too_long, no_limit, rows_in, Columns, Lasting}
 use Rattle.glyph_demands.proofs.Reading.{sound, complete, refusals_true, growth_of_limits}
 
@@ -41,29 +42,28 @@ module _ (e : Edition) (limit : ℕ) (s : List ℕ) (words : ℕ) where
       go (refused m p) = length-replicate words 0
       go (got rows used) = length_put_rows (room_of 4096 words) (replicate words 0) 0 rows ∙ length-replicate words 0
 
-  -- what a refusal says: the definition's own, by its number
-  pub record Unread (number place : ℕ) : Type 0 where
-    pub why : Refusal
-    pub is : reading e limit s words ≡ refused why place
-    pub number_is : number ≡ number_of why
-
-  pub refused_read : {T : List ℕ} {n p : ℕ} → Answers (reading e limit s words) words T (Refused n p) → Unread n p
-  refused_read {n = n} {p} d = go (reading e limit s words) refl d.says
+  -- what a refusal says: the definition's own
+  pub refused_read : {T : List ℕ} {m : Refusal} {p : ℕ} → Answers (reading e limit s words) words T (refused_as m p) → reading e limit s words ≡ refused m p
+  refused_read {m = m} {p} d = go (reading e limit s words) refl d.says
     where
-      go : (o : Reading) → reading e limit s words ≡ o → Refused n p ≡ answer_of o → Unread n p
-      go (refused m q) i j =
-          let a : n ≡ number_of m = cc in
-          let b : q ≡ p = cc in
-          record { why = m; is = i ∙ ap (refused m) b; number_is = a }
-      go (got rows used) i j = let z : ◌≡◌ {A = ℕ} 0 1 = cc in absurd (omega arith)
+      same : {x y : Refused Refusal} {a : Answer} → Err x ≡ a → a ≡ Err y → x ≡ y
+      same i j = cc
+
+      go : (o : Reading) → reading e limit s words ≡ o → refused_as m p ≡ answer_of o → reading e limit s words ≡ refused m p
+      go (refused n q) i j =
+          let x = same j refl in
+          let a : m ≡ n = ap (λ (y : Refused Refusal). y.refusal) x in
+          let b : p ≡ q = ap (λ (y : Refused Refusal). y.place) x in
+          rw (a, b) i
+      go (got rows used) i j = absurd (cc)
 
   -- REFUSED. On a refusal the table is all zeros, and the refusal's number is true of the message.
-  pub refused_zeros : {T : List ℕ} {n p : ℕ} → Answers (reading e limit s words) words T (Refused n p) → T ≡ replicate words 0
-  refused_zeros d = let u = refused_read d in d.leaves ∙ ap (table_of words) u.is
+  pub refused_zeros : {T : List ℕ} {m : Refusal} {p : ℕ} → Answers (reading e limit s words) words T (refused_as m p) → T ≡ replicate words 0
+  refused_zeros d = d.leaves ∙ ap (table_of words) (refused_read d)
 
-  pub refused_true : {T : List ℕ} {n p : ℕ} → Answers (reading e limit s words) words T (Refused n p) → RefusedFor e limit s (room_of 4096 words) n p
+  pub refused_true : {T : List ℕ} {m : Refusal} {p : ℕ} → Answers (reading e limit s words) words T (refused_as m p) → RefusedFor e limit s (room_of 4096 words) (number_of m) p
   unfolding reading
-  refused_true d = let u = refused_read d in rw u.number_is (refusals_true e limit s (room_of 4096 words) u.is)
+  refused_true d = refusals_true e limit s (room_of 4096 words) (refused_read d)
 
   -- what an acceptance says: the rows that the definition gives, as many and with as many bytes used as the answer names
   pub record Read (n used : ℕ) : Type 0 where
@@ -71,17 +71,21 @@ module _ (e : Edition) (limit : ℕ) (s : List ℕ) (words : ℕ) where
     pub is : reading e limit s words ≡ got rows used
     pub count : length rows ≡ n
 
-  module _ {T : List ℕ} {n used : ℕ} (d : Answers (reading e limit s words) words T (Accepted n used)) where
+  module _ {T : List ℕ} {n used : ℕ} (d : Answers (reading e limit s words) words T (accepted_as n used)) where
     -- MADE-UP NUMBERS are shut out: the rows and the bytes used are the definition's own.
     pub accepted_read : Read n used
     accepted_read = go (reading e limit s words) refl d.says
       where
-        go : (o : Reading) → reading e limit s words ≡ o → Accepted n used ≡ answer_of o → Read n used
-        go (refused m p) i j = let z : ◌≡◌ {A = ℕ} 0 1 = cc in absurd (omega arith)
+        same : {x y : Accepted} {a : Answer} → Ok x ≡ a → a ≡ Ok y → x ≡ y
+        same i j = cc
+
+        go : (o : Reading) → reading e limit s words ≡ o → accepted_as n used ≡ answer_of o → Read n used
+        go (refused m p) i j = absurd (cc)
         go (got rows to) i j =
-            let k : to ≡ used = cc in
-            let l : length rows ≡ n = cc in
-            record { rows = rows; is = i ∙ ap (got rows) k; count = l }
+            let x = same j refl in
+            let k : used ≡ to = ap (λ (y : Accepted). y.used) x in
+            let l : n ≡ length rows = ap (λ (y : Accepted). y.rows) x in
+            record { rows = rows; is = rw k i; count = sym l }
 
     -- ROWS. They are all that is in the table, from row 0 on, and what the edition derives.
     pub stored : T ≡ put_rows (room_of 4096 words) (replicate words 0) 0 accepted_read.rows
@@ -104,16 +108,16 @@ module _ (e : Edition) (limit : ℕ) (s : List ℕ) (words : ℕ) where
   -- and one that is derived within the limits is accepted, with as many rows as that means and the bytes used.
   pub taken :
       {used : ℕ} {t : Tree} → Allowed limit s → Root e limit s used t → length (cells t) ≤ room_of 4096 words → {T : List ℕ} {a : Answer}
-      → Answers (reading e limit s words) words T a → a ≡ Accepted (length (cells t)) used
+      → Answers (reading e limit s words) words T a → a ≡ accepted_as (length (cells t)) used
   unfolding reading
-  taken {used} ok g fits d = let x = complete (room_of 4096 words) g ok fits in d.says ∙ ap answer_of x.is ∙ ap (λ (k : ℕ). Accepted k used) (counts x.meaning)
+  taken {used} ok g fits d = let x = complete (room_of 4096 words) g ok fits in d.says ∙ ap answer_of x.is ∙ ap (λ (k : ℕ). accepted_as k used) (counts x.meaning)
 
   -- 23, at place 0, exactly for a limit that is not 1 to 32; the table is zeros.
-  pub unlimited : allowed limit ≡ false → {T : List ℕ} {a : Answer} → Answers (reading e limit s words) words T a → (a ≡ Refused 23 0) × (T ≡ replicate words 0)
+  pub unlimited : allowed limit ≡ false → {T : List ℕ} {a : Answer} → Answers (reading e limit s words) words T a → (a ≡ refused_as BadLimit 0) × (T ≡ replicate words 0)
   unfolding reading message allowed
   unlimited h d = (d.says ∙ rw h, d.leaves ∙ rw h)
 
-  pub unlimited_only : {T : List ℕ} {p : ℕ} → Answers (reading e limit s words) words T (Refused 23 p) → allowed limit ≡ false
+  pub unlimited_only : {T : List ℕ} {p : ℕ} → Answers (reading e limit s words) words T (refused_as BadLimit p) → allowed limit ≡ false
   unlimited_only {T} {p} d = go (refused_true d) refl
     where
       no : (1 ≤ limit → limit ≤ 32 → ⊥) → (b : Bool) → allowed limit ≡ b → allowed limit ≡ false
@@ -186,8 +190,8 @@ module _ (e : Edition) (s : List ℕ) {limit later words words' : ℕ} (higher :
   unfolding reading
   reading_stays {a = a} d l = growth_of_limits e s (omega arith) higher most (λ p z. (no TooDeep p z).0 refl) (λ p z. (no NoRow p z).1 refl) (λ p z. (no BadLimit p z).2 refl)
     where
-      no : (m : Refusal) (p : ℕ) → reading e limit s words ≡ refused m p → Lasting (Refused (number_of m) p)
-      no m p z = let i : a ≡ Refused (number_of m) p = d.says ∙ ap answer_of z in rw i at l
+      no : (m : Refusal) (p : ℕ) → reading e limit s words ≡ refused m p → Lasting (refused_as m p)
+      no m p z = let i : a ≡ refused_as m p = d.says ∙ ap answer_of z in rw i at l
 
   pub stays :
       {T T' : List ℕ} {a b : Answer} → Answers (reading e limit s words) words T a → Answers (reading e later s words') words' T' b → Lasting a

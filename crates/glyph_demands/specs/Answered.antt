@@ -7,10 +7,11 @@ use Rattle.draft.specs.Bytes.{byte_at}
 use Rattle.draft.specs.Rows.{row}
 use Rattle.draft.specs.Table.{room_of}
 use Rattle.draft.specs.Meaning.{Realises}
+use Rattle.std.specs.Prelude.{Ok, Err}
 use Rattle.glyph.specs.declared.Edition.{Edition}
+use Rattle.glyph.specs.Refusals.{number_of}
+use Rattle.glyph.specs.Answers.{Answer}
 use Rattle.glyph.specs.declared.Edition.TheVariants.{New, Old}
-use Rattle.glyph.specs.declared.Answer.{Answer}
-use Rattle.glyph.specs.declared.Answer.TheVariants.{Accepted, Refused}
 use Rattle.glyph.specs.Read.{Reading, got, refused}
 use Rattle.glyph.specs.Tree.{Tree, cells}
 use Rattle.glyph.specs.Grammar.{Root}
@@ -84,5 +85,5 @@ pub record Columns (words : ℕ) (T : List ℕ) (rows : List Row) : Type 0 where
 
 -- an answer other than 8, 9 and 23 (02, E11)
 abbrev pub Lasting : Answer → Type 0
-Lasting (Accepted rows used) = Unit {0}
-Lasting (Refused number place) = (number ≢ 8) × (number ≢ 9) × (number ≢ 23)
+Lasting (Ok x) = Unit {0}
+Lasting (Err x) = (number_of x.refusal ≢ 8) × (number_of x.refusal ≢ 9) × (number_of x.refusal ≢ 23)

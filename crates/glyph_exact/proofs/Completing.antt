@@ -36,8 +36,8 @@ use Rattle.glyph.specs.Numbers.{is_blank, blanks, past, digits, decimal, is_minu
 use Rattle.glyph.specs.Read.{Reading, got, Reader, Texts, Nest, floor, under, behind, leaf_of, single, number_from, integer as integerAt, content as contentAt, lengthened, text, text_kind, good_text, next, run, first_text, distinct, entry, kept, closing, many as manyAt, three as threeAt, item, object}
 use Rattle.glyph.specs.Tree.{Tree, leaf, many, plain, ordered, Trees, Pairs, count, count_pairs, cells, cells_of, pair_cells}
 use Rattle.glyph.specs.Grammar.{Blanks, no_blanks, and_blank, Sign, plus, minus, no_sign, Digits, no_digits, and_digit, value_of, Number, ascii_number, Content, content, empty, Meets, any, unicode_met, dict_met, ordered_met, Extends, new_extension, old_extension, Nodes, old_node, Object, integer, unicode, bytearray, true_object, false_object, nil, list, dict, ordered_dict, extension, node, Objects, close, more, Members, close_members, more_members, Parts, parts}
-use Rattle.glyph_bytes.proofs.Bytes.{blanks_none}
-use Rattle.glyph_bytes.proofs.Letters.{letter_integer, letter_unicode, letter_bytes, letter_true, letter_false, letter_nil, letter_list, letter_dict, letter_ordered, letter_new_x, letter_old_x, letter_old_h}
+use Rattle.glyph_exact.proofs.Letters.{blanks_none}
+use Rattle.glyph_exact.proofs.Letters.{letter_integer, letter_unicode, letter_bytes, letter_true, letter_false, letter_nil, letter_list, letter_dict, letter_ordered, letter_new_x, letter_old_x, letter_old_h}
 
 -- blanks are all taken where no blank follows
 blanks_exact : {xs : List ℕ} (rest : List ℕ) → Blanks xs → blanks rest ≡ 0 → blanks (xs ++ rest) ≡ length xs

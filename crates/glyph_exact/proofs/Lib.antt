@@ -1,3 +1,4 @@
+pub mod Letters
 pub mod Growing
 pub mod Fitting
 pub mod Completing

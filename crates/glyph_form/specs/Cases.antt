@@ -1,6 +1,6 @@
 -- Tables of both editions, written: what reading makes of the documents' examples and of others, and tables that are not writable. One table of
 -- cases, and what is to be shown of it. Assumes nothing.
-use Rattle.std.specs.Prelude.{List, [], ◌∷◌, ◌++◌, ℕ, ◌-◌, length, replicate}
+use Rattle.std.specs.Prelude.{List, [], ◌∷◌, ◌++◌, ℕ, ◌-◌, length, replicate, Ok, Err}
 use Prim.Native.String.{String}
 use Rattle.draft.specs.declared.Row.{Row}
 use Rattle.draft.specs.declared.Refusal.{Refusal}
@@ -12,10 +12,8 @@ use Rattle.glyph.specs.declared.Edition.{Edition}
 use Rattle.glyph.specs.declared.Edition.TheVariants.{New, Old}
 use Rattle.glyph.specs.Read.{Reading, got, refused}
 use Rattle.glyph.specs.Answers.{reading}
-use Rattle.glyph_form.specs.declared.Answer.{Answer}
-use Rattle.glyph_form.specs.declared.Answer.TheVariants.{Written, Refused}
 use Rattle.glyph_form.specs.Form.{form_of}
-use Rattle.glyph_form.specs.Answers.{answer_of, output_of}
+use Rattle.glyph_form.specs.Answers.{answer_of, output_of, Answer}
 
 -- rows and the bytes that their texts lie in, an edition, a limit of nesting and an output's length; the answer and the form, none if refused
 pub record Case : Type 0 where
@@ -38,7 +36,7 @@ read_in e s = rows_of (reading e 8 (bytes s) 64)
 -- a message of one edition, read, and its form in another
 abbrev across : Edition → Edition → String → String → Case
 across e f s form =
-    record { rows = read_in e s; texts = bytes s; edition = f; limit = 8; room = 66; answer = Written (length (bytes form)); form = bytes form }
+    record { rows = read_in e s; texts = bytes s; edition = f; limit = 8; room = 66; answer = Ok (length (bytes form)); form = bytes form }
 
 abbrev again : Edition → String → String → Case
 again e s form = across e e s form
@@ -46,20 +44,20 @@ again e s form = across e e s form
 -- a message of 1.0 that has a form by this limit, into an output that it fills
 abbrev filling : ℕ → String → Case
 filling n s =
-    record { rows = read_in New s; texts = bytes s; edition = New; limit = n; room = length (bytes s); answer = Written (length (bytes s)); form = bytes s }
+    record { rows = read_in New s; texts = bytes s; edition = New; limit = n; room = length (bytes s); answer = Ok (length (bytes s)); form = bytes s }
 
 -- a message of 0.5 that is refused in an edition, by a limit and an output's length
 abbrev refused_with : Edition → ℕ → ℕ → String → Refusal → Case
 refused_with e n room s refusal =
-    record { rows = read_in Old s; texts = bytes s; edition = e; limit = n; room = room; answer = Refused refusal; form = [] }
+    record { rows = read_in Old s; texts = bytes s; edition = e; limit = n; room = room; answer = Err refusal; form = [] }
 
 -- rows over the text `key`, in 0.5
 abbrev rewritten : List Row → String → Case
 rewritten rows form =
-    record { rows = rows; texts = bytes "key"; edition = Old; limit = 8; room = 20; answer = Written (length (bytes form)); form = bytes form }
+    record { rows = rows; texts = bytes "key"; edition = Old; limit = 8; room = 20; answer = Ok (length (bytes form)); form = bytes form }
 
 abbrev unwritable : List Row → Case
-unwritable rows = record { rows = rows; texts = bytes "key"; edition = Old; limit = 8; room = 20; answer = Refused NotWritable; form = [] }
+unwritable rows = record { rows = rows; texts = bytes "key"; edition = Old; limit = 8; room = 20; answer = Err NotWritable; form = [] }
 
 unfoldable pub cases : List Case
 cases =

@@ -2,8 +2,8 @@
 -- empty texts as `u;` and `b;`, plain dicts in byte order of keys'. Assumes nothing.
 use Rattle.std.specs.Prelude.{ℕ, zero, suc, ◌+◌, ◌-◌, ◌/◌, ◌%◌, cond, List, [], ◌∷◌, ◌++◌, length, ltb, eqb}
 use Prim.Native.Char.{code}
-use Rattle.order.specs.declared.Relation.{Relation}
-use Rattle.order.specs.declared.Relation.TheVariants.{Before, Equal, After}
+use Rattle.std.specs.declared.cmp.Ordering.{Ordering}
+use Rattle.std.specs.declared.cmp.Ordering.TheVariants.{Less, Equal, Greater}
 use Rattle.order.specs.ByteOrder.{compared}
 use Rattle.draft.specs.Grammar.{Payload, holding, number, contents}
 use Rattle.draft.specs.Table.{room_of, row_at}
@@ -13,10 +13,10 @@ use Rattle.glyph.specs.Tree.{Tree, leaf, many, plain, ordered, Trees, none, also
 use Rattle.glyph_form.specs.Told.{tree_at}
 
 -- the pair of a key k put in front of the first whose key k is before
-abbrev pub put : Relation → List ℕ → Tree → List ℕ → Tree → Pairs → Pairs → Pairs
-put Before k t l u ps qs = pair k t (pair l u ps)
+abbrev pub put : Ordering → List ℕ → Tree → List ℕ → Tree → Pairs → Pairs → Pairs
+put Less k t l u ps qs = pair k t (pair l u ps)
 put Equal k t l u ps qs = pair l u qs
-put After k t l u ps qs = pair l u qs
+put Greater k t l u ps qs = pair l u qs
 
 unfoldable pub insert : List ℕ → Tree → Pairs → Pairs
 insert k t no_pairs = pair k t no_pairs

@@ -1,7 +1,6 @@
 -- Writable tables of an edition, by document 01's rules over document 02's rows: where the rows of an object end that begins at row r, if they
 -- are such an object's rows. Every word of every row is judged. Limits are parameters. Assumes nothing.
-use Rattle.std.specs.Prelude.{ℕ, zero, suc, ◌+◌, ◌*◌, Bool, true, false, ◌&&◌, List, [], length, ltb, leb}
-use Rattle.draft.specs.declared.Extent.TheVariants.{Until, Unfit}
+use Rattle.std.specs.Prelude.{ℕ, zero, suc, ◌+◌, ◌*◌, Bool, true, false, ◌&&◌, List, [], length, ltb, leb, Some, None}
 use Rattle.draft.specs.declared.Row.{Row}
 use Rattle.draft.specs.Table.{room_of, row_at}
 use Rattle.draft.specs.Read.{Texts}
@@ -23,7 +22,7 @@ pub data Nest : Type 0 where
 
 -- 'nil (b 0)'
 abbrev pub nil_item : Row → Walk
-nil_item x r = holding 0 x (Until (r + 1))
+nil_item x r = holding 0 x (Some (r + 1))
 
 -- the rows by their numbers, how many there are, and the text bytes
 module _ (row : ℕ → Row) (rows : ℕ) (s : List ℕ) where
@@ -42,12 +41,12 @@ module _ (row : ℕ → Row) (rows : ℕ) (s : List ℕ) where
 
   -- a list's b objects, a dict's b pairs
   abbrev pub many_item : ManyLetter → Nest → Row → Walk
-  many_item l floor x r = Unfit
+  many_item l floor x r = None
   many_item l (under f) x r = over x (entries (keyed_by l) (f Any) x.b (r + 1))
 
   -- name, attributes and content: 'both b 3'
   abbrev pub three_item : ThreeLetter → Nest → Row → Walk
-  three_item l floor x r = Unfit
+  three_item l floor x r = None
   three_item l (under f) x r = holding 3 x (pair (f (name_want l)) (pair (f (attributes_want l)) (f Any)) (r + 1))
 
   abbrev pub item : Sort → Nest → Row → Walk
@@ -57,7 +56,7 @@ module _ (row : ℕ → Row) (rows : ℕ) (s : List ℕ) where
   item Nil nest x r = nil_item x r
   item (Many l) nest x r = many_item l nest x r
   item (Three l) nest x r = three_item l nest x r
-  item Unknown nest x r = Unfit
+  item Unknown nest x r = None
 
   -- what stands at row r, where only such an object may
   abbrev pub here : Edition → Nest → Want → Walk

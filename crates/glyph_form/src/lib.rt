@@ -1,11 +1,11 @@
 // What a table of glyph rows is written from and to: definitions. See specs/.
 #![tactic(auto)]
 
-use draft::{Content, Refusal};
+use draft::Content;
 use glyph::{Many, Three};
 
 // What a row's kind names, if the edition has it.
-#[derive(Drop)]
+#[derive(Clone, Copy)]
 pub enum Sort {
     Integer,
     Boolean,
@@ -14,11 +14,4 @@ pub enum Sort {
     Many(Many),
     Three(Three),
     Unknown,
-}
-
-// What writing a table answers: how many bytes were written, or why not.
-#[derive(Drop)]
-pub enum Answer {
-    Written { length: usize },
-    Refused(Refusal),
 }

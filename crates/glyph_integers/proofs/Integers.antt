@@ -9,50 +9,20 @@ use mir.Val.{Fits}
 use lib.Dec.{leb}
 use lib.ListN.{length, get_or, drop}
 use borrow.Author.Tests.{ne_eqb, le-ltb, le-leb, lt-leb, leb-true, leb-false}
+use Rattle.std.specs.Prelude.{Ok}
 use Rattle.draft.specs.Rows.{row}
 use Rattle.draft.specs.Table.{set_row}
-use Rattle.item.specs.declared.Step.{Step}
-use Rattle.item.specs.Contract.{read_to}
+use Rattle.item.specs.declared.Reached.{Reached}
+use Rattle.item.specs.Contract.{reached}
 use Rattle.glyph.specs.declared.Refusal.TheVariants.{Ended, UnexpectedByte, OutOfRange}
 use Rattle.glyph.specs.Numbers.{digits, decimal, is_minus, signs, in_range, word}
 use Rattle.glyph.specs.Read.{number_from, integer}
 use Rattle.glyph_bytes.specs.Places.{Counted}
 use Rattle.glyph_bytes.proofs.Bytes.{get_d_past}
-use Rattle.glyph_item.specs.Contract.{refused_at, Did}
+use Rattle.glyph_item.specs.Contract.{Step, refused_at, Did}
 use Rattle.glyph_item.proofs.Readings.{done, did_no, leaf_got}
 use Rattle.glyph_integers.specs.Signs.{Signed, Slots}
 use Rattle.glyph_integers.proofs.Numbers.{numbered_cut, numbered_none, numbered_wrong, numbered_on}
-
--- the range, and the sign
-pub range_minus : (m : Bool) (v : ℕ) → m ≡ true → leb v 2147483648 ≡ in_range m v
-unfolding in_range
-range_minus m v e = rw e
-
-pub range_plain : (m : Bool) (v : ℕ) → m ≡ false → leb v 2147483647 ≡ in_range m v
-unfolding in_range
-range_plain m v e = rw e
-
-pub word_zero : (m : Bool) (v : ℕ) → m ≡ true → v ≡ 0 → 0 ≡ word m v
-word_zero m v e z = rw (e, z)
-
-pub word_minus : (m : Bool) (v : ℕ) → m ≡ true → (v ≡ 0 → ⊥) → 4294967296 - v ≡ word m v
-word_minus m v e z = rw (e, ne_eqb _ _ z)
-
-pub word_plain : (m : Bool) (v : ℕ) → m ≡ false → v ≡ word m v
-word_plain m v e = rw e
-
-module _ (b : ℕ) where
-  pub sign_minus : b ≡ 45 → Signed b true 1
-  unfolding is_minus signs
-  sign_minus e = record { is = rw e; takes = rw e; most = omega arith }
-
-  pub sign_plus : b ≡ 43 → Signed b false 1
-  unfolding is_minus signs
-  sign_plus e = record { is = rw e; takes = rw e; most = omega arith }
-
-  pub sign_none : (b ≡ 45 → ⊥) → (b ≡ 43 → ⊥) → Signed b false 0
-  unfolding is_minus signs
-  sign_none h k = record { is = rw (ne_eqb _ _ h); takes = rw (ne_eqb _ _ h, ne_eqb _ _ k); most = omega arith }
 
 pub in_range_lem : (m : Bool) {v : ℕ} {b : Bool} → b ≡ in_range m v → b ≡ true → v ≤ 2147483648
 unfolding in_range
@@ -91,13 +61,13 @@ module _ (s : List ℕ) (m : Bool) (from at : ℕ) {end v : ℕ} {room r : ℕ} 
     unfolding number_from
     number_far n f g e = numbered_on s 59 at _ c h k n (did_no OutOfRange e (rw (cut_range m v _ c.is, ← f, g)))
 
-    pub number_got : {b : Bool} {w words : ℕ} → get_or s end 0 ≡ 59 → b ≡ in_range m v → b ≡ true → w ≡ word m v → step ≡ read_to (end + 1) (r + 1) → T' ≡ set_row room T r (row 4 w 0 (r + 1)) → at < from → Slots r room (length s) words → Did (number_from s m from at r) (length s) room (at + 1) r T T' step
-    unfolding number_from
-    number_got n f g x e w l z =
-        let q = in_range_lem m f g in
-        let same : decimal 0 (drop from s) ≡ v = omega (arith, c.is) in
-        let e₂ : from + digits (drop from s) ≡ end = sym c.ends in
-        numbered_on s 59 at _ c h k n (done (rw (cut_range m v _ c.is, ← f, g, same, e₂, ← x)) (leaf_got e w (omega arith) (omega arith) z.left))
+pub number_got : (s : List ℕ) (m : Bool) (from at : ℕ) {end v : ℕ} {room r : ℕ} {T T' : List ℕ} → Counted s from end v → end < length s → from < end → {b : Bool} {w words : ℕ} {x : Reached} → get_or s end 0 ≡ 59 → b ≡ in_range m v → b ≡ true → w ≡ word m v → x ≡ reached (end + 1) (r + 1) → T' ≡ set_row room T r (row 4 w 0 (r + 1)) → at < from → Slots r room (length s) words → Did (number_from s m from at r) (length s) room (at + 1) r T T' (Ok x)
+unfolding number_from
+number_got s m from at {end = end} {v = v} c h k n f g y e w l z =
+    let q = in_range_lem m f g in
+    let same : decimal 0 (drop from s) ≡ v = omega (arith, c.is) in
+    let e₂ : from + digits (drop from s) ≡ end = sym c.ends in
+    numbered_on s 59 at _ c h k n (done (rw (cut_range m v _ c.is, ← f, g, same, e₂, ← y)) (leaf_got e w (omega arith) (omega arith) z.left))
 
 -- an integer, by its sign
 module _ (s : List ℕ) (at : ℕ) {room r : ℕ} {T T' : List ℕ} {step : Step} where
@@ -117,4 +87,4 @@ from_after at size = omega arith
 pub sign_fits : {b at n : ℕ} {m : Bool} {size : ℕ} → Signed b m size → at < n → n ≤ 65536 → Fits w64 (at + 1 + size)
 sign_fits z h k = omega (arith, z.most)
 
-pub ruleset integers = (range_minus, range_plain, word_zero, word_minus, word_plain, sign_minus, sign_plus, sign_none, in_range_lem, number_cut, number_none, number_wrong, number_far, number_got, integer_cut, integer_on, sign_from, from_after, sign_fits)
+pub ruleset integers = (in_range_lem, number_cut, number_none, number_wrong, number_far, number_got, integer_cut, integer_on, sign_from, from_after, sign_fits)

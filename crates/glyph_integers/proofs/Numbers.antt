@@ -7,12 +7,11 @@ use native.Mathlib.Omega.{arith}
 use lib.Dec.{eqb, ltb}
 use lib.ListN.{length, get_or, drop}
 use borrow.Author.Tests.{eq-eqb, ne_eqb, lt-ltb, le-ltb}
-use Rattle.item.specs.declared.Step.{Step}
 use Rattle.glyph.specs.declared.Refusal.TheVariants.{Ended, UnexpectedByte}
 use Rattle.glyph.specs.Numbers.{digits}
 use Rattle.glyph.specs.Read.{Reading, refused, numbered}
 use Rattle.glyph_bytes.specs.Places.{Counted}
-use Rattle.glyph_item.specs.Contract.{refused_at, Did}
+use Rattle.glyph_item.specs.Contract.{Step, refused_at, Did}
 use Rattle.glyph_item.proofs.Readings.{done, did_no}
 
 module _ (s : List ℕ) (b at : ℕ) (o : Reading) {from end v : ℕ} (c : Counted s from end v) where

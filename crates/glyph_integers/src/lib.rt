@@ -9,16 +9,19 @@ ghost use Rattle.glyph_item.specs.Contract.{Did};
 ghost use Rattle.glyph_integers.specs.Signs.{Signed, Slots};
 
 use glyph::Refusal;
-use item::Step;
+use glyph_bytes::Digits;
+use glyph_item::Step;
 
 // Whether a number with this sign has 32 bits.
+#[tactic(auto, unfolding(glyph::specs::Numbers::in_range))]
 fn in_range(minus: bool, value: usize) -> bool
     ensures { result ≡ in_range minus value }
 {
     if minus {
-        return value <= 2147483648;
+        value <= 2147483648
+    } else {
+        value <= 2147483647
     }
-    value <= 2147483647
 }
 
 // Its 32 bits.
@@ -26,22 +29,18 @@ fn word_of(minus: bool, value: usize) -> u32
     requires { value ≤ 2147483648 }
     ensures { result ≡ word minus value }
 {
-    if minus {
-        if value == 0 {
-            return 0;
-        }
-        return (4294967296 - value) as u32;
-    }
-    value as u32
+    let word = value as u32;
+    if minus { word.wrapping_neg() } else { word }
 }
 
 // The sign at a place, if one stands there.
-#[derive(Drop)]
+#[derive(Clone, Copy, PartialEq, Eq, Debug)]
 pub struct Sign {
     pub minus: bool,
     pub size: usize,
 }
 
+#[tactic(auto, unfolding(glyph::specs::Numbers::is_minus, glyph::specs::Numbers::signs))]
 fn sign_of(b: u8) -> Sign
     ensures { Signed b result.minus result.size }
 {
@@ -74,23 +73,18 @@ fn read_number(
     requires { (at < from) × (from ≤ length s.now) × Slots row room (length s.now) (length table.old) }
     ensures { Did (number_from s.now minus from at row) (length s.now) room (at + 1) row table.old table.new result }
 {
-    let number = glyph_bytes::count(s, from);
-    let end = number.end;
-    let value = number.value;
+    let Digits { end, value } = glyph_bytes::count(s, from);
     if s.len() <= end {
-        return glyph_item::refuse(Refusal::Ended, at);
+        return item::refuse(Refusal::Ended, at);
     }
-    if end <= from {
-        return glyph_item::refuse(Refusal::UnexpectedByte, at);
+    if end <= from || s[end] != b';' {
+        return item::refuse(Refusal::UnexpectedByte, at);
     }
-    if s[end] != b';' {
-        return glyph_item::refuse(Refusal::UnexpectedByte, at);
+    if !in_range(minus, value) {
+        return item::refuse(Refusal::OutOfRange, at);
     }
-    if in_range(minus, value) {
-        item::put_leaf(row, end + 1, 4, word_of(minus, value), 0, room, table)
-    } else {
-        glyph_item::refuse(Refusal::OutOfRange, at)
-    }
+    let word = word_of(minus, value);
+    Ok(item::put_leaf(row, end + 1, 4, word, 0, room, table))
 }
 
 // A letter, an optional sign, digits and `;`.
@@ -99,7 +93,7 @@ pub fn read_integer(s: &[u8], at: usize, row: usize, room: usize, table: &mut [u
     ensures { Did (integer s.now at row) (length s.now) room (at + 1) row table.old table.new result }
 {
     if s.len() <= at + 1 {
-        return glyph_item::refuse(Refusal::Ended, at);
+        return item::refuse(Refusal::Ended, at);
     }
     let sign = sign_of(s[at + 1]);
     read_number(s, at, row, sign.minus, at + 1 + sign.size, room, table)

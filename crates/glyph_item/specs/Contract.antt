@@ -1,16 +1,18 @@
 -- What the functions that read glyph objects do, as against the definition of reading. Assumes nothing.
-use Rattle.std.specs.Prelude.{◌≡◌, List, ℕ, ◌+◌, ◌≤◌, length}
+use Rattle.std.specs.Prelude.{◌≡◌, Err, List, ℕ, ◌+◌, ◌≤◌, length}
 use Rattle.draft.specs.declared.Row.{Row}
 use Rattle.draft.specs.Table.{put_rows}
-use Rattle.item.specs.declared.Step.{Step}
-use Rattle.item.specs.Contract.{read_to}
+use Rattle.item.specs.Contract.{StepOf, read_to}
 use Rattle.glyph.specs.declared.Refusal.{Refusal}
-use Rattle.glyph.specs.Refusals.{number_of}
 use Rattle.glyph.specs.Read.{Reading, got, refused}
+
+-- what reading an object answers
+abbrev pub Step : Type 0
+Step = StepOf Refusal
 
 -- a refusal
 abbrev pub refused_at : Refusal → ℕ → Step
-refused_at m p = record { number = number_of m; at = p; row = 0 }
+refused_at m p = Err (record { refusal = m; place = p })
 
 -- the answer to a reading that began at row r
 abbrev pub answer : ℕ → Reading → Step

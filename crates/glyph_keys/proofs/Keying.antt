@@ -1,32 +1,28 @@
 -- What answers the returns of the functions that read a key. Assumes nothing.
-use mathlib.Core.Path.{◌≡◌, refl, sym, ap, ◌∙◌}
-use mathlib.Core.Bool.{Bool, true, false, true≢false}
-use mathlib.Core.List.{List, [], ◌∷◌}
-use Prim.Native.Nat.{ℕ, ◌+◌, ◌*◌, ◌≤◌, ◌<◌}
-use native.Mathlib.Omega.{arith}
-use lib.ListN.{length, get_or}
+use Rattle.std.proofs.Common.{◌≡◌, refl, sym, ap, ◌∙◌, Ok, Err, Bool, true, false, List, [], ◌∷◌, ℕ, ◌+◌, ◌*◌, ◌≤◌, ◌<◌, length, get_or, arith}
 use borrow.Author.Tests.{lt-ltb, le-ltb, eq-eqb, ne_eqb}
 use Rattle.text.specs.Texts.{among}
 use Rattle.draft.specs.declared.Row.{Row}
+use Rattle.draft.specs.declared.Refused.{Refused}
 use Rattle.draft.specs.Strings.{Text}
 use Rattle.draft.specs.Table.{put_rows}
 use Rattle.table.proofs.Stored.{rows_kept, first_row}
-use Rattle.item.specs.declared.Step.{Step}
+use Rattle.item.specs.declared.Reached.{Reached}
 use Rattle.item.specs.Contract.{read_to}
 use Rattle.keys.specs.Notes.{owner_of, named, keys_of, Noted, Rows, Entry, Added, Noting, Joins}
 use Rattle.keys.proofs.Chaining.{keys_move}
 use Rattle.keys.proofs.Keeping.{noted_move, key_below}
-use Rattle.member_keys.specs.Contract.{Joined}
+use Rattle.glyph.specs.declared.Refusal.{Refusal}
 use Rattle.glyph.specs.declared.Refusal.TheVariants.{Ended, UnexpectedByte, RepeatedKey}
 use Rattle.glyph.specs.Read.{Reading, got, Texts, opened, text, first_text, distinct}
 use Rattle.glyph_bytes.specs.Places.{Skipped}
-use Rattle.glyph_item.specs.Contract.{refused_at, Leaves, Did}
-use Rattle.glyph_item.proofs.Readings.{Got, did_next, did_not, done, did_no, number_some}
-use Rattle.glyph_keys.specs.Contract.{name, Prepared, KeyDone, KeyIf}
+use Rattle.glyph_item.specs.Contract.{Step, refused_at, Leaves, Did}
+use Rattle.glyph_item.proofs.Readings.{Got, did_next, did_not, done, did_no, ok_not}
+use Rattle.glyph_keys.specs.Contract.{name, Prepared, Joined, KeyDone, Past, KeyIf}
 use Rattle.glyph_keys.proofs.Ones.{name_one}
 
 -- rows stored from row r on leave the texts of those before
-pub named_kept : (s : List ℕ) {o : Reading} {bytes room from r : ℕ} {T T' : List ℕ} {step : Step} → Got o bytes room from r T T' step → (q : ℕ) → q < r → named s room T' q ≡ named s room T q
+pub named_kept : (s : List ℕ) {o : Reading} {bytes room from r : ℕ} {T T' : List ℕ} {x : Reached} → Got o bytes room from r T T' x → (q : ℕ) → q < r → named s room T' q ≡ named s room T q
 unfolding named
 named_kept s {room = room} {r = r} {T = T} g q l = rw (g.wrote, rows_kept room T r q g.rows l (omega (arith, g.next, g.fits)))
 
@@ -50,18 +46,18 @@ module _ (s : List ℕ) (at : ℕ) {room r : ℕ} {T T' : List ℕ} {step : Step
   name_on h n d = done (simp (lt-ltb _ _ h, eq-eqb _ _ n)) d
 
 -- nothing is kept of what was refused
-joined_not : {t t' : ℕ → Text} {N N' : List ℕ} {owner first : ℕ} {step : Step} → (step.number ≡ 0 → ⊥) → Joined t t' N N' owner first step
-joined_not n = record { joins = λ e. absurd (n e); behind = λ e. absurd (n e) }
+pub joined_not : {t t' : ℕ → Text} {N N' : List ℕ} {owner first : ℕ} {step : Step} {x : Refused Refusal} → step ≡ Err x → Joined t t' N N' owner first step
+joined_not n = record { joins = λ _ e. absurd (ok_not e n); behind = λ _ e. absurd (ok_not e n) }
 
-distinct_not : (s : List ℕ) (seen : Texts) (at : ℕ) {o : Reading} {bytes room from from' r : ℕ} {T T₁ T' : List ℕ} {step : Step} → Did o bytes room from r T T₁ step → (step.number ≡ 0 → ⊥) → Did (distinct s seen at o) bytes room from' r T T' step
+distinct_not : (s : List ℕ) (seen : Texts) (at : ℕ) {o : Reading} {bytes room from from' r : ℕ} {T T₁ T' : List ℕ} {step answer : Step} {x : Refused Refusal} → Did o bytes room from r T T₁ step → step ≡ Err x → answer ≡ Err x → Did (distinct s seen at o) bytes room from' r T T' answer
 unfolding distinct
-distinct_not s seen at d n = let z = did_not d n in did_no z.why z.says (ap (distinct s seen at) z.reading)
+distinct_not s seen at {x = x} d n e = did_no x.refusal e (ap (distinct s seen at) (did_not d n))
 
-pub key_refused : (s : List ℕ) (owner at : ℕ) {room r : ℕ} {T T₁ T' N N' : List ℕ} {step : Step} → Did (name s room at r) (length s) room (at + 1) r T T₁ step → (step.number ≡ 0 → ⊥) → KeyDone s room owner at r T T' N N' step
-key_refused s owner at d n = record { did = distinct_not s _ at d n; joined = joined_not n }
+pub key_refused : (s : List ℕ) (owner at : ℕ) {room r : ℕ} {T T₁ T' N N' : List ℕ} {step answer : Step} {x : Refused Refusal} → Did (name s room at r) (length s) room (at + 1) r T T₁ step → step ≡ Err x → answer ≡ Err x → KeyDone s room owner at r T T' N N' answer
+key_refused s owner at d n e = record { did = distinct_not s _ at d n e; joined = joined_not e }
 
 -- a key that was read as a unicode
-module _ (s : List ℕ) (at : ℕ) {room r : ℕ} {T T₁ N : List ℕ} {step : Step} (d : Did (name s room at r) (length s) room (at + 1) r T T₁ step) (e : step.number ≡ 0) (p : Prepared s at r room T N) where
+module _ (s : List ℕ) (at : ℕ) {room r : ℕ} {T T₁ N : List ℕ} {step : Step} {x : Reached} (d : Did (name s room at r) (length s) room (at + 1) r T T₁ step) (e : step ≡ Ok x) (p : Prepared s at r room T N) where
   old : (k : ℕ) → 0 < owner_of N k → named s room T₁ k ≡ named s room T k
   old k h = named_kept s (did_next d e) k (key_below p.noted k h)
 
@@ -99,11 +95,11 @@ module _ (s : List ℕ) (at : ℕ) {room r : ℕ} {T T₁ N : List ℕ} {step : 
       key_again q f =
           record {
             did = did_no RepeatedKey f (rw ((did_next d e).reading, ← says, q));
-            joined = joined_not (λ i. number_some RepeatedKey (sym (ap (λ (x : Step). x.number) f) ∙ i));
+            joined = joined_not f;
           }
 
       module _ (q : b ≡ false) where
-        next_row : step.row ≡ r + 1
+        next_row : x.row ≡ r + 1
         next_row = (did_next d e).next ∙ rw one
 
         joins : Added (named s room T₁) N N' owner r → Joins (named s room T) (named s room T₁) N N' owner r (r + 1)
@@ -116,28 +112,44 @@ module _ (s : List ℕ) (at : ℕ) {room r : ℕ} {T T₁ N : List ℕ} {step : 
               others = λ o p m n. z.others o n ∙ keys_move (named s room T) (named s room T₁) N N o r (λ k l. refl) (λ k l i. old k (omega (arith, i)));
             }
 
-        pub key_new : KeyDone s room owner at r T T₁ N N' step
+        key_is : {y : Reached} {step : Step} → step ≡ Ok x → step ≡ Ok y → x ≡ y
+        key_is i j = cc
+
+        ends : Joined (named s room T) (named s room T₁) N N' owner r (Ok x)
+        ends =
+            record {
+              joins = λ y i. rw (← key_is refl i, next_row) (joins (c.added q));
+              behind = λ y i. rw (← key_is refl i) (omega (arith, next_row, (did_next d e).ahead, p.entries.behind));
+            }
+
+        pub key_new : KeyDone s room owner at r T T₁ N N' (Ok x)
         unfolding distinct
         key_new =
             record {
               did = let g = did_next d e in
-                  record { says = d.says ∙ rw (g.reading, ← says, q); leaves = let l : Leaves (got g.rows step.at) (length s) room (at + 1) r T T₁ = rw g.reading at d.leaves in rw (g.reading, ← says, q) l };
-              joined = record { joins = λ _. rw next_row (joins (c.added q)); behind = λ _. omega (arith, next_row, (did_next d e).ahead, p.entries.behind) };
+                  record { says = sym e ∙ d.says ∙ rw (g.reading, ← says, q); leaves = let l : Leaves (got g.rows x.at) (length s) room (at + 1) r T T₁ = rw g.reading at d.leaves in rw (g.reading, ← says, q) l };
+              joined = ends;
             }
 
 -- where there are keys, and where there are none
 module _ {s : List ℕ} {room owner at r : ℕ} {T T' N N' : List ℕ} {key : Step} where
-  pub key_in : KeyDone s room owner at r T T' N N' key → key.number ≡ 0 → key.at ≤ length s
+  pub key_in : {x : Reached} → KeyDone s room owner at r T T' N N' key → key ≡ Ok x → x.at ≤ length s
   key_in d e = (did_next d.did e).within
 
-  pub if_stops : {keyed : Bool} → keyed ≡ true → KeyDone s room owner at r T T' N N' key → (key.number ≡ 0 → ⊥) → KeyIf keyed s room owner at r T T' N N' key
-  if_stops k d n = record { some = λ _. record { key = key; done = d; stops = λ _. refl; skipped = λ e. absurd (n e); goes = λ e. absurd (n e) }; none = λ f. absurd (true≢false (sym k ∙ f)) }
+  pub if_stops : {keyed : Bool} {x : Refused Refusal} {step : Step} → keyed ≡ true → KeyDone s room owner at r T T' N N' key → key ≡ Err x → step ≡ Err x → KeyIf keyed s room owner at r T T' N N' step
+  if_stops k d n i = record { some = λ _. record { key = key; done = d; stops = λ y e. cc; goes = λ y e. absurd (ok_not e n) }; none = λ f. absurd (cc) }
 
-  pub if_goes : {keyed : Bool} {to : ℕ} → keyed ≡ true → KeyDone s room owner at r T T' N N' key → key.number ≡ 0 → Skipped s key.at to → KeyIf keyed s room owner at r T T' N N' (read_to to key.row)
-  if_goes k d e z = record { some = λ _. record { key = key; done = d; stops = λ n. absurd (n e); skipped = λ _. z; goes = λ _. refl }; none = λ f. absurd (true≢false (sym k ∙ f)) }
+  pub if_goes : {keyed : Bool} {x : Reached} {to : ℕ} → keyed ≡ true → KeyDone s room owner at r T T' N N' key → key ≡ Ok x → Skipped s x.at to → KeyIf keyed s room owner at r T T' N N' (read_to to x.row)
+  if_goes {keyed} {x} {to} k d e z = record { some = λ _. record { key = key; done = d; stops = λ y n. absurd (ok_not e n); goes = goes }; none = λ f. absurd (cc) }
+    where
+      same : {y : Reached} → key ≡ Ok y → x ≡ y
+      same i = cc
+
+      goes : (y : Reached) → key ≡ Ok y → Past s y (read_to to x.row)
+      goes y i = rw (← same i) (record { to = to; skipped = z; says = refl })
 
 pub if_none : {keyed : Bool} (s : List ℕ) (room owner at r : ℕ) (T N : List ℕ) → keyed ≡ false → KeyIf keyed s room owner at r T T N N (read_to at r)
-if_none s room owner at r T N k = record { some = λ f. absurd (true≢false (sym f ∙ k)); none = λ _. record { says = refl; table = refl; notes = refl } }
+if_none s room owner at r T N k = record { some = λ f. absurd (cc); none = λ _. record { says = refl; table = refl; notes = refl } }
 
 pub ruleset key_ifs = (key_in, if_stops, if_goes, if_none)
 

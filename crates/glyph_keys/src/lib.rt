@@ -8,20 +8,20 @@ ghost use Rattle.glyph_item.specs.Contract.{Did};
 ghost use Rattle.glyph_keys.specs.Contract.{name, Prepared, KeyDone, KeyIf};
 
 use glyph::Refusal;
-use item::Step;
+use glyph_item::Step;
+use item::Reached;
 
 // A unicode, where nothing else may stand.
+#[tactic(auto, unfolding(crate::specs::Contract::name))]
 pub fn read_name(s: &[u8], at: usize, row: usize, room: usize, table: &mut [u32]) -> Step
     requires { Fitting at row room (length s.now) (length table.old) }
     ensures { Did (name s.now room at row) (length s.now) room (at + 1) row table.old table.new result }
 {
-    if s.len() <= at {
-        return glyph_item::refuse(Refusal::Ended, at);
+    match s.get(at) {
+        None => item::refuse(Refusal::Ended, at),
+        Some(b'u') => glyph_texts::read_unicode(s, at, row, room, table),
+        Some(_) => item::refuse(Refusal::UnexpectedByte, at),
     }
-    if s[at] != b'u' {
-        return glyph_item::refuse(Refusal::UnexpectedByte, at);
-    }
-    glyph_texts::read_unicode(s, at, row, room, table)
 }
 
 // The key at `at`, for the dict whose first key has the row `owner`. One that came before in its dict is refused at its place.
@@ -37,14 +37,11 @@ pub fn read_key(
     requires { (0 < owner) × (owner ≤ row) × Prepared s.now at row room table.old notes.old }
     ensures { KeyDone s.now room owner at row table.old table.new notes.old notes.new result }
 {
-    let step = read_name(s, at, row, room, table);
-    if step.number != 0 {
-        return step;
-    }
+    let key = read_name(s, at, row, room, table)?;
     if keys::note(s, table, room, notes, owner, row) {
-        return glyph_item::refuse(Refusal::RepeatedKey, at);
+        return item::refuse(Refusal::RepeatedKey, at);
     }
-    step
+    Ok(key)
 }
 
 // The key and the blanks behind it, where things have keys; else nothing.
@@ -61,17 +58,13 @@ pub fn read_key_if(
     requires { (0 < owner) × (owner ≤ row) × Prepared s.now at row room table.old notes.old }
     ensures { KeyIf keyed s.now room owner at row table.old table.new notes.old notes.new result }
 {
-    if keyed {
-        let key = read_key(s, at, row, room, table, notes, owner);
-        if key.number != 0 {
-            return key;
-        }
-        let next = glyph_bytes::past_blanks(s, key.at);
-        return Step {
-            number: 0,
-            at: next,
-            row: key.row,
-        };
+    if !keyed {
+        return Ok(Reached { at, row });
     }
-    Step { number: 0, at, row }
+    let key = read_key(s, at, row, room, table, notes, owner)?;
+    let next = glyph_bytes::past_blanks(s, key.at);
+    Ok(Reached {
+        at: next,
+        row: key.row,
+    })
 }

@@ -8,14 +8,15 @@ use lib.ListN.{length, get_or}
 use borrow.Author.Tests.{eq-eqb, ne_eqb, lt-ltb, le-ltb}
 use Rattle.draft.specs.Rows.{row}
 use Rattle.draft.specs.Table.{set_row}
-use Rattle.item.specs.declared.Step.{Step}
-use Rattle.item.specs.Contract.{read_to}
+use Rattle.std.specs.Prelude.{Ok}
+use Rattle.item.specs.declared.Reached.{Reached}
+use Rattle.item.specs.Contract.{reached}
 use Rattle.glyph.specs.declared.Refusal.TheVariants.{Ended, UnexpectedByte}
 use Rattle.glyph.specs.declared.Leaf.{Leaf}
 use Rattle.glyph.specs.declared.Leaf.TheVariants.{Integer, Unicode, Bytes, True, False, Nil}
 use Rattle.glyph.specs.Read.{opened, single, integer, text, leaf_of}
 use Rattle.glyph_bytes.specs.Leafs.{leaf_by}
-use Rattle.glyph_item.specs.Contract.{refused_at, Did}
+use Rattle.glyph_item.specs.Contract.{Step, refused_at, Did}
 use Rattle.glyph_item.proofs.Readings.{done, did_no, leaf_got, opened_full, opened_on}
 use Rattle.glyph_integers.specs.Signs.{Slots}
 
@@ -29,9 +30,9 @@ module _ (s : List ℕ) (kind a at : ℕ) {room r : ℕ} {T T' : List ℕ} {step
   unfolding single
   single_wrong h n e = did_no UnexpectedByte e (simp (lt-ltb _ _ h, ne_eqb _ _ n))
 
-  pub single_got : {words : ℕ} → at + 1 < length s → get_or s (at + 1) 0 ≡ 59 → step ≡ read_to (at + 2) (r + 1) → T' ≡ set_row room T r (row kind a 0 (r + 1)) → Slots r room (length s) words → Did (single s kind a at r) (length s) room (at + 1) r T T' step
-  unfolding single
-  single_got h n e w z = done (simp (lt-ltb _ _ h, eq-eqb _ _ n)) (leaf_got e w (omega arith) (omega arith) z.left)
+pub single_got : (s : List ℕ) (kind a at : ℕ) {room r : ℕ} {T T' : List ℕ} {words : ℕ} {x : Reached} → at + 1 < length s → get_or s (at + 1) 0 ≡ 59 → x ≡ reached (at + 2) (r + 1) → T' ≡ set_row room T r (row kind a 0 (r + 1)) → Slots r room (length s) words → Did (single s kind a at r) (length s) room (at + 1) r T T' (Ok x)
+unfolding single
+single_got s kind a at h n e w z = done (simp (lt-ltb _ _ h, eq-eqb _ _ n)) (leaf_got e w (omega arith) (omega arith) z.left)
 
 -- by letter
 module _ (s : List ℕ) (at : ℕ) {l : Leaf} {room r : ℕ} {T T' : List ℕ} {step : Step} (h : r < room) where

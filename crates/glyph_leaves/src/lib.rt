@@ -10,9 +10,10 @@ ghost use Rattle.glyph_item.specs.Contract.{Did};
 ghost use Rattle.glyph_integers.specs.Signs.{Slots};
 
 use glyph::{Leaf, Refusal};
-use item::Step;
+use glyph_item::Step;
 
 // A letter and `;`.
+#[tactic(auto, unfolding(glyph::specs::Read::single))]
 fn read_single(
     s: &[u8],
     at: usize,
@@ -25,13 +26,11 @@ fn read_single(
     requires { (at < length s.now) × Slots row room (length s.now) (length table.old) }
     ensures { Did (single s.now kind a at row) (length s.now) room (at + 1) row table.old table.new result }
 {
-    if s.len() <= at + 1 {
-        return glyph_item::refuse(Refusal::Ended, at);
+    match s.get(at + 1) {
+        None => item::refuse(Refusal::Ended, at),
+        Some(b';') => Ok(item::put_leaf(row, at + 2, kind, a, 0, room, table)),
+        Some(_) => item::refuse(Refusal::UnexpectedByte, at),
     }
-    if s[at + 1] != b';' {
-        return glyph_item::refuse(Refusal::UnexpectedByte, at);
-    }
-    item::put_leaf(row, at + 2, kind, a, 0, room, table)
 }
 
 // The object at `at`, whose letter is this leaf's.
@@ -47,7 +46,7 @@ pub fn read_leaf(
     ensures { Did (opened room at row (leaf_of s.now leaf at row)) (length s.now) room (at + 1) row table.old table.new result }
 {
     if room <= row {
-        return glyph_item::refuse(Refusal::NoRow, at);
+        return item::refuse(Refusal::NoRow, at);
     }
     match leaf {
         Leaf::Integer => glyph_integers::read_integer(s, at, row, room, table),
@@ -61,12 +60,14 @@ pub fn read_leaf(
 
 // The object at `at`, by its letter, for the loop that reads the things of a list or a dict. It is called there alone, so that it is compiled
 // into it.
+// Stays: by the byte, beside `read_leaf`; tried and slower with the letter as an enum, a call and 35 instructions more for each integer (docs/SPEED.md).
+#[tactic(auto, unfolding(glyph_bytes::specs::Leafs::leaf_by))]
 pub fn read_in_run(s: &[u8], at: usize, row: usize, room: usize, table: &mut [u32]) -> Step
     requires { (at < length s.now) × Fitting at row room (length s.now) (length table.old) }
     ensures { Did (opened room at row (leaf_of s.now (leaf_by (get_or s.now at 0)) at row)) (length s.now) room (at + 1) row table.old table.new result }
 {
     if room <= row {
-        return glyph_item::refuse(Refusal::NoRow, at);
+        return item::refuse(Refusal::NoRow, at);
     }
     match s[at] {
         b'i' => glyph_integers::read_integer(s, at, row, room, table),

@@ -8,11 +8,13 @@ use lib.Dec.{eqb, ltb}
 use lib.ListN.{length, length-append, get_or}
 use borrow.Author.Tests.{eqb-true}
 use Rattle.table.proofs.Rows.{put_append}
-use Rattle.item.specs.declared.Step.{Step}
-use Rattle.item.specs.Contract.{Fitting}
+use Rattle.std.specs.Prelude.{Ok, Err}
+use Rattle.draft.specs.declared.Refused.{Refused}
+use Rattle.item.specs.declared.Reached.{Reached}
+use Rattle.item.specs.Contract.{Fitting, reached}
 use Rattle.keys.specs.Notes.{named}
 use Rattle.keys.proofs.Keeping.{keeps_then}
-use Rattle.member_keys.specs.Contract.{Joined}
+use Rattle.glyph.specs.declared.Refusal.{Refusal}
 use Rattle.glyph.specs.declared.Refusal.TheVariants.{Ended, UnexpectedByte}
 use Rattle.glyph.specs.declared.Edition.{Edition}
 use Rattle.glyph.specs.declared.Edition.TheVariants.{New, Old}
@@ -27,33 +29,29 @@ use Rattle.glyph.specs.Numbers.{past}
 use Rattle.glyph.specs.Read.{Reading, got, refused, Nest, behind, opened, text, leaf_of, next, entry, object, item}
 use Rattle.glyph_bytes.specs.Places.{Skipped}
 use Rattle.glyph_bytes.specs.Leafs.{leaf_by, LeafAt}
-use Rattle.glyph_item.specs.Contract.{answer, Leaves, Did}
-use Rattle.glyph_item.proofs.Readings.{Got, Not, did_next, did_not, did_no}
-use Rattle.glyph_keys.specs.Contract.{name, Prepared, Done, KeyDone, KeyIf}
+use Rattle.glyph_item.specs.Contract.{Step, answer, Leaves, Did}
+use Rattle.glyph_item.proofs.Readings.{Got, did_next, did_not, did_no, ok_not}
+use Rattle.glyph_keys.specs.Contract.{name, Joined, Prepared, Done, KeyDone, KeyIf}
 use Rattle.glyph_keys.proofs.Ones.{name_one}
-use Rattle.glyph_keys.proofs.Keying.{named_kept}
-use Rattle.glyph_objects.specs.Contract.{is_name, Went, Nexted, EntryDone}
+use Rattle.glyph_keys.proofs.Keying.{named_kept, joined_not}
+use Rattle.glyph_objects.specs.Contract.{Nexted, EntryDone}
 use Rattle.glyph_objects.proofs.Objects.{after_not, one_after, object_leaf}
 
 -- what an accepted call leaves for the next
-pub done_ready : {s : List ℕ} {at₀ r₀ : ℕ} {o : Reading} {room from r : ℕ} {T T' N N' : List ℕ} {step : Step} → Prepared s at₀ r₀ room T N → Done o s room from r T T' N N' step → length T' ≡ length T → length N' ≡ length N → Went s step room T' N'
-done_ready p d t n =
+pub done_ready : {s : List ℕ} {at₀ r₀ : ℕ} {o : Reading} {room from r : ℕ} {T T' N N' : List ℕ} {step : Step} {x : Reached} → Prepared s at₀ r₀ room T N → Done o s room from r T T' N N' step → step ≡ Ok x → length T' ≡ length T → length N' ≡ length N → Prepared s x.at x.row room T' N'
+done_ready {x = x} p d e t n =
+    let g = did_next d.did e in
+    let f = p.fitting in
+    let z = p.entries in
     record {
-      ready = λ e.
-          let g = did_next d.did e in
-          let f = p.fitting in
-          let x = p.entries in
-          record {
-            fitting = record { within = g.within; fits = g.fits; rows = f.rows; table = rw t f.table; message = f.message };
-            entries = record { behind = d.after.behind e; enough = rw n x.enough; most = rw n x.most };
-            noted = (d.after.keeps e).noted;
-          };
+      fitting = record { within = g.within; fits = g.fits; rows = f.rows; table = rw t f.table; message = f.message };
+      entries = record { behind = d.after.behind x e; enough = rw n z.enough; most = rw n z.most };
+      noted = (d.after.keeps x e).noted;
     }
 
 -- blanks before an object
-pub past_ready : {s : List ℕ} {before : Step} {room to : ℕ} {T N : List ℕ} → Went s before room T N → before.number ≡ 0 → Skipped s before.at to → Prepared s to before.row room T N
-past_ready w e z =
-    let p = w.ready e in
+pub past_ready : {s : List ℕ} {at r room to : ℕ} {T N : List ℕ} → Prepared s at r room T N → Skipped s at to → Prepared s to r room T N
+past_ready p z =
     let f = p.fitting in
     let x = p.entries in
     record {
@@ -62,8 +60,11 @@ past_ready w e z =
       noted = p.noted;
     }
 
-pub went_in : {s : List ℕ} {before : Step} {room : ℕ} {T N : List ℕ} → Went s before room T N → before.number ≡ 0 → before.at ≤ length s
-went_in w e = (w.ready e).fitting.within
+pub ready_in : {s : List ℕ} {at r room : ℕ} {T N : List ℕ} → Prepared s at r room T N → at ≤ length s
+ready_in p = p.fitting.within
+
+pub ready_fits : {s : List ℕ} {at r room : ℕ} {T N : List ℕ} → Prepared s at r room T N → Fitting at r room (length s) (length T)
+ready_fits p = p.fitting
 
 further : {o : Reading} {bytes room from to r : ℕ} {T T' : List ℕ} {step : Step} → Did o bytes room from r T T' step → to ≤ from → Did o bytes room to r T T' step
 further {o} {bytes} {room} {from} {to} {r} {T} {T'} {step} d h = record { says = d.says; leaves = go o d.leaves }
@@ -72,22 +73,17 @@ further {o} {bytes} {room} {from} {to} {r} {T} {T'} {step} d h = record { says =
     go (refused m p) l = tt
     go (got rows at) l = record { wrote = l.wrote; ahead = omega (arith, l.ahead); within = l.within; fits = l.fits }
 
-pub next_stops : {s : List ℕ} {room : ℕ} {e : Edition} {deep : ℕ} {want : Want} {before : Step} {T T' N N' : List ℕ} → (before.number ≡ 0 → ⊥) → Nexted s room e deep want before T T' N N' before
-next_stops n = record { stops = λ _. refl; goes = λ e. absurd (n e) }
-
-pub next_goes : {s : List ℕ} {room : ℕ} {e : Edition} {deep : ℕ} {want : Want} {before : Step} {T T' N N' : List ℕ} {to : ℕ} {step : Step} → before.number ≡ 0 → Skipped s before.at to → Done (object s room e deep want to before.row) s room (to + 1) before.row T T' N N' step → Nexted s room e deep want before T T' N N' step
-next_goes {s} {room} {e} {deep} {want} {before} {T} {T'} {N} {N'} {to} {step} z k d =
-    record {
-      stops = λ n. absurd (n z);
-      goes = λ _. let x : Done (object s room e deep want to before.row) s room (before.at + 1) before.row T T' N N' step = record { did = further d.did (omega (arith, k.ahead)); after = d.after } in rw k.is at x;
-    }
+pub next_goes : {s : List ℕ} {room : ℕ} {e : Edition} {deep : ℕ} {want : Want} {before : Reached} {T T' N N' : List ℕ} {to : ℕ} {step : Step} → Skipped s before.at to → Done (object s room e deep want to before.row) s room (to + 1) before.row T T' N N' step → Nexted s room e deep want before T T' N N' step
+next_goes {s} {room} {e} {deep} {want} {before} {T} {T'} {N} {N'} {to} {step} k d =
+    let x : Done (object s room e deep want to before.row) s room (before.at + 1) before.row T T' N N' step = record { did = further d.did (omega (arith, k.ahead)); after = d.after } in
+    record { done = rw k.is at x }
 
 -- the rows of what stands before, and those of an object behind it
-module _ {s : List ℕ} {o : Reading} {room : ℕ} {e : Edition} {deep : ℕ} {want : Want} {from r : ℕ} {T T₁ T₂ N₁ N₂ : List ℕ} {before step : Step} (d : Did o (length s) room from r T T₁ before) (n : Nexted s room e deep want before T₁ T₂ N₁ N₂ step) where
-  join : (g : Got o (length s) room from r T T₁ before) → Did (object s room e deep want (past s before.at) (r + length g.rows)) (length s) room (before.at + 1) (r + length g.rows) T₁ T₂ step → Did (next s o r (object s room e deep want)) (length s) room from r T T₂ step
-  join g k = rw g.reading (go (object s room e deep want (past s before.at) (r + length g.rows)) k.says k.leaves)
+module _ {s : List ℕ} {o : Reading} {room : ℕ} {e : Edition} {deep : ℕ} {want : Want} {from r : ℕ} {T T₁ T₂ N₁ N₂ : List ℕ} {x : Reached} {before step : Step} (d : Did o (length s) room from r T T₁ before) (i : before ≡ Ok x) (n : Nexted s room e deep want x T₁ T₂ N₁ N₂ step) where
+  join : (g : Got o (length s) room from r T T₁ x) → Did (object s room e deep want (past s x.at) (r + length g.rows)) (length s) room (x.at + 1) (r + length g.rows) T₁ T₂ step → Did (next s o r (object s room e deep want)) (length s) room from r T T₂ step
+  join g k = rw g.reading (go (object s room e deep want (past s x.at) (r + length g.rows)) k.says k.leaves)
     where
-      go : (x : Reading) → step ≡ answer (r + length g.rows) x → Leaves x (length s) room (before.at + 1) (r + length g.rows) T₁ T₂ → Did (behind g.rows x) (length s) room from r T T₂ step
+      go : (y : Reading) → step ≡ answer (r + length g.rows) y → Leaves y (length s) room (x.at + 1) (r + length g.rows) T₁ T₂ → Did (behind g.rows y) (length s) room from r T T₂ step
       go (refused m q) y l = record { says = y; leaves = tt }
       go (got rows to) y l =
           let w : length (g.rows ++ rows) ≡ length g.rows + length rows = length-append g.rows rows in
@@ -97,35 +93,16 @@ module _ {s : List ℕ} {o : Reading} {room : ℕ} {e : Edition} {deep : ℕ} {w
             leaves = record { wrote = l.wrote ∙ rw g.wrote (put_append room T r g.rows rows l.fits); ahead = omega (arith, g.ahead, l.ahead); within = l.within; fits = rw m l.fits };
           }
 
-  stop : Not o step → {T' : List ℕ} → Did (next s o r (object s room e deep want)) (length s) room from r T T' step
-  stop z = did_no z.why z.says (rw z.reading)
-
-  by_number : (k : ℕ) → before.number ≡ k → Did (next s o r (object s room e deep want)) (length s) room from r T T₂ step
-  by_number zero i = let g = did_next d i in join g (rw g.next at (n.goes i).did)
-  by_number (suc k) i = let q : before.number ≡ 0 → ⊥ = (λ j. omega arith) in stop (rw (n.stops q) (did_not d q))
-
-  pub next_did : Did (next s o r (object s room e deep want)) (length s) room from r T T₂ step
-  next_did = by_number before.number refl
+  next_did : Did (next s o r (object s room e deep want)) (length s) room from r T T₂ step
+  next_did = let g = did_next d i in join g (rw g.next at n.done.did)
 
 -- and the notes
-number_of : {step before : Step} → step ≡ before → (before.number ≡ 0 → ⊥) → step.number ≡ 0 → ⊥
-number_of e n z = n (sym (ap (λ (x : Step). x.number) e) ∙ z)
-
-decide : (before : Step) {A : Type 0} → (before.number ≡ 0 → A) → ((before.number ≡ 0 → ⊥) → A) → A
-decide before {A} f g = go before.number refl
-  where
-    go : (k : ℕ) → before.number ≡ k → A
-    go zero i = f i
-    go (suc k) i = g (λ j. omega arith)
-
-pub next_done : {s : List ℕ} {o : Reading} {room : ℕ} {e : Edition} {deep : ℕ} {want : Want} {from r : ℕ} {T T₁ T₂ N N₁ N₂ : List ℕ} {before step : Step} → Done o s room from r T T₁ N N₁ before → Nexted s room e deep want before T₁ T₂ N₁ N₂ step → Done (next s o r (object s room e deep want)) s room from r T T₂ N N₂ step
-next_done {before = before} d n =
+pub next_done : {s : List ℕ} {o : Reading} {room : ℕ} {e : Edition} {deep : ℕ} {want : Want} {from r : ℕ} {T T₁ T₂ N N₁ N₂ : List ℕ} {x : Reached} {before step : Step} → Done o s room from r T T₁ N N₁ before → before ≡ Ok x → Nexted s room e deep want x T₁ T₂ N₁ N₂ step → Done (next s o r (object s room e deep want)) s room from r T T₂ N N₂ step
+next_done {x = x} d i n =
+    let g = did_next d.did i in
     record {
-      did = next_did d.did n;
-      after = decide before
-          (λ z. let a = (n.goes z).after in let g = did_next d.did z in
-          record { keeps = λ e. keeps_then (d.after.keeps z) (omega (arith, g.next)) (a.keeps e); behind = a.behind })
-          (λ z. after_not (number_of (n.stops z) z));
+      did = next_did d.did i n;
+      after = record { keeps = λ y z. keeps_then (d.after.keeps x i) (omega (arith, g.next)) (n.done.after.keeps y z); behind = n.done.after.behind };
     }
 
 -- a key is read alike by any edition, at any depth
@@ -183,67 +160,63 @@ object_name s room e zero at r = ap (λ (x : Reading). cond (ltb at (length s)) 
 object_name s room e (suc d) at r = ap (λ (x : Reading). cond (ltb at (length s)) x (refused Ended at)) (item_name s room e _ at r)
 
 -- a name, where nothing else may stand
-name_wanted : (want : Want) → is_name want ≡ true → want ≡ Name
-name_wanted Any i = absurd (true≢false (sym i))
-name_wanted Name i = refl
-name_wanted EitherDict i = absurd (true≢false (sym i))
-
-pub next_name : {s : List ℕ} {room : ℕ} (e : Edition) (deep : ℕ) (want : Want) {b : Bool} {before : Step} {T T' N : List ℕ} {to : ℕ} {step : Step} → before.number ≡ 0 → Skipped s before.at to → b ≡ is_name want → b ≡ true → Did (name s room to before.row) (length s) room (to + 1) before.row T T' step → Prepared s to before.row room T N → Nexted s room e deep want before T T' N N step
-next_name {s} {room} e deep want {before = before} {to = to} z k i j d p =
-    let w = name_wanted want (sym i ∙ j) in
-    rw w (next_goes z k (record { did = rw (← object_name s room e deep to before.row) at d; after = one_after s to (name_one s room to before.row) d p }))
-
-pub name_fits : {s : List ℕ} {before : Step} {room to : ℕ} {T N : List ℕ} → Went s before room T N → before.number ≡ 0 → Skipped s before.at to → Fitting to before.row room (length s) (length T)
-name_fits w e z = (past_ready w e z).fitting
+pub next_name : {s : List ℕ} {room : ℕ} (e : Edition) (deep : ℕ) (want : Want) {before : Reached} {T T' N : List ℕ} {to : ℕ} {step : Step} → Skipped s before.at to → want ≡ Name → Did (name s room to before.row) (length s) room (to + 1) before.row T T' step → Prepared s to before.row room T N → Nexted s room e deep want before T T' N N step
+next_name {s} {room} e deep want {before = before} {to = to} k w d p =
+    rw w (next_goes k (record { did = rw (← object_name s room e deep to before.row) at d; after = one_after s to (name_one s room to before.row) d p }))
 
 -- what a key leaves for its value
-pub key_ready : {s : List ℕ} {room owner at r : ℕ} {T T₁ N N₁ : List ℕ} {key : Step} → Prepared s at r room T N → KeyDone s room owner at r T T₁ N N₁ key → length T₁ ≡ length T → length N₁ ≡ length N → Went s key room T₁ N₁
-key_ready p k t n =
+key_ready : {s : List ℕ} {room owner at r : ℕ} {T T₁ N N₁ : List ℕ} {key : Step} {x : Reached} → Prepared s at r room T N → KeyDone s room owner at r T T₁ N N₁ key → key ≡ Ok x → length T₁ ≡ length T → length N₁ ≡ length N → Prepared s x.at x.row room T₁ N₁
+key_ready {x = x} p k e t n =
+    let g = did_next k.did e in
+    let f = p.fitting in
+    let z = p.entries in
     record {
-      ready = λ e.
-          let g = did_next k.did e in
-          let f = p.fitting in
-          let x = p.entries in
-          record {
-            fitting = record { within = g.within; fits = g.fits; rows = f.rows; table = rw t f.table; message = f.message };
-            entries = record { behind = k.joined.behind e; enough = rw n x.enough; most = rw n x.most };
-            noted = (k.joined.joins e).noted;
-          };
+      fitting = record { within = g.within; fits = g.fits; rows = f.rows; table = rw t f.table; message = f.message };
+      entries = record { behind = k.joined.behind x e; enough = rw n z.enough; most = rw n z.most };
+      noted = (k.joined.joins x e).noted;
     }
 
 -- a key and its value: the key is noted, and the keys of others stay what they were
-module _ {s : List ℕ} {room owner at r : ℕ} {e : Edition} {deep : ℕ} {T T₁ T₂ N N₁ N₂ : List ℕ} {key step : Step} (k : KeyDone s room owner at r T T₁ N N₁ key) (n : Nexted s room e deep Any key T₁ T₂ N₁ N₂ step) where
-  pair_joined : 0 < owner → owner ≤ r → key.number ≡ 0 → Joined (named s room T) (named s room T₂) N N₂ owner r step
-  pair_joined p q z =
-      let x = k.joined.joins z in
-      let v = n.goes z in
+module _ {s : List ℕ} {room owner at r : ℕ} {e : Edition} {deep : ℕ} {T T₁ N N₁ : List ℕ} {key : Step} (k : KeyDone s room owner at r T T₁ N N₁ key) where
+  entry_refused : {x : Refused Refusal} {T₂ N₂ : List ℕ} {step : Step} → key ≡ Err x → step ≡ Err x → EntryDone true s room e deep owner at r T T₂ N N₂ step
+  unfolding entry
+  entry_refused {x} z i =
       record {
-        joins = λ i.
-            let y = v.after.keeps i in
-            let g = did_next v.did i in
-            record {
-              on = omega (arith, x.on, g.next);
-              noted = y.noted;
-              owners = λ j l. y.owners j (omega (arith, x.on)) ∙ x.owners j l;
-              mine = y.keys owner p (omega (arith, x.on)) ∙ x.mine ∙ rw (named_kept s g r x.on);
-              others = λ o h l m. y.keys o h (omega (arith, x.on)) ∙ x.others o h l m;
-            };
-        behind = v.after.behind;
+        did = did_no x.refusal i (ap (λ (y : Reading). next s y r (object s room e deep Any)) (did_not (rw (← object_name s room e deep at r) at k.did) z));
+        joined = λ _. joined_not i;
+        after = λ j. absurd (true≢false j);
       }
 
-  pub entry_keyed : {keyed : Bool} → keyed ≡ true → 0 < owner → owner ≤ r → EntryDone keyed s room e deep owner at r T T₂ N N₂ step
-  unfolding entry
-  entry_keyed i p q =
-      rw i
-      (record {
-        did = next_did (rw (← object_name s room e deep at r) at k.did) n;
-        joined = λ _. decide key (pair_joined p q) (λ z. record { joins = λ j. absurd (number_of (n.stops z) z j); behind = λ j. absurd (number_of (n.stops z) z j) });
-        after = λ j. absurd (true≢false j);
-      })
+  module _ {T₂ N₂ : List ℕ} {x : Reached} {step : Step} (z : key ≡ Ok x) (n : Nexted s room e deep Any x T₁ T₂ N₁ N₂ step) where
+    pair_joined : 0 < owner → owner ≤ r → Joined (named s room T) (named s room T₂) N N₂ owner r step
+    pair_joined p q =
+        let h = k.joined.joins x z in
+        record {
+          joins = λ j i.
+              let y = n.done.after.keeps j i in
+              let g = did_next n.done.did i in
+              record {
+                on = omega (arith, h.on, g.next);
+                noted = y.noted;
+                owners = λ o l. y.owners o (omega (arith, h.on)) ∙ h.owners o l;
+                mine = y.keys owner p (omega (arith, h.on)) ∙ h.mine ∙ rw (named_kept s g r h.on);
+                others = λ o u l m. y.keys o u (omega (arith, h.on)) ∙ h.others o u l m;
+              };
+          behind = n.done.after.behind;
+        }
 
-pub entry_plain : {keyed : Bool} {s : List ℕ} {room owner at r : ℕ} {e : Edition} {deep : ℕ} {T T' N N' : List ℕ} {step : Step} → keyed ≡ false → Done (object s room e deep Any at r) s room (at + 1) r T T' N N' step → EntryDone keyed s room e deep owner at r T T' N N' step
+    entry_keyed : 0 < owner → owner ≤ r → EntryDone true s room e deep owner at r T T₂ N N₂ step
+    unfolding entry
+    entry_keyed p q =
+        record {
+          did = next_did (rw (← object_name s room e deep at r) at k.did) z n;
+          joined = λ _. pair_joined p q;
+          after = λ j. absurd (true≢false j);
+        }
+
+entry_plain : {s : List ℕ} {room owner at r : ℕ} {e : Edition} {deep : ℕ} {T T' N N' : List ℕ} {step : Step} → Done (object s room e deep Any at r) s room (at + 1) r T T' N N' step → EntryDone false s room e deep owner at r T T' N N' step
 unfolding entry
-entry_plain i d = rw i (record { did = d.did; joined = λ j. absurd (true≢false (sym j)); after = λ _. d.after })
+entry_plain d = record { did = d.did; joined = λ j. absurd (true≢false (sym j)); after = λ _. d.after }
 
 -- an object without children, where any may stand
 pub thing_leaf : (s : List ℕ) (e : Edition) (deep at : ℕ) {room r : ℕ} {T T' N : List ℕ} {step : Step} {b : Bool} → LeafAt s at b → b ≡ true → Did (opened room at r (leaf_of s (leaf_by (get_or s at 0)) at r)) (length s) room (at + 1) r T T' step → Prepared s at r room T N → Done (object s room e deep Any at r) s room (at + 1) r T T' N N step
@@ -253,48 +226,54 @@ pub leaf_in : {s : List ℕ} {at : ℕ} {b : Bool} → LeafAt s at b → b ≡ t
 leaf_in l t = l.there t
 
 -- what stands before an object, a key or nothing
-key_none : {key step : Step} → ((key.number ≡ 0 → ⊥) → step ≡ key) → step.number ≡ 0 → key.number ≡ 0
-key_none {key} h z = decide key (λ e. e) (λ n. absurd (n (sym (ap (λ (x : Step). x.number) (h n)) ∙ z)))
+decide : (c : Step) {A : Type 0} → ((x : Reached) → c ≡ Ok x → A) → ((x : Refused Refusal) → c ≡ Err x → A) → A
+decide (Ok x) f g = f x refl
+decide (Err x) f g = g x refl
 
-pub if_ready : {keyed : Bool} {s : List ℕ} {room owner at r : ℕ} {T T₁ N N₁ : List ℕ} {step : Step} → Prepared s at r room T N → KeyIf keyed s room owner at r T T₁ N N₁ step → step.number ≡ 0 → length T₁ ≡ length T → length N₁ ≡ length N → Prepared s step.at step.row room T₁ N₁
-if_ready {keyed} {s} {room} {owner} {at} {r} {T} {T₁} {N} {N₁} {step} p k z t n = go keyed k
-  where
-    go : (b : Bool) → KeyIf b s room owner at r T T₁ N N₁ step → Prepared s step.at step.row room T₁ N₁
-    go true k =
-        let x = k.some refl in
-        let e = key_none x.stops z in
-        let q : step.row ≡ x.key.row = ap (λ (y : Step). y.row) (x.goes e) in
-        rw q (past_ready (key_ready p x.done t n) e (x.skipped e))
-    go false k =
-        let x = k.none refl in
-        let a : step.at ≡ at = ap (λ (y : Step). y.at) x.says in
-        let q : step.row ≡ r = ap (λ (y : Step). y.row) x.says in
-        rw (a, q, x.table, x.notes) p
+if_reached : {x : Reached} {a b : ℕ} {step : Step} → step ≡ Ok x → step ≡ Ok (reached a b) → reached a b ≡ x
+if_reached e f = cc
 
-module _ {keyed : Bool} {s : List ℕ} {room owner at r : ℕ} (e : Edition) (deep : ℕ) {T T₁ N N₁ : List ℕ} {before : Step} (k : KeyIf keyed s room owner at r T T₁ N N₁ before) (h : 0 < owner) (l : owner ≤ r) where
-  pub entry_stops : (before.number ≡ 0 → ⊥) → EntryDone keyed s room e deep owner at r T T₁ N N₁ before
-  entry_stops n = go keyed k
+module _ {s : List ℕ} {room owner at r : ℕ} {T T₁ N N₁ : List ℕ} {step : Step} where
+  pub if_ready : {keyed : Bool} {x : Reached} → Prepared s at r room T N → KeyIf keyed s room owner at r T T₁ N N₁ step → step ≡ Ok x → length T₁ ≡ length T → length N₁ ≡ length N → Prepared s x.at x.row room T₁ N₁
+  if_ready {keyed} {x} p k z t n = go keyed k
     where
-      go : (b : Bool) → KeyIf b s room owner at r T T₁ N N₁ before → EntryDone b s room e deep owner at r T T₁ N N₁ before
+      go : (b : Bool) → KeyIf b s room owner at r T T₁ N N₁ step → Prepared s x.at x.row room T₁ N₁
       go true k =
-          let x = k.some refl in
-          let m : x.key.number ≡ 0 → ⊥ = λ i. n (ap (λ (y : Step). y.number) (x.goes i)) in
-          entry_keyed x.done (record { stops = x.stops; goes = λ i. absurd (m i) }) refl h l
-      go false k = absurd (n (ap (λ (y : Step). y.number) (k.none refl).says))
-
-  pub entry_goes : {T₂ N₂ : List ℕ} {step : Step} → before.number ≡ 0 → Done (object s room e deep Any before.at before.row) s room (before.at + 1) before.row T₁ T₂ N₁ N₂ step → EntryDone keyed s room e deep owner at r T T₂ N N₂ step
-  entry_goes {T₂} {N₂} {step} z d = go keyed k
-    where
-      go : (b : Bool) → KeyIf b s room owner at r T T₁ N N₁ before → EntryDone b s room e deep owner at r T T₂ N N₂ step
-      go true k =
-          let x = k.some refl in
-          let i = key_none x.stops z in
-          let q : before.row ≡ x.key.row = ap (λ (y : Step). y.row) (x.goes i) in
-          entry_keyed x.done (next_goes i (x.skipped i) (rw q at d)) refl h l
+          let y = k.some refl in
+          decide y.key
+          (λ v e.
+          let q = y.goes v e in
+          rw (← if_reached z q.says) (past_ready (key_ready p y.done e t n) q.skipped))
+          (λ v e. absurd (ok_not z (y.stops v e)))
       go false k =
-          let x = k.none refl in
-          let a : before.at ≡ at = ap (λ (y : Step). y.at) x.says in
-          let q : before.row ≡ r = ap (λ (y : Step). y.row) x.says in
-          entry_plain refl (rw (a, q, x.table, x.notes) at d)
+          let y = k.none refl in
+          rw (← if_reached z y.says, y.table, y.notes) p
 
-pub ruleset entering = (done_ready, past_ready, went_in, next_stops, next_goes, next_name, name_fits, next_done, thing_leaf, leaf_in, if_ready, entry_stops, entry_goes)
+  module _ {keyed : Bool} (e : Edition) (deep : ℕ) (k : KeyIf keyed s room owner at r T T₁ N N₁ step) (h : 0 < owner) (l : owner ≤ r) where
+    pub entry_stops : {x : Refused Refusal} {T₂ N₂ : List ℕ} {answer : Step} → step ≡ Err x → answer ≡ Err x → EntryDone keyed s room e deep owner at r T T₂ N N₂ answer
+    entry_stops {x} {T₂} {N₂} {answer} n i = go keyed k
+      where
+        go : (b : Bool) → KeyIf b s room owner at r T T₁ N N₁ step → EntryDone b s room e deep owner at r T T₂ N N₂ answer
+        go true k =
+            let y = k.some refl in
+            decide y.key
+            (λ v e. absurd (ok_not (y.goes v e).says n))
+            (λ v e. entry_refused y.done e (i ∙ sym n ∙ y.stops v e))
+        go false k = absurd (ok_not (k.none refl).says n)
+
+    pub entry_goes : {x : Reached} {T₂ N₂ : List ℕ} {answer : Step} → step ≡ Ok x → Done (object s room e deep Any x.at x.row) s room (x.at + 1) x.row T₁ T₂ N₁ N₂ answer → EntryDone keyed s room e deep owner at r T T₂ N N₂ answer
+    entry_goes {x} {T₂} {N₂} {answer} z d = go keyed k
+      where
+        go : (b : Bool) → KeyIf b s room owner at r T T₁ N N₁ step → EntryDone b s room e deep owner at r T T₂ N N₂ answer
+        go true k =
+            let y = k.some refl in
+            decide y.key
+            (λ v w.
+            let q = y.goes v w in
+            entry_keyed y.done w (next_goes q.skipped (rw (← if_reached z q.says) at d)) h l)
+            (λ v w. absurd (ok_not z (y.stops v w)))
+        go false k =
+            let y = k.none refl in
+            entry_plain (rw (← if_reached z y.says, y.table, y.notes) at d)
+
+pub ruleset entering = (done_ready, past_ready, ready_in, ready_fits, next_goes, next_name, next_done, thing_leaf, leaf_in, if_ready, entry_stops, entry_goes)

@@ -1,5 +1,5 @@
 -- What answers each return of the function that reads an object, by its letter. Assumes nothing.
-use mathlib.Core.Path.{◌≡◌, refl, sym, ap, ◌∙◌}
+use mathlib.Core.Path.{◌≡◌, refl, ◌∙◌}
 use mathlib.Core.List.{List}
 use Prim.Native.Nat.{ℕ, zero, suc, ◌+◌, ◌-◌, ◌≤◌, ◌<◌}
 use native.Mathlib.Omega.{arith}
@@ -7,10 +7,11 @@ use native.Mathlib.Numerals.{sub-one}
 use lib.ListN.{length, get_or}
 use borrow.Author.Tests.{lt-ltb, le-ltb}
 use Rattle.draft.specs.Strings.{Text}
-use Rattle.item.specs.declared.Step.{Step}
+use Rattle.std.specs.Prelude.{Ok, Err}
+use Rattle.draft.specs.declared.Refused.{Refused}
+use Rattle.item.specs.declared.Reached.{Reached}
 use Rattle.keys.specs.Notes.{named}
 use Rattle.keys.proofs.Keeping.{key_below, keeps_none}
-use Rattle.member_keys.specs.Contract.{After}
 use Rattle.glyph.specs.declared.Refusal.{Refusal}
 use Rattle.glyph.specs.declared.Refusal.TheVariants.{Ended, UnexpectedByte, TooDeep, NoRow}
 use Rattle.glyph.specs.declared.Edition.{Edition}
@@ -22,22 +23,19 @@ use Rattle.glyph.specs.declared.Letter.{Letter}
 use Rattle.glyph.specs.declared.Letter.TheVariants.{Leaf, Many, Three, Unknown}
 use Rattle.glyph.specs.Letters.{letter_of, wanted}
 use Rattle.glyph.specs.Read.{Reading, refused, Nest, floor, under, opened, leaf_of, many, three, item, object}
-use Rattle.glyph_item.specs.Contract.{refused_at, Did}
-use Rattle.glyph_item.proofs.Readings.{did_next, done, did_no, number_some}
-use Rattle.glyph_keys.specs.Contract.{Prepared, Done}
+use Rattle.glyph_item.specs.Contract.{Step, refused_at, Did}
+use Rattle.glyph_item.proofs.Readings.{did_next, done, did_no, ok_not}
+use Rattle.glyph_keys.specs.Contract.{After, Prepared, Done}
 use Rattle.glyph_keys.proofs.Ones.{One, opened_one}
 use Rattle.glyph_keys.proofs.Keying.{named_kept}
 use Rattle.glyph_objects.specs.Contract.{Begun}
 
 -- nothing is kept of what was refused
-pub after_not : {t t' : ℕ → Text} {N N' : List ℕ} {first : ℕ} {step : Step} → (step.number ≡ 0 → ⊥) → After t t' N N' first step
-after_not n = record { keeps = λ e. absurd (n e); behind = λ e. absurd (n e) }
-
-pub refusal_some : (m : Refusal) {p : ℕ} {step : Step} → step ≡ refused_at m p → step.number ≡ 0 → ⊥
-refusal_some m e z = number_some m (sym (ap (λ (x : Step). x.number) e) ∙ z)
+pub after_not : {t t' : ℕ → Text} {N N' : List ℕ} {first : ℕ} {step : Step} {x : Refused Refusal} → step ≡ Err x → After t t' N N' first step
+after_not n = record { keeps = λ _ e. absurd (ok_not e n); behind = λ _ e. absurd (ok_not e n) }
 
 pub done_no : (m : Refusal) {o : Reading} {s : List ℕ} {room from r p : ℕ} {T T' N N' : List ℕ} {step : Step} → step ≡ refused_at m p → o ≡ refused m p → Done o s room from r T T' N N' step
-done_no m e i = record { did = did_no m e i; after = after_not (refusal_some m e) }
+done_no m e i = record { did = did_no m e i; after = after_not e }
 
 pub done_by : {o o' : Reading} {s : List ℕ} {room from r : ℕ} {T T' N N' : List ℕ} {step : Step} → o ≡ o' → Done o' s room from r T T' N N' step → Done o s room from r T T' N N' step
 done_by e d = rw e d
@@ -66,8 +64,8 @@ nest_less s room e (suc d) n = rw sub-one
 pub one_after : (s : List ℕ) (at : ℕ) {o : Reading} {room r : ℕ} {T T' N : List ℕ} {step : Step} → One o → Did o (length s) room (at + 1) r T T' step → Prepared s at r room T N → After (named s room T) (named s room T') N N r step
 one_after s at x d p =
     record {
-      keeps = λ e. let g = did_next d e in keeps_none p.noted (λ k h. named_kept s g k (key_below p.noted k h)) _ (omega (arith, g.next));
-      behind = λ e. let g = did_next d e in omega (arith, g.next, g.ahead, x.row g.reading, p.entries.behind);
+      keeps = λ _ e. let g = did_next d e in keeps_none p.noted (λ k h. named_kept s g k (key_below p.noted k h)) _ (omega (arith, g.next));
+      behind = λ _ e. let g = did_next d e in omega (arith, g.next, g.ahead, x.row g.reading, p.entries.behind);
     }
 
 module _ (s : List ℕ) (e : Edition) (d : ℕ) (want : Want) (at : ℕ) {room r : ℕ} {T T' N N' : List ℕ} {step : Step} where

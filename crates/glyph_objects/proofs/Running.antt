@@ -16,11 +16,12 @@ use Rattle.draft.specs.Strings.{Text}
 use Rattle.draft.specs.Table.{set_row, put_rows}
 use Rattle.table.proofs.Rows.{put_append, length_put_rows}
 use Rattle.table.proofs.Stored.{row_other}
-use Rattle.item.specs.declared.Step.{Step}
+use Rattle.std.specs.Prelude.{Ok, Err}
+use Rattle.draft.specs.declared.Refused.{Refused}
+use Rattle.item.specs.declared.Reached.{Reached}
 use Rattle.item.specs.Contract.{read_to}
 use Rattle.keys.specs.Notes.{owner_of, named, keys_of, Noted, Keeps}
 use Rattle.keys.proofs.Keeping.{keys_first, key_below, noted_move, keeps_none, keeps_then, keeps_moved}
-use Rattle.member_keys.specs.Contract.{After, Joined}
 use Rattle.glyph.specs.declared.Refusal.{Refusal}
 use Rattle.glyph.specs.declared.Edition.{Edition}
 use Rattle.glyph.specs.declared.Want.{Want}
@@ -29,9 +30,9 @@ use Rattle.glyph.specs.Letters.{many_kind, keyed_by}
 use Rattle.glyph.specs.Numbers.{past}
 use Rattle.glyph.specs.Read.{got, refused, Reader, Texts, run, entry, kept, many, object}
 use Rattle.glyph_bytes.specs.Places.{Skipped, Open}
-use Rattle.glyph_item.specs.Contract.{Did}
-use Rattle.glyph_item.proofs.Readings.{Got, did_next, did_not, done, did_no}
-use Rattle.glyph_keys.specs.Contract.{Prepared, Done}
+use Rattle.glyph_item.specs.Contract.{Step, Did}
+use Rattle.glyph_item.proofs.Readings.{Got, did_next, did_not, done, did_no, ok_is}
+use Rattle.glyph_keys.specs.Contract.{After, Joined, Prepared, Done}
 use Rattle.glyph_keys.proofs.Keying.{first_is}
 use Rattle.glyph_objects.specs.Contract.{Begun, EntryDone}
 use Rattle.glyph_objects.proofs.Objects.{after_not}
@@ -95,29 +96,29 @@ going_first e deep l at {s} {room} {own} {here} {T} {N} b p z =
     }
 
 -- what a thing does to the notes: behind a key that is noted, or none
-thing_keeps : (b : Bool) {t₀ t t' : ℕ → Text} {N₀ N N' : List ℕ} {owner free : ℕ} {step : Step} → owner ≤ free → free ≤ step.row → Keeps t₀ t N₀ N owner free → (b ≡ true → Joined t t' N N' owner free step) → (b ≡ false → After t t' N N' free step) → step.number ≡ 0 → Keeps t₀ t' N₀ N' owner step.row
-thing_keeps true h m k j a z =
-    let x = (j refl).joins z in
+thing_keeps : (b : Bool) {t₀ t t' : ℕ → Text} {N₀ N N' : List ℕ} {owner free : ℕ} {step : Step} {x : Reached} → owner ≤ free → free ≤ x.row → Keeps t₀ t N₀ N owner free → (b ≡ true → Joined t t' N N' owner free step) → (b ≡ false → After t t' N N' free step) → step ≡ Ok x → Keeps t₀ t' N₀ N' owner x.row
+thing_keeps true {x = y} h m k j a z =
+    let x = (j refl).joins y z in
     record {
       noted = x.noted;
       owners = λ q l. x.owners q (omega arith) ∙ k.owners q l;
       keys = λ o p l. x.others o p (omega arith) (λ q. omega arith) ∙ k.keys o p l;
     }
-thing_keeps false h m k j a z = keeps_then k h ((a refl).keeps z)
+thing_keeps false {x = y} h m k j a z = keeps_then k h ((a refl).keeps y z)
 
-thing_behind : (b : Bool) {t t' : ℕ → Text} {N N' : List ℕ} {owner free : ℕ} {step : Step} → (b ≡ true → Joined t t' N N' owner free step) → (b ≡ false → After t t' N N' free step) → step.number ≡ 0 → step.row ≤ step.at
-thing_behind true j a z = (j refl).behind z
-thing_behind false j a z = (a refl).behind z
+thing_behind : (b : Bool) {t t' : ℕ → Text} {N N' : List ℕ} {owner free : ℕ} {step : Step} {x : Reached} → (b ≡ true → Joined t t' N N' owner free step) → (b ≡ false → After t t' N N' free step) → step ≡ Ok x → x.row ≤ x.at
+thing_behind true {x = x} j a z = (j refl).behind x z
+thing_behind false {x = x} j a z = (a refl).behind x z
 
 same_entry : (s : List ℕ) (b : Bool) (f : Want → Reader) {seen seen' : Texts} (at r : ℕ) → (b ≡ true → seen ≡ seen') → entry s b f seen at r ≡ entry s b f seen' at r
 unfolding entry
 same_entry s true f at r h = rw (h refl)
 same_entry s false f at r h = refl
 
-thing_keys : (s : List ℕ) (room : ℕ) (b : Bool) (seen : Texts) (rows : List Row) (T T' N : List ℕ) {N' : List ℕ} (owner free : ℕ) {step : Step} → b ≡ true → (b ≡ true → Joined (named s room T) (named s room T') N N' owner free step) → step.number ≡ 0 → (b ≡ true → keys_of (named s room T) N owner free ≡ seen) → T' ≡ put_rows room T free rows → step.row ≡ free + length rows → step.row ≤ room → room * 4 ≤ length T → keys_of (named s room T') N' owner step.row ≡ kept s b seen rows
+thing_keys : (s : List ℕ) (room : ℕ) (b : Bool) (seen : Texts) (rows : List Row) (T T' N : List ℕ) {N' : List ℕ} (owner free : ℕ) {step : Step} {x : Reached} → b ≡ true → (b ≡ true → Joined (named s room T) (named s room T') N N' owner free step) → step ≡ Ok x → (b ≡ true → keys_of (named s room T) N owner free ≡ seen) → T' ≡ put_rows room T free rows → x.row ≡ free + length rows → x.row ≤ room → room * 4 ≤ length T → keys_of (named s room T') N' owner x.row ≡ kept s b seen rows
 unfolding kept
-thing_keys s room true seen rows T T' N owner free i j z k w m f t =
-    let x = (j refl).joins z in
+thing_keys s room true seen rows T T' N owner free {x = y} i j z k w m f t =
+    let x = (j refl).joins y z in
     x.mine ∙ rw (k refl, first_is s room free T T' rows w (omega (arith, x.on)) (omega (arith, x.on)) t)
 thing_keys s room false seen rows T T' N owner free i j z k w m f t = absurd (true≢false (sym i))
 
@@ -152,8 +153,8 @@ module _ {s : List ℕ} {room : ℕ} {e : Edition} {deep : ℕ} {l : ManyLetter}
     thing_did : Did (entry s (keyed_by l) (object s room e deep) i.seen at free) (length s) room (at + 1) free T T' step
     thing_did = done (sym (same_entry s (keyed_by l) (object s room e deep) at free i.are)) entered.did
 
-    again : {b : Bool} {to : ℕ} → Open s at b → b ≡ true → step.number ≡ 0 → Skipped s step.at to → EntryDone (keyed_by l) s room e deep (own + 1) at free T T' N N' step → Got (entry s (keyed_by l) (object s room e deep) i.seen at free) (length s) room (at + 1) free T T' step → Going s room e deep l at₀ own T₀ N₀ (n + 1) to step.row T' N'
-    again {b} {to} x y z q c g =
+    again : {b : Bool} {x : Reached} {to : ℕ} → Open s at b → b ≡ true → step ≡ Ok x → Skipped s x.at to → EntryDone (keyed_by l) s room e deep (own + 1) at free T T' N N' step → Got (entry s (keyed_by l) (object s room e deep) i.seen at free) (length s) room (at + 1) free T T' x → Going s room e deep l at₀ own T₀ N₀ (n + 1) to x.row T' N'
+    again {b} {to = to} x y z q c g =
         let len : length (i.acc ++ g.rows) ≡ length i.acc + length g.rows = length-append i.acc g.rows in
         record {
           seen = kept s (keyed_by l) i.seen g.rows;
@@ -172,22 +173,21 @@ module _ {s : List ℕ} {room : ℕ} {e : Edition} {deep : ℕ} {l : ManyLetter}
           table = rw (g.wrote, length_put_rows room T free g.rows) i.table;
         }
 
-    pub going_again : {b : Bool} {to : ℕ} → Open s at b → b ≡ true → step.number ≡ 0 → Skipped s step.at to → Going s room e deep l at₀ own T₀ N₀ (n + 1) to step.row T' N'
+    pub going_again : {b : Bool} {x : Reached} {to : ℕ} → Open s at b → b ≡ true → step ≡ Ok x → Skipped s x.at to → Going s room e deep l at₀ own T₀ N₀ (n + 1) to x.row T' N'
     going_again x y z q = again x y z q entered (did_next thing_did z)
 
-    pub going_less : {to : ℕ} → step.number ≡ 0 → Skipped s step.at to → length s - to < length s - at
+    pub going_less : {x : Reached} {to : ℕ} → step ≡ Ok x → Skipped s x.at to → length s - to < length s - at
     going_less z q = let g = did_next thing_did z in omega (arith, g.ahead, g.within, q.ahead, q.within)
 
-    pub thing_in : step.number ≡ 0 → step.at ≤ length s
+    pub thing_in : {x : Reached} → step ≡ Ok x → x.at ≤ length s
     thing_in z = (did_next thing_did z).within
 
-    pub going_stops : (p : ℕ) {b : Bool} {T'' N'' : List ℕ} → Skipped s (p + 1) at₀ → Open s at b → b ≡ true → (step.number ≡ 0 → ⊥) → Done (many s l (object s room e deep) p own) s room (p + 1) own T₀ T'' N₀ N'' step
+    pub going_stops : (p : ℕ) {b : Bool} {x : Refused Refusal} {T'' N'' : List ℕ} {answer : Step} → Skipped s (p + 1) at₀ → Open s at b → b ≡ true → step ≡ Err x → answer ≡ Err x → Done (many s l (object s room e deep) p own) s room (p + 1) own T₀ T'' N₀ N'' answer
     unfolding many
-    going_stops p q x y z =
-        let w = did_not thing_did z in
+    going_stops p {x = w} q x y z f =
         record {
-          did = did_no w.why w.says (rw (← q.is) (i.same ∙ run_refused s (entry s (keyed_by l) (object s room e deep)) (kept s (keyed_by l)) (many_kind l) n i.seen i.acc at own i.fuel (omega (arith, i.enough)) (x.on y) (ap (entry s (keyed_by l) (object s room e deep) i.seen at) (sym i.next) ∙ w.reading)));
-          after = after_not z;
+          did = did_no w.refusal f (rw (← q.is) (i.same ∙ run_refused s (entry s (keyed_by l) (object s room e deep)) (kept s (keyed_by l)) (many_kind l) n i.seen i.acc at own i.fuel (omega (arith, i.enough)) (x.on y) (ap (entry s (keyed_by l) (object s room e deep) i.seen at) (sym i.next) ∙ did_not thing_did z)));
+          after = after_not f;
         }
 
   pub going_done : (p : ℕ) {b : Bool} {k : ℕ} {T' : List ℕ} → Prepared s p own room T₀ N₀ → Skipped s (p + 1) at₀ → Open s at b → b ≡ false → k ≡ many_kind l → T' ≡ set_row room T own (row k 0 n free) → Done (many s l (object s room e deep) p own) s room (p + 1) own T₀ T' N₀ N (read_to (at + 1) free)
@@ -203,7 +203,10 @@ module _ {s : List ℕ} {room : ℕ} {e : Edition} {deep : ℕ} {l : ManyLetter}
               says = simp c;
               leaves = record { wrote = w ∙ simp (m, i.wrote, i.next, add-one); ahead = omega (arith, i.ahead, q.ahead); within = omega arith; fits = rw c i.fits };
             });
-        after = record { keeps = λ _. closed_keeps s room own T₀ T (row k 0 n free) r.noted i.keeps w (omega (arith, i.next, i.fits)) i.fits; behind = λ _. omega (arith, i.behind) };
+        after = record {
+          keeps = λ x e. rw (← ok_is refl e) (closed_keeps s room own T₀ T (row k 0 n free) r.noted i.keeps w (omega (arith, i.next, i.fits)) i.fits);
+          behind = λ x e. rw (← ok_is refl e) (omega (arith, i.behind));
+        };
       }
 
   -- what a turn's sums and casts ask

@@ -7,14 +7,15 @@
 ghost use Rattle.std.specs.Prelude.{◌≡◌, ◌+◌, ◌-◌, ◌≤◌, ◌<◌};
 ghost use Rattle.glyph.specs.Read.{object};
 ghost use Rattle.glyph_keys.specs.Contract.{Prepared, Done};
-ghost use Rattle.glyph_objects.specs.Contract.{Begun, Went, Nexted, EntryDone, Closable, Closed, many_of, three_of, is_name, part_want};
+ghost use Rattle.glyph_objects.specs.Contract.{Begun, Nexted, EntryDone, Closable, Closed, many_of, three_of};
 
 use draft::Row;
 use glyph::{Edition, Letter, Many, Refusal, Three, Want};
-use item::Step;
+use glyph_item::Step;
+use item::Reached;
 
 // The object at `at`, if it may stand there.
-#[cycle(read_entry_read_many_read_next_read_object_read_thing_read_three)]
+#[cycle(objects)]
 pub fn read_object(
     s: &[u8],
     at: usize,
@@ -30,49 +31,37 @@ pub fn read_object(
     ensures { Done (object s.now room edition deep want at row) s.now room (at + 1) row table.old table.new notes.old notes.new result }
 {
     if s.len() <= at {
-        return glyph_item::refuse(Refusal::Ended, at);
+        return item::refuse(Refusal::Ended, at);
     }
-    let letter = glyph_bytes::letter_for(edition, want, s[at]);
-    match letter {
+    match glyph_bytes::letter_for(edition, want, s[at]) {
         Letter::Leaf(leaf) => glyph_leaves::read_leaf(s, at, row, leaf, room, table),
-        Letter::Unknown => glyph_item::refuse(Refusal::UnexpectedByte, at),
+        Letter::Unknown => item::refuse(Refusal::UnexpectedByte, at),
         Letter::Many(many) => {
             if deep == 0 {
-                return glyph_item::refuse(Refusal::TooDeep, at);
+                return item::refuse(Refusal::TooDeep, at);
             }
             if room <= row {
-                return glyph_item::refuse(Refusal::NoRow, at);
+                return item::refuse(Refusal::NoRow, at);
             }
             read_many(s, at, row, edition, many, deep - 1, room, table, notes)
         }
         Letter::Three(three) => {
             if deep == 0 {
-                return glyph_item::refuse(Refusal::TooDeep, at);
+                return item::refuse(Refusal::TooDeep, at);
             }
             if room <= row {
-                return glyph_item::refuse(Refusal::NoRow, at);
+                return item::refuse(Refusal::NoRow, at);
             }
             read_three(s, at, row, edition, three, deep - 1, room, table, notes)
         }
     }
 }
 
-// Whether a name alone may stand there.
-fn is_name(want: Want) -> bool
-    ensures { result ≡ is_name want }
-{
-    match want {
-        Want::Any => false,
-        Want::Text => true,
-        Want::EitherDict => false,
-    }
-}
-
-// Blanks and an object, behind what was read up to a step; or that step, if it is a refusal.
-#[cycle(read_entry_read_many_read_next_read_object_read_thing_read_three)]
+// Blanks and an object, behind what was read.
+#[cycle(objects)]
 fn read_next(
     s: &[u8],
-    before: Step,
+    before: Reached,
     edition: Edition,
     want: Want,
     deep: usize,
@@ -80,21 +69,18 @@ fn read_next(
     table: &mut [u32],
     notes: &mut [u16],
 ) -> Step
-    requires { Went s.now before room table.old notes.old }
+    requires { Prepared s.now before.at before.row room table.old notes.old }
     ensures { Nexted s.now room edition deep want before table.old table.new notes.old notes.new result }
 {
-    if before.number != 0 {
-        return before;
-    }
     let at = glyph_bytes::past_blanks(s, before.at);
-    if is_name(want) {
+    if want == Want::Text {
         return glyph_keys::read_name(s, at, before.row, room, table);
     }
     read_object(s, at, before.row, edition, want, deep, room, table, notes)
 }
 
 // An object that a list or a dict holds. One without children is read here, so that it takes no call of the cycle.
-#[cycle(read_entry_read_many_read_next_read_object_read_thing_read_three)]
+#[cycle(objects)]
 fn read_thing(
     s: &[u8],
     at: usize,
@@ -115,7 +101,7 @@ fn read_thing(
 }
 
 // One thing of a list or a dict: an object, behind its key if there are keys.
-#[cycle(read_entry_read_many_read_next_read_object_read_thing_read_three)]
+#[cycle(objects)]
 fn read_entry(
     s: &[u8],
     at: usize,
@@ -131,15 +117,12 @@ fn read_entry(
     requires { (0 < owner) × (owner ≤ row) × Prepared s.now at row room table.old notes.old }
     ensures { EntryDone keyed s.now room edition deep owner at row table.old table.new notes.old notes.new result }
 {
-    let key = glyph_keys::read_key_if(keyed, s, at, row, room, table, notes, owner);
-    if key.number != 0 {
-        return key;
-    }
+    let key = glyph_keys::read_key_if(keyed, s, at, row, room, table, notes, owner)?;
     read_thing(s, key.at, key.row, edition, deep, room, table, notes)
 }
 
 // The things of the list or the dict whose letter stands at `at`, until its `;`; then its own row.
-#[cycle(read_entry_read_many_read_next_read_object_read_thing_read_three)]
+#[cycle(objects)]
 fn read_many(
     s: &[u8],
     at: usize,
@@ -160,14 +143,11 @@ fn read_many(
     let mut n: usize = 0;
     let mut here = glyph_bytes::past_blanks(s, at + 1);
     while glyph_bytes::goes_on(s, here) {
-        let step = read_entry(
+        let thing = read_entry(
             s, here, free, edition, keyed, deep, room, table, notes, owner,
-        );
-        if step.number != 0 {
-            return step;
-        }
-        here = glyph_bytes::past_blanks(s, step.at);
-        free = step.row;
+        )?;
+        here = glyph_bytes::past_blanks(s, thing.at);
+        free = thing.row;
         n += 1;
     }
     table::put_row(
@@ -181,27 +161,30 @@ fn read_many(
             end: free as u32,
         },
     );
-    Step {
-        number: 0,
+    Ok(Reached {
         at: here + 1,
         row: free,
-    }
+    })
 }
 
-// The `;` behind the three objects that were read up to a step; then the row of what holds them.
-fn end_three(s: &[u8], before: Step, kind: u32, row: usize, room: usize, table: &mut [u32]) -> Step
+// The `;` behind the three objects that were read; then the row of what holds them.
+fn end_three(
+    s: &[u8],
+    before: Reached,
+    kind: u32,
+    row: usize,
+    room: usize,
+    table: &mut [u32],
+) -> Step
     requires { Closable s.now before row room table.old }
     ensures { Closed s.now before kind row room table.old table.new result }
 {
-    if before.number != 0 {
-        return before;
-    }
     let at = glyph_bytes::past_blanks(s, before.at);
     if s.len() <= at {
-        return glyph_item::refuse(Refusal::Ended, at);
+        return item::refuse(Refusal::Ended, at);
     }
     if s[at] != b';' {
-        return glyph_item::refuse(Refusal::UnexpectedByte, at);
+        return item::refuse(Refusal::UnexpectedByte, at);
     }
     let end = before.row;
     table::put_row(
@@ -215,26 +198,14 @@ fn end_three(s: &[u8], before: Step, kind: u32, row: usize, room: usize, table: 
             end: end as u32,
         },
     );
-    Step {
-        number: 0,
+    Ok(Reached {
         at: at + 1,
         row: end,
-    }
-}
-
-// What may stand as the first, the second and the third object of an extension or a node.
-fn part_want(three: Three, k: usize) -> Want
-    ensures { result ≡ part_want three k }
-{
-    match k {
-        0 => glyph_bytes::name_want(three),
-        1 => glyph_bytes::attributes_want(three),
-        _ => Want::Any,
-    }
+    })
 }
 
 // The name, the attributes and the content of the extension or the node whose letter stands at `at`; its `;`; and its own row.
-#[cycle(read_entry_read_many_read_next_read_object_read_thing_read_three)]
+#[cycle(objects)]
 fn read_three(
     s: &[u8],
     at: usize,
@@ -249,24 +220,14 @@ fn read_three(
     requires { Begun s.now at row room × Prepared s.now at row room table.old notes.old }
     ensures { Done (three_of s.now three (object s.now room edition deep) at row) s.now room (at + 1) row table.old table.new notes.old notes.new result }
 {
-    let mut step = Step {
-        number: 0,
+    let name = glyph_bytes::name_want(three);
+    let attributes = glyph_bytes::attributes_want(three);
+    let mut reached = Reached {
         at: at + 1,
         row: row + 1,
     };
-    let mut k: usize = 0;
-    while k < 3 {
-        step = read_next(
-            s,
-            step,
-            edition,
-            part_want(three, k),
-            deep,
-            room,
-            table,
-            notes,
-        );
-        k += 1;
+    for want in [name, attributes, Want::Any] {
+        reached = read_next(s, reached, edition, want, deep, room, table, notes)?;
     }
-    end_three(s, step, glyph_bytes::three_kind(three), row, room, table)
+    end_three(s, reached, glyph_bytes::three_kind(three), row, room, table)
 }

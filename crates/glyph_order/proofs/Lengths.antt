@@ -7,8 +7,7 @@ use mathlib.Core.Bool.{Bool, true, false, cond}
 use native.Mathlib.Omega.{arith}
 use lib.ListN.{length, length-append}
 use lib.Dec.{ltb}
-use Rattle.order.specs.declared.Relation.{Relation}
-use Rattle.order.specs.declared.Relation.TheVariants.{Before, Equal, After}
+use Rattle.std.proofs.Common.{Ordering, Less, Equal, Greater}
 use Rattle.order.specs.ByteOrder.{compared}
 use Rattle.glyph.specs.declared.Edition.{Edition}
 use Rattle.glyph.specs.Tree.{Tree, Pairs, no_pairs, pair}
@@ -24,10 +23,10 @@ unfolding insert
 insert_bytes e k t no_pairs = refl
 insert_bytes e k t (pair l u ps) = go (compared k l) (insert_bytes e k t ps)
   where
-    go : (r : Relation) → length (bytes_of_pairs e (insert k t ps)) ≡ length (bytes_of_pairs e (pair k t ps)) → length (bytes_of_pairs e (put r k t l u ps (insert k t ps))) ≡ length (bytes_of_pairs e (pair k t (pair l u ps)))
-    go Before h = refl
+    go : (r : Ordering) → length (bytes_of_pairs e (insert k t ps)) ≡ length (bytes_of_pairs e (pair k t ps)) → length (bytes_of_pairs e (put r k t l u ps (insert k t ps))) ≡ length (bytes_of_pairs e (pair k t (pair l u ps)))
+    go Less h = refl
     go Equal h = omega (arith, h, pair_bytes_lem e l u (insert k t ps), pair_bytes_lem e k t (pair l u ps), pair_bytes_lem e k t ps, pair_bytes_lem e l u ps)
-    go After h = omega (arith, h, pair_bytes_lem e l u (insert k t ps), pair_bytes_lem e k t (pair l u ps), pair_bytes_lem e k t ps, pair_bytes_lem e l u ps)
+    go Greater h = omega (arith, h, pair_bytes_lem e l u (insert k t ps), pair_bytes_lem e k t (pair l u ps), pair_bytes_lem e k t ps, pair_bytes_lem e l u ps)
 
 pub sort_bytes : (e : Edition) (ps : Pairs) → length (bytes_of_pairs e (sort ps)) ≡ length (bytes_of_pairs e ps)
 unfolding sort

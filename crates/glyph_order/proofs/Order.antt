@@ -4,8 +4,7 @@ use mathlib.Core.Path.{◌≡◌, refl, sym, ap, ◌∙◌}
 use mathlib.Core.Bool.{Bool, true, false, true≢false}
 use mathlib.Core.List.{List}
 use Prim.Native.Nat.{ℕ}
-use Rattle.order.specs.declared.Relation.{Relation}
-use Rattle.order.specs.declared.Relation.TheVariants.{Before, Equal, After}
+use Rattle.std.proofs.Common.{Ordering, Less, Equal, Greater}
 use Rattle.order.specs.ByteOrder.{compared}
 use Rattle.order.proofs.Ordering.{compared_self, compared_equal, after_less, less_less}
 use Rattle.glyph.specs.declared.Edition.{Edition}
@@ -16,16 +15,16 @@ use Rattle.glyph_order.specs.Same.{is_before, before, above, Shuffled, as_is, ke
 clash : {A : Type 0} {b : Bool} → b ≡ true → b ≡ false → A
 clash e f = absurd (true≢false (sym e ∙ f))
 
-is_before_lem : (r : Relation) → is_before r ≡ true → r ≡ Before
-is_before_lem Before e = refl
+is_before_lem : (r : Ordering) → is_before r ≡ true → r ≡ Less
+is_before_lem Less e = refl
 is_before_lem Equal e = clash e refl
-is_before_lem After e = clash e refl
+is_before_lem Greater e = clash e refl
 
-before_less : (k l : List ℕ) → before k l ≡ true → compared k l ≡ Before
+before_less : (k l : List ℕ) → before k l ≡ true → compared k l ≡ Less
 unfolding before
 before_less k l e = is_before_lem (compared k l) e
 
-less_before : (k l : List ℕ) → compared k l ≡ Before → before k l ≡ true
+less_before : (k l : List ℕ) → compared k l ≡ Less → before k l ≡ true
 unfolding before
 less_before k l e = rw e
 
@@ -46,10 +45,10 @@ before_not k l e = not_true _ (λ f. clash (before_trans k l k e f) (before_self
 pub before_one : (k l : List ℕ) → before k l ≡ false → before l k ≡ false → k ≡ l
 before_one k l e f = go (compared k l) refl
   where
-    go : (r : Relation) → compared k l ≡ r → k ≡ l
-    go Before i = clash (less_before k l i) e
+    go : (r : Ordering) → compared k l ≡ r → k ≡ l
+    go Less i = clash (less_before k l i) e
     go Equal i = compared_equal k l i
-    go After i = clash (less_before l k (after_less k l i)) f
+    go Greater i = clash (less_before l k (after_less k l i)) f
 
 -- of two different keys one is before the other
 pub before_or : (k l : List ℕ) → (k ≡ l → ⊥) → before k l ≡ false → before l k ≡ true
@@ -68,10 +67,10 @@ insert_on : (k : List ℕ) (t : Tree) (l : List ℕ) (u : Tree) (ps : Pairs) →
 unfolding insert before
 insert_on k t l u ps e = go (compared k l) e
   where
-    go : (r : Relation) → is_before r ≡ false → put r k t l u ps (insert k t ps) ≡ pair l u (insert k t ps)
-    go Before i = clash refl i
+    go : (r : Ordering) → is_before r ≡ false → put r k t l u ps (insert k t ps) ≡ pair l u (insert k t ps)
+    go Less i = clash refl i
     go Equal i = refl
-    go After i = refl
+    go Greater i = refl
 
 module _ (k : List ℕ) (t : Tree) (l : List ℕ) (u : Tree) where
   -- k before l

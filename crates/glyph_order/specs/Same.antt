@@ -1,15 +1,15 @@
 -- That two objects mean the same, a plain dict's pair order aside, which is what document 02 says of meaning; and distinct keys. Assumes nothing.
 use Rattle.std.specs.Prelude.{◌≡◌, Bool, true, false, cond, List, ℕ}
-use Rattle.order.specs.declared.Relation.{Relation}
-use Rattle.order.specs.declared.Relation.TheVariants.{Before, Equal, After}
+use Rattle.std.specs.declared.cmp.Ordering.{Ordering}
+use Rattle.std.specs.declared.cmp.Ordering.TheVariants.{Less, Equal, Greater}
 use Rattle.order.specs.ByteOrder.{compared}
 use Rattle.draft.specs.Grammar.{Payload}
 use Rattle.glyph.specs.Tree.{Tree, leaf, many, plain, ordered, Trees, none, also, Pairs, no_pairs, pair}
 
-abbrev pub is_before : Relation → Bool
-is_before Before = true
+abbrev pub is_before : Ordering → Bool
+is_before Less = true
 is_before Equal = false
-is_before After = false
+is_before Greater = false
 
 -- byte order of keys
 unfoldable pub before : List ℕ → List ℕ → Bool

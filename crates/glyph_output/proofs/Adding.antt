@@ -2,14 +2,15 @@
 use mathlib.Core.Path.{◌≡◌, refl, sym, ap, ◌∙◌}
 use mathlib.Core.Bool.{Bool, true, false}
 use mathlib.Core.List.{List, [], ◌∷◌, ◌++◌, append_assoc, append-nil}
-use Prim.Native.Nat.{ℕ, zero, suc, ◌+◌, ◌-◌, ◌≤◌, ◌<◌}
+use Prim.Native.Nat.{ℕ, zero, suc, ◌+◌, ◌-◌, ◌≤◌, ◌<◌, min}
 use native.Mathlib.Omega.{arith}
-use native.Mathlib.Numerals.{add-one}
-use native.Mathlib.Nat.{add-zero, suc-add}
-use lib.ListN.{length, set, take, drop, length-set, length-append, length-drop, drop_of_length-le}
+use native.Mathlib.Nat.{add-zero}
+use lib.ListN.{length, take, drop, length-append, length-drop, drop_of_length-le}
 use lib.Seq.{take_all, drop-drop, take_at, drop_at, length-take-le}
 use lib.Dec.{leb}
 use borrow.Author.Tests.{lt-leb, le-leb, leb-true, leb-false}
+use borrow.Rule.Slice.PartMut.{put_mid}
+use Rattle.std.proofs.lemmas.Slice.{put_mid-paste}
 use Rattle.output.specs.Contract.{Put}
 use Rattle.glyph_output.specs.Contract.{reached, Open, Adds}
 
@@ -56,68 +57,31 @@ take_drop zero o = refl
 take_drop (suc n) [] = refl
 take_drop (suc n) (x ∷ o) = ap (λ (w : List ℕ). x ∷ w) (take_drop n o)
 
--- a byte
-set_there : (o : List ℕ) (at b : ℕ) → at < length o → set o at b ≡ take at o ++ (b ∷ drop (suc at) o)
-set_there [] at b h = absurd (omega arith)
-set_there (x ∷ o) zero b h = refl
-set_there (x ∷ o) (suc at) b h = ap (λ (w : List ℕ). x ∷ w) (set_there o at b (omega arith))
-
-set_two : (o : List ℕ) (at b c : ℕ) → suc at < length o → set (set o at b) (suc at) c ≡ take at o ++ (b ∷ c ∷ drop (suc (suc at)) o)
-set_two [] at b c h = absurd (omega arith)
-set_two (x ∷ []) at b c h = absurd (omega arith)
-set_two (x ∷ y ∷ o) zero b c h = refl
-set_two (x ∷ y ∷ o) (suc at) b c h = ap (λ (w : List ℕ). x ∷ w) (set_two (y ∷ o) at b c (omega arith))
-
-set_four : (o : List ℕ) (at b c d e : ℕ) → at + 3 < length o → set (set (set (set o at b) (at + 1) c) (at + 2) d) (at + 3) e ≡ take at o ++ (b ∷ c ∷ d ∷ e ∷ drop (at + 4) o)
-set_four o zero b c d e h = four o h
+-- a place is told by the lesser of it and 65,537
+pub reached_min : (n : ℕ) {r : ℕ} → r ≡ min n 65537 → r ≡ reached n
+reached_min n {r} e = go (told n)
   where
-    four : (o : List ℕ) → 3 < length o → set (set (set (set o 0 b) 1 c) 2 d) 3 e ≡ b ∷ c ∷ d ∷ e ∷ drop 4 o
-    four [] h = absurd (omega arith)
-    four (x ∷ []) h = absurd (omega arith)
-    four (x ∷ y ∷ []) h = absurd (omega arith)
-    four (x ∷ y ∷ z ∷ []) h = absurd (omega arith)
-    four (x ∷ y ∷ z ∷ w ∷ o) h = refl
-set_four [] (suc at) b c d e h = absurd (omega arith)
-set_four (x ∷ o) (suc at) b c d e h = rw (suc-add, suc-add, suc-add, suc-add) (ap (λ (w : List ℕ). x ∷ w) (set_four o at b c d e (omega arith)))
-
-pub second_in : (o : List ℕ) {most at : ℕ} (b : ℕ) → Open most (length o) at → at + 2 ≤ most → at + 1 < length (set o at b)
-second_in o {at = at} b p h = rw (length-set o at b) (omega (arith, p.within))
+    go : Told n → r ≡ reached n
+    go (same h q) = omega (arith, e, q)
+    go (over h q) = omega (arith, e, q)
 
 module _ {o : List ℕ} {most at : ℕ} (p : Open most (length o) at) where
-  pub adds_two : (b c : ℕ) → at + 2 ≤ most → Adds (b ∷ c ∷ []) most o at (set (set o at b) (at + 1) c) (at + 2)
-  adds_two b c h =
-      let q : at + 2 ≡ suc (suc at) = omega arith in
+  pub adds_mid : (t : List ℕ) {ys : List ℕ} (n : ℕ) {k : ℕ} → n ≡ length t → n ≡ k → at + n ≤ most → ys ≡ t → Adds t most o at (put_mid at k o ys) (at + n)
+  adds_mid t {ys} n {k} l d h e =
       record {
-        stops = reached_same (at + 2) (omega (arith, p.few));
-        stands = λ _. rw (q, add-one) (set_two o at b c (omega (arith, p.within)));
-      }
-
-  pub adds_not_two : (b c : ℕ) {r : ℕ} → most < at + 2 → r ≡ reached (at + 2) → Adds (b ∷ c ∷ []) most o at o r
-  adds_not_two b c h e = record { stops = e; stands = λ k. absurd (omega arith) }
-
-  pub adds_four : (b c d e : ℕ) → at + 4 ≤ most → Adds (b ∷ c ∷ d ∷ e ∷ []) most o at (set (set (set (set o at b) (at + 1) c) (at + 2) d) (at + 3) e) (at + 4)
-  adds_four b c d e h =
-      record {
-        stops = reached_same (at + 4) (omega (arith, p.few));
-        stands = λ _. set_four o at b c d e (omega (arith, p.within));
-      }
-
-  pub adds_not_four : (b c d e : ℕ) {r : ℕ} → most < at + 4 → r ≡ reached (at + 4) → Adds (b ∷ c ∷ d ∷ e ∷ []) most o at o r
-  adds_not_four b c d e h q = record { stops = q; stands = λ k. absurd (omega arith) }
-
-  pub adds_byte : (b : ℕ) → at < most → Adds (b ∷ []) most o at (set o at b) (at + 1)
-  adds_byte b h =
-      record {
-        stops = reached_same (at + 1) (omega (arith, p.few));
-        stands = λ _. rw (set_there o at b (omega (arith, p.within)), add-one);
+        stops = reached_same (at + n) (omega (arith, p.few)) ∙ ap (λ (m : ℕ). reached (at + m)) l;
+        stands = λ _.
+            put_mid-paste at k o ys t n e d l ∙ append_assoc (take at o) (take n t) (drop (at + n) o)
+            ∙ ap (λ (v : List ℕ). take at o ++ (v ++ drop (at + n) o)) (take_all n t (omega (arith, l)))
+            ∙ ap (λ (m : ℕ). take at o ++ (t ++ drop (at + m) o)) l;
       }
 
   -- what would end behind `most`
-  pub adds_no_byte : (b : ℕ) {r : ℕ} → most ≤ at → r ≡ reached (at + 1) → Adds (b ∷ []) most o at o r
-  adds_no_byte b h e = record { stops = e; stands = λ k. absurd (omega arith) }
-
   pub adds_no_text : (t : List ℕ) {r : ℕ} → most < at + length t → r ≡ reached (at + length t) → Adds t most o at o r
   adds_no_text t h e = record { stops = e; stands = λ k. absurd (omega arith) }
+
+  pub adds_not : (t : List ℕ) (n : ℕ) {r : ℕ} → n ≡ length t → most < at + n → r ≡ min (at + n) 65537 → Adds t most o at o r
+  adds_not t n l h e = adds_no_text t (omega (arith, l)) (reached_min (at + length t) (e ∙ ap (λ (m : ℕ). min (at + m) 65537) l))
 
   pub adds_nothing : {r : ℕ} → r ≡ reached at → Adds [] most o at o r
   adds_nothing e = record { stops = e ∙ ap reached (omega arith); stands = λ k. rw add-zero (sym (take_drop at o)) }
@@ -156,4 +120,4 @@ module _ {o : List ℕ} {most at : ℕ} (p : Open most (length o) at) where
             let n : at + length (xs ++ ys) ≡ at + length xs + length ys = omega (arith, l) in
             g.stands (omega (arith, l, q)) ∙ rw (v, x, n) (append_assoc (take at o) xs (ys ++ drop (at + length xs + length ys) o) ∙ ap (λ (w : List ℕ). take at o ++ w) (sym (append_assoc xs ys (drop (at + length xs + length ys) o))))
 
-pub ruleset adding = (reached_over, reached_same, adds_two, second_in, adds_not_two, adds_four, adds_not_four, adds_byte, adds_no_byte, adds_no_text, adds_nothing, adds_text, open_next)
+pub ruleset adding = (adds_mid, adds_not, adds_nothing, adds_text, open_next)

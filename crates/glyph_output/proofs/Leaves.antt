@@ -61,24 +61,32 @@ digits_four k n xs h =
     ∙ rw (a, b, c, d, e)
 
 module _ {o : List ℕ} {most at : ℕ} (p : Open most (length o) at) (n : ℕ) where
-  pub one_digit : {o₁ : List ℕ} {r : ℕ} → n < 10 → Adds ((48 + n) ∷ []) most o at o₁ r → Adds (digits_before 10 n []) most o at o₁ r
-  one_digit h f = rw (digits_one 9 n [] h) f
+  pub one_digit : {d : ℕ} {o₁ : List ℕ} {r : ℕ} → n < 10 → d ≡ 48 + n % 10 → Adds (d ∷ []) most o at o₁ r → Adds (digits_before 10 n []) most o at o₁ r
+  one_digit {d} h e f = let q : d ≡ 48 + n = omega arith in rw (digits_one 9 n [] h) (rw q at f)
 
-  module _ (h : 10 ≤ n) where
-    pub two_digits : {o₁ : List ℕ} {r : ℕ} → n < 100 → Adds ((48 + n / 10) ∷ (48 + n % 10) ∷ []) most o at o₁ r → Adds (digits_before 10 n []) most o at o₁ r
-    two_digits l f = rw (digits_more 9 n [] h, digits_one 8 (n / 10) ((48 + n % 10) ∷ []) (omega arith)) f
+  pub two_digits : {c d : ℕ} {o₁ : List ℕ} {r : ℕ} → 10 ≤ n → n < 100 → c ≡ 48 + n / 10 % 10 → d ≡ 48 + n % 10 → Adds (c ∷ d ∷ []) most o at o₁ r → Adds (digits_before 10 n []) most o at o₁ r
+  two_digits {c} h l e g f =
+      let q : c ≡ 48 + n / 10 = omega arith in
+      rw (digits_more 9 n [] h, digits_one 8 (n / 10) ((48 + n % 10) ∷ []) (omega arith)) (rw (q, g) at f)
 
-    module _ (l : 100 ≤ n) where
-      pub three_digits : {o₁ o₂ : List ℕ} {a r : ℕ} → n < 1000 → Adds ((48 + n / 100) ∷ []) most o at o₁ a → Adds ((48 + n / 10 % 10) ∷ (48 + n % 10) ∷ []) most o₁ a o₂ r → Adds (digits_before 10 n []) most o at o₂ r
-      three_digits m f g =
-          let q : n / 10 / 10 ≡ n / 100 = omega arith in
-          rw (digits_more 9 n [] h, digits_more 8 (n / 10) ((48 + n % 10) ∷ []) (omega arith), q, digits_one 7 (n / 100) ((48 + n / 10 % 10) ∷ (48 + n % 10) ∷ []) (omega arith)) (adds_both p f g)
+  pub three_digits :
+      {b c d : ℕ} {o₁ : List ℕ} {r : ℕ} → 100 ≤ n → n < 1000 → b ≡ 48 + n / 100 % 10 → c ≡ 48 + n / 10 % 10 → d ≡ 48 + n % 10 → Adds (b ∷ c ∷ d ∷ []) most o at o₁ r
+      → Adds (digits_before 10 n []) most o at o₁ r
+  three_digits {b} h l e g i f =
+      let q : b ≡ 48 + n / 100 = omega arith in
+      let u : n / 10 / 10 ≡ n / 100 = omega arith in
+      rw (digits_more 9 n [] (omega arith), digits_more 8 (n / 10) ((48 + n % 10) ∷ []) (omega arith), u, digits_one 7 (n / 100) ((48 + n / 10 % 10) ∷ (48 + n % 10) ∷ []) (omega arith)) (rw (q, g, i) at f)
 
-      pub four_digits_lem : {o₁ : List ℕ} {r : ℕ} → 1000 ≤ n → n < 10000 → Adds (four_digits n) most o at o₁ r → Adds (digits_before 10 n []) most o at o₁ r
-      four_digits_lem m k f =
-          let q : n / 10 / 10 / 10 ≡ n / 1000 = omega arith in
-          let u : n / 10 / 10 % 10 ≡ n / 100 % 10 = omega arith in
-          rw (digits_more 9 n [] h, digits_more 8 (n / 10) ((48 + n % 10) ∷ []) (omega arith), digits_more 7 (n / 10 / 10) ((48 + n / 10 % 10) ∷ (48 + n % 10) ∷ []) (omega arith), q, u, digits_one 6 (n / 1000) ((48 + n / 100 % 10) ∷ (48 + n / 10 % 10) ∷ (48 + n % 10) ∷ []) (omega arith)) f
+  pub four_digits_lem : {o₁ : List ℕ} {r : ℕ} → 1000 ≤ n → n < 10000 → Adds (four_digits n) most o at o₁ r → Adds (digits_before 10 n []) most o at o₁ r
+  four_digits_lem m k f =
+      let q : n / 10 / 10 / 10 ≡ n / 1000 = omega arith in
+      let u : n / 10 / 10 % 10 ≡ n / 100 % 10 = omega arith in
+      rw (digits_more 9 n [] (omega arith), digits_more 8 (n / 10) ((48 + n % 10) ∷ []) (omega arith), digits_more 7 (n / 10 / 10) ((48 + n / 10 % 10) ∷ (48 + n % 10) ∷ []) (omega arith), q, u, digits_one 6 (n / 1000) ((48 + n / 100 % 10) ∷ (48 + n / 10 % 10) ∷ (48 + n % 10) ∷ []) (omega arith)) f
+
+  pub four_put :
+      {a b c d : ℕ} {o₁ : List ℕ} {r : ℕ} → n < 10000 → a ≡ 48 + n / 1000 % 10 → b ≡ 48 + n / 100 % 10 → c ≡ 48 + n / 10 % 10 → d ≡ 48 + n % 10
+      → Adds (a ∷ b ∷ c ∷ d ∷ []) most o at o₁ r → Adds (four_digits n) most o at o₁ r
+  four_put {a} h e g i j f = let q : a ≡ 48 + n / 1000 = omega arith in rw (q, g, i, j) at f
 
   -- the digits before the last four, and those
   pub more_digits : {o₁ o₂ : List ℕ} {a r : ℕ} → 10000 ≤ n → n < 4294967296 → Adds (digits_before 10 (n / 10000) []) most o at o₁ a → Adds (four_digits (n % 10000)) most o₁ a o₂ r → Adds (digits_before 10 n []) most o at o₂ r
@@ -128,4 +136,4 @@ module _ {o : List ℕ} {most at : ℕ} (p : Open most (length o) at) where
   empty_put b [] e f = f
   empty_put b (x ∷ t) e f = absurd (omega (arith, e))
 
-pub ruleset leaves = (one_digit, two_digits, three_digits, four_digits_lem, more_digits, number_put, positive_put, minus_put, negative_put, ended_put, counted_put, false_put, true_put, empty_put, content_put)
+pub ruleset leaves = (one_digit, two_digits, three_digits, four_digits_lem, four_put, more_digits, number_put, positive_put, minus_put, negative_put, ended_put, counted_put, false_put, true_put, empty_put, content_put)

@@ -2,21 +2,24 @@
 // where they end, also where they were not put; all places past 65,536 are told as 65,537.
 #![tactic(auto)]
 
-ghost use Rattle.std.specs.Prelude.{◌≡◌, [], ◌∷◌, ◌++◌, ◌-◌, ◌≤◌, ◌<◌, length};
+ghost use Rattle.std.specs.Prelude.{◌≡◌, [], ◌∷◌, ◌++◌, ◌+◌, ◌-◌, ◌%◌, ◌≤◌, ◌<◌, length};
 ghost use Rattle.glyph_form.specs.Form.{digits_before, number_before, integer_bytes, boolean_bytes, content_bytes};
-ghost use Rattle.glyph_output.specs.Contract.{reached as reachedBy, Open, Adds, four_digits};
+ghost use Rattle.glyph_output.specs.Contract.{Open, Adds, four_digits};
 
 // The most bytes that a message may have.
 pub const MOST_BYTES: usize = 65536;
 
-// What is told of a place.
-fn reached(n: usize) -> usize
-    ensures { result ≡ reachedBy n }
+// As many bytes as their type says.
+fn put<const N: usize>(out: &mut [u8], most: usize, at: usize, bytes: [u8; N]) -> usize
+    requires { Open most (length out.old) at × (N ≤ 4) }
+    ensures { Adds bytes.entry most out.old at out.new result }
 {
-    if MOST_BYTES < n {
-        return 65537;
+    let stop = at + N;
+    if stop <= most {
+        out[at..stop].copy_from_slice(&bytes);
+        return stop;
     }
-    n
+    stop.min(MOST_BYTES + 1)
 }
 
 // A byte.
@@ -24,11 +27,7 @@ pub fn put_byte(out: &mut [u8], most: usize, at: usize, b: u8) -> usize
     requires { Open most (length out.old) at }
     ensures { Adds (b ∷ []) most out.old at out.new result }
 {
-    if at < most {
-        out[at] = b;
-        return at + 1;
-    }
-    reached(at + 1)
+    put(out, most, at, [b])
 }
 
 // Bytes as they are.
@@ -41,20 +40,14 @@ pub fn put_text(out: &mut [u8], most: usize, at: usize, t: &[u8]) -> usize
         output::put_bytes(&mut out[at..], t);
         return stop;
     }
-    reached(stop)
+    stop.min(MOST_BYTES + 1)
 }
 
-// Two bytes.
-fn put_two(out: &mut [u8], most: usize, at: usize, b: u8, c: u8) -> usize
-    requires { Open most (length out.old) at }
-    ensures { Adds (b ∷ c ∷ []) most out.old at out.new result }
+// The last digit of a number.
+fn digit(n: u32) -> u8
+    ensures { result ≡ 48 + n % 10 }
 {
-    if at + 2 <= most {
-        out[at] = b;
-        out[at + 1] = c;
-        return at + 2;
-    }
-    reached(at + 2)
+    b'0' + (n % 10) as u8
 }
 
 // Four digits of a number below 10,000.
@@ -62,14 +55,12 @@ fn put_four(out: &mut [u8], most: usize, at: usize, n: u32) -> usize
     requires { Open most (length out.old) at × (n < 10000) }
     ensures { Adds (four_digits n) most out.old at out.new result }
 {
-    if at + 4 <= most {
-        out[at] = 48 + (n / 1000) as u8;
-        out[at + 1] = 48 + (n / 100 % 10) as u8;
-        out[at + 2] = 48 + (n / 10 % 10) as u8;
-        out[at + 3] = 48 + (n % 10) as u8;
-        return at + 4;
-    }
-    reached(at + 4)
+    put(
+        out,
+        most,
+        at,
+        [digit(n / 1000), digit(n / 100), digit(n / 10), digit(n)],
+    )
 }
 
 // A number below 10,000 without leading zeros.
@@ -77,35 +68,12 @@ fn put_few(out: &mut [u8], most: usize, at: usize, n: u32) -> usize
     requires { Open most (length out.old) at × (n < 10000) }
     ensures { Adds (digits_before 10 n []) most out.old at out.new result }
 {
-    if n < 10 {
-        return put_byte(out, most, at, 48 + n as u8);
+    match n {
+        0..=9 => put(out, most, at, [digit(n)]),
+        10..=99 => put(out, most, at, [digit(n / 10), digit(n)]),
+        100..=999 => put(out, most, at, [digit(n / 100), digit(n / 10), digit(n)]),
+        _ => put_four(out, most, at, n),
     }
-    if n < 100 {
-        return put_two(out, most, at, 48 + (n / 10) as u8, 48 + (n % 10) as u8);
-    }
-    if n < 1000 {
-        let next = put_byte(out, most, at, 48 + (n / 100) as u8);
-        return put_two(
-            out,
-            most,
-            next,
-            48 + (n / 10 % 10) as u8,
-            48 + (n % 10) as u8,
-        );
-    }
-    put_four(out, most, at, n)
-}
-
-// One below 100,000,000.
-fn put_some(out: &mut [u8], most: usize, at: usize, n: u32) -> usize
-    requires { Open most (length out.old) at × (n < 100000000) }
-    ensures { Adds (digits_before 10 n []) most out.old at out.new result }
-{
-    if n < 10000 {
-        return put_few(out, most, at, n);
-    }
-    let next = put_few(out, most, at, n / 10000);
-    put_four(out, most, next, n % 10000)
 }
 
 // Any number, four digits at a time.
@@ -116,7 +84,7 @@ fn put_digits(out: &mut [u8], most: usize, at: usize, n: u32) -> usize
     if n < 10000 {
         return put_few(out, most, at, n);
     }
-    let next = put_some(out, most, at, n / 10000);
+    let next = put_digits(out, most, at, n / 10000);
     put_four(out, most, next, n % 10000)
 }
 
@@ -134,7 +102,7 @@ pub fn put_single(out: &mut [u8], most: usize, at: usize, letter: u8) -> usize
     requires { Open most (length out.old) at }
     ensures { Adds (letter ∷ 59 ∷ []) most out.old at out.new result }
 {
-    put_two(out, most, at, letter, b';')
+    put(out, most, at, [letter, b';'])
 }
 
 // A minus and the number of a negative integer, by its 32 bits.
@@ -164,9 +132,10 @@ pub fn put_boolean(out: &mut [u8], most: usize, at: usize, n: u32) -> usize
     ensures { Adds (boolean_bytes n) most out.old at out.new result }
 {
     if n == 0 {
-        return put_single(out, most, at, b'F');
+        put_single(out, most, at, b'F')
+    } else {
+        put_single(out, most, at, b'T')
     }
-    put_single(out, most, at, b'T')
 }
 
 // Bytes and `;`.
@@ -192,7 +161,7 @@ pub fn put_content(out: &mut [u8], most: usize, at: usize, letter: u8, t: &[u8])
     requires { Open most (length out.old) at × (length t.now ≤ 65536) }
     ensures { Adds (letter ∷ content_bytes t.now) most out.old at out.new result }
 {
-    if t.len() == 0 {
+    if t.is_empty() {
         return put_single(out, most, at, letter);
     }
     let next = put_byte(out, most, at, letter);

@@ -9,8 +9,7 @@ use mir.Syntax.{w64}
 use mir.Val.{Fits}
 use lib.Dec.{eqb, ltb, leb}
 use borrow.Author.Tests.{eqb-true, ltb-true}
-use Rattle.draft.specs.declared.Extent.{Extent}
-use Rattle.draft.specs.declared.Extent.TheVariants.{Until, Unfit}
+use Rattle.std.proofs.Common.{Option, Some, None}
 use Rattle.draft.specs.declared.Row.{Row}
 use Rattle.draft.specs.Content.{key_rule, verdict}
 use Rattle.draft.specs.Read.{Texts, text_of}
@@ -38,19 +37,19 @@ use Rattle.glyph_puts.specs.Contract.{Fit, Children, no_child, child, Members, n
 pub record Stands (row : ℕ → Row) (e : Edition) (r : ℕ) (i : Sort) : Type 0 where
   pub is : sort_of e (row r).kind ≡ i
 
-fit_true : (b : Bool) (o : Extent) {n : ℕ} → fit b o ≡ Until n → b ≡ true
+fit_true : (b : Bool) (o : Option ℕ) {n : ℕ} → fit b o ≡ Some n → b ≡ true
 fit_true true o e = refl
 fit_true false o e = absurd (no_end e)
 
-closed_is : (x : Row) (o : Extent) {n : ℕ} → closed x o ≡ Until n → x.end ≡ n
-closed_is x Unfit e = absurd (no_end e)
-closed_is x (Until k) e = eqb-true x.end k (fit_true (eqb x.end k) (Until k) e) ∙ until_one (fit_end (eqb x.end k) (Until k) e)
+closed_is : (x : Row) (o : Option ℕ) {n : ℕ} → closed x o ≡ Some n → x.end ≡ n
+closed_is x None e = absurd (no_end e)
+closed_is x (Some k) e = eqb-true x.end k (fit_true (eqb x.end k) (Some k) e) ∙ until_one (fit_end (eqb x.end k) (Some k) e)
 
-then_end : (o : Extent) (g : Walk) {n : ℕ} → then o g ≡ Until n → (k : ℕ) × (o ≡ Until k) × (g k ≡ Until n)
-then_end Unfit g e = absurd (no_end e)
-then_end (Until k) g e = (k, refl, e)
+then_end : (o : Option ℕ) (g : Walk) {n : ℕ} → then o g ≡ Some n → (k : ℕ) × (o ≡ Some k) × (g k ≡ Some n)
+then_end None g e = absurd (no_end e)
+then_end (Some k) g e = (k, refl, e)
 
-over_end : (x : Row) (o : Extent) {n : ℕ} → over x o ≡ Until n → closed x o ≡ Until n
+over_end : (x : Row) (o : Option ℕ) {n : ℕ} → over x o ≡ Some n → closed x o ≡ Some n
 over_end x o e = fit_end (eqb x.a 0) (closed x o) e
 
 -- an object ends behind its first row, at the row that it says
@@ -60,7 +59,7 @@ record Ended (row : ℕ → Row) (r n : ℕ) : Type 0 where
 
 -- what f walks ends behind its first row
 abbrev Onward : Walk → Type 0
-Onward f = (r n : ℕ) → f r ≡ Until n → r < n
+Onward f = (r n : ℕ) → f r ≡ Some n → r < n
 
 -- and so does what may nest
 abbrev Below : Nest → Type 0
@@ -68,64 +67,64 @@ Below floor = Unit {0}
 Below (under f) = (w : Want) → Onward (f w)
 
 module _ (row : ℕ → Row) (rows : ℕ) (s : List ℕ) where
-  closed_ended : (r : ℕ) (o : Extent) {n : ℕ} → ((k : ℕ) → o ≡ Until k → r < k) → closed (row r) o ≡ Until n → Ended row r n
+  closed_ended : (r : ℕ) (o : Option ℕ) {n : ℕ} → ((k : ℕ) → o ≡ Some k → r < k) → closed (row r) o ≡ Some n → Ended row r n
   closed_ended r o f e = record { on = f _ (closed_end (row r) o e); is = closed_is (row r) o e }
 
-  leaf_ended : (r : ℕ) {n : ℕ} → leaf (row r) r ≡ Until n → Ended row r n
-  leaf_ended r e = closed_ended r (Until (r + 1)) (λ k h. omega (arith, until_one h)) e
+  leaf_ended : (r : ℕ) {n : ℕ} → leaf (row r) r ≡ Some n → Ended row r n
+  leaf_ended r e = closed_ended r (Some (r + 1)) (λ k h. omega (arith, until_one h)) e
 
   -- behind a key, or as it is
-  by_end : (seen : Texts) (r : ℕ) {n : ℕ} → string_by row rows s (key_rule seen) r ≡ Until n → n ≡ r + 1
+  by_end : (seen : Texts) (r : ℕ) {n : ℕ} → string_by row rows s (key_rule seen) r ≡ Some n → n ≡ r + 1
   unfolding string_by
   by_end seen r e =
-      let z = then_end (string row rows s r) (λ next. ruled (key_rule seen (text_of s (row r))) (Until next)) e in
-      sym (until_one (ruled_end (key_rule seen (text_of s (row r))) (Until z.0) z.2)) ∙ string_end row rows s r z.1
+      let z = then_end (string row rows s r) (λ next. ruled (key_rule seen (text_of s (row r))) (Some next)) e in
+      sym (until_one (ruled_end (key_rule seen (text_of s (row r))) (Some z.0) z.2)) ∙ string_end row rows s r z.1
 
-  member_end : (f : Walk) (seen : Texts) (r : ℕ) {n : ℕ} → member row rows s f seen r ≡ Until n → f (r + 1) ≡ Until n
+  member_end : (f : Walk) (seen : Texts) (r : ℕ) {n : ℕ} → member row rows s f seen r ≡ Some n → f (r + 1) ≡ Some n
   unfolding member pair
   member_end f seen r e =
       let z = then_end (string_by row rows s (key_rule seen) r) f e in
       rw (by_end seen r z.1) at z.2
 
   -- n pairs have two rows each at least, n objects one
-  members_on : (f : Walk) → Onward f → (m : ℕ) (seen : Texts) (r : ℕ) {n : ℕ} → items (member row rows s f) (keeping row rows s) m seen r ≡ Until n → r + 2 * m ≤ n
+  members_on : (f : Walk) → Onward f → (m : ℕ) (seen : Texts) (r : ℕ) {n : ℕ} → items (member row rows s f) (keeping row rows s) m seen r ≡ Some n → r + 2 * m ≤ n
   unfolding items
   members_on f b zero seen r e = omega (arith, until_one e)
   members_on f b (suc m) seen r e =
       let z = then_end (member row rows s f seen r) (λ next. items (member row rows s f) (keeping row rows s) m (keeping row rows s seen r) next) e in
       omega (arith, b (r + 1) z.0 (member_end f seen r z.1), members_on f b m (keeping row rows s seen r) z.0 z.2)
 
-  objects_on : (f : Walk) → Onward f → (m : ℕ) (seen : Texts) (r : ℕ) {n : ℕ} → items (alike f) nothing m seen r ≡ Until n → r + m ≤ n
+  objects_on : (f : Walk) → Onward f → (m : ℕ) (seen : Texts) (r : ℕ) {n : ℕ} → items (alike f) nothing m seen r ≡ Some n → r + m ≤ n
   unfolding items alike
   objects_on f b zero seen r e = omega (arith, until_one e)
   objects_on f b (suc m) seen r e =
       let z = then_end (f r) (λ next. items (alike f) nothing m (nothing seen r) next) e in
       omega (arith, b r z.0 z.1, objects_on f b m (nothing seen r) z.0 z.2)
 
-  entries_on : (keyed : Bool) (f : Walk) → Onward f → (m r : ℕ) {n : ℕ} → entries row rows s keyed f m r ≡ Until n → r ≤ n
+  entries_on : (keyed : Bool) (f : Walk) → Onward f → (m r : ℕ) {n : ℕ} → entries row rows s keyed f m r ≡ Some n → r ≤ n
   unfolding entries entry kept
   entries_on true f b m r e = omega (arith, members_on f b m [] r e)
   entries_on false f b m r e = omega (arith, objects_on f b m [] r e)
 
-  three_on : (f g h : Walk) → Onward f → Onward g → Onward h → (r : ℕ) {n : ℕ} → pair f (pair g h) r ≡ Until n → r < n
+  three_on : (f g h : Walk) → Onward f → Onward g → Onward h → (r : ℕ) {n : ℕ} → pair f (pair g h) r ≡ Some n → r < n
   unfolding pair
   three_on f g h a b c r {n} e =
       let z = then_end (f r) (pair g h) e in
       let y = then_end (g z.0) h z.2 in
       omega (arith, a r z.0 z.1, b z.0 y.0 y.1, c y.0 n y.2)
 
-  abbrev many_walk : ManyLetter → (Want → Walk) → ℕ → Extent
+  abbrev many_walk : ManyLetter → (Want → Walk) → ℕ → Option ℕ
   many_walk l f r = entries row rows s (keyed_by l) (f Any) (row r).b (r + 1)
 
-  abbrev three_walk : ThreeLetter → (Want → Walk) → ℕ → Extent
+  abbrev three_walk : ThreeLetter → (Want → Walk) → ℕ → Option ℕ
   three_walk l f r = pair (f (name_want l)) (pair (f (attributes_want l)) (f Any)) (r + 1)
 
-  item_ended : (i : Sort) (nest : Nest) → Below nest → (r : ℕ) {n : ℕ} → item row rows s i nest (row r) r ≡ Until n → Ended row r n
+  item_ended : (i : Sort) (nest : Nest) → Below nest → (r : ℕ) {n : ℕ} → item row rows s i nest (row r) r ≡ Some n → Ended row r n
   unfolding content_item
   item_ended Integer nest b r e = leaf_ended r (fit_end (eqb (row r).b 0) (leaf (row r) r) e)
   item_ended Boolean nest b r e = leaf_ended r (fit_end (eqb (row r).b 0) (leaf (row r) r) (fit_end (leb (row r).a 1) (integer_item (row r) r) e))
   item_ended (Content c) nest b r e = leaf_ended r (ruled_end (verdict c s (row r).a (row r).b) (leaf (row r) r) (fit_end (sized c (row r).b) (ruled (verdict c s (row r).a (row r).b) (leaf (row r) r)) e))
-  item_ended Nil nest b r e = leaf_ended r (over_end (row r) (Until (r + 1)) (fit_end (eqb (row r).b 0) (over (row r) (Until (r + 1))) e))
+  item_ended Nil nest b r e = leaf_ended r (over_end (row r) (Some (r + 1)) (fit_end (eqb (row r).b 0) (over (row r) (Some (r + 1))) e))
   item_ended (Many l) floor b r e = absurd (no_end e)
   item_ended (Many l) (under f) b r e =
       closed_ended r (many_walk l f r) (λ k h. omega (arith, entries_on (keyed_by l) (f Any) (b Any) (row r).b (r + 1) h)) (over_end (row r) (many_walk l f r) e)
@@ -141,29 +140,29 @@ module _ (row : ℕ → Row) (rows : ℕ) (s : List ℕ) where
     nest (suc deep) = under (object row rows s e deep)
 
     -- what stands at row r
-    object_in : (deep : ℕ) (w : Want) (r : ℕ) {n : ℕ} → object row rows s e deep w r ≡ Until n → r < rows
+    object_in : (deep : ℕ) (w : Want) (r : ℕ) {n : ℕ} → object row rows s e deep w r ≡ Some n → r < rows
     unfolding object
     object_in zero w r h = ltb-true r rows (fit_true (ltb r rows) _ h)
     object_in (suc deep) w r h = ltb-true r rows (fit_true (ltb r rows) _ h)
 
-    object_item : (deep : ℕ) (w : Want) (r : ℕ) {n : ℕ} → object row rows s e deep w r ≡ Until n → item row rows s (sort_of e (row r).kind) (nest deep) (row r) r ≡ Until n
+    object_item : (deep : ℕ) (w : Want) (r : ℕ) {n : ℕ} → object row rows s e deep w r ≡ Some n → item row rows s (sort_of e (row r).kind) (nest deep) (row r) r ≡ Some n
     unfolding object
     object_item zero w r h = fit_end (meets w (row r).kind) _ (fit_end (ltb r rows) _ h)
     object_item (suc deep) w r h = fit_end (meets w (row r).kind) _ (fit_end (ltb r rows) _ h)
 
-    object_ended : (deep : ℕ) (w : Want) (r : ℕ) {n : ℕ} → object row rows s e deep w r ≡ Until n → Ended row r n
+    object_ended : (deep : ℕ) (w : Want) (r : ℕ) {n : ℕ} → object row rows s e deep w r ≡ Some n → Ended row r n
     object_ended zero w r h = item_ended (sort_of e (row r).kind) floor tt r (object_item zero w r h)
     object_ended (suc deep) w r h = item_ended (sort_of e (row r).kind) (under (object row rows s e deep)) (λ v k m g. (object_ended deep v k g).on) r (object_item (suc deep) w r h)
 
     -- what is below it
     module _ (deep : ℕ) (room : ℕ) (stated : rows ≤ room) (spare : ℕ) where
-      fit_at : (w : Want) (r : ℕ) {n : ℕ} → object row rows s e deep w r ≡ Until n → 3 * n ≤ 3 * (r + 1) + 4 * spare → Fit row room s e deep spare r
+      fit_at : (w : Want) (r : ℕ) {n : ℕ} → object row rows s e deep w r ≡ Some n → 3 * n ≤ 3 * (r + 1) + 4 * spare → Fit row room s e deep spare r
       fit_at w r {n} h l = record { rows = rows; stated = stated; want = w; stop = n; walk = h; span = l }
 
       abbrev below : Walk
       below = object row rows s e deep Any
 
-      children_at : (m : ℕ) (seen : Texts) (r : ℕ) {n : ℕ} → items (alike below) nothing m seen r ≡ Until n → 3 * n ≤ 3 * r + 4 * spare → Children row room s e deep spare m r
+      children_at : (m : ℕ) (seen : Texts) (r : ℕ) {n : ℕ} → items (alike below) nothing m seen r ≡ Some n → 3 * n ≤ 3 * r + 4 * spare → Children row room s e deep spare m r
       unfolding items alike
       children_at zero seen r h l = no_child
       children_at (suc m) seen r h l =
@@ -172,7 +171,7 @@ module _ (row : ℕ → Row) (rows : ℕ) (s : List ℕ) where
           let b = objects_on below (λ k i g. (object_ended deep Any k g).on) m (nothing seen r) z.0 z.2 in
           child {n = m} (fit_at Any r z.1 (omega (arith, b))) (rw a.is (children_at m (nothing seen r) z.0 z.2 (omega (arith, a.on))))
 
-      members_at : (m : ℕ) (seen : Texts) (r : ℕ) {n : ℕ} → items (member row rows s below) (keeping row rows s) m seen r ≡ Until n → 3 * n ≤ 3 * r + 4 * m + 4 * spare → Members row room s e deep spare m r
+      members_at : (m : ℕ) (seen : Texts) (r : ℕ) {n : ℕ} → items (member row rows s below) (keeping row rows s) m seen r ≡ Some n → 3 * n ≤ 3 * r + 4 * m + 4 * spare → Members row room s e deep spare m r
       unfolding items
       members_at zero seen r h l = no_member
       members_at (suc m) seen r h l =
@@ -182,7 +181,7 @@ module _ (row : ℕ → Row) (rows : ℕ) (s : List ℕ) where
           let b = members_on below (λ k i g. (object_ended deep Any k g).on) m (keeping row rows s seen r) z.0 z.2 in
           one_member {n = m} (fit_at Any (r + 1) v (omega (arith, b))) (rw a.is (members_at m (keeping row rows s seen r) z.0 z.2 (omega (arith, a.on))))
 
-      three_at : (u v : Want) (r : ℕ) {n : ℕ} → pair (object row rows s e deep u) (pair (object row rows s e deep v) below) r ≡ Until n → 3 * n ≤ 3 * r + 4 * spare → Children row room s e deep spare 3 r
+      three_at : (u v : Want) (r : ℕ) {n : ℕ} → pair (object row rows s e deep u) (pair (object row rows s e deep v) below) r ≡ Some n → 3 * n ≤ 3 * r + 4 * spare → Children row room s e deep spare 3 r
       unfolding pair
       three_at u v r h l =
           let z = then_end (object row rows s e deep u r) (pair (object row rows s e deep v) below) h in
@@ -199,7 +198,7 @@ module _ {row : ℕ → Row} {room : ℕ} {s : List ℕ} {e : Edition} {deep spa
   pub fit_in : r < room
   fit_in = omega (arith, a.stated, object_in row a.rows s e deep a.want r a.walk)
 
-  stands_item : {i : Sort} → Stands row e r i → item row a.rows s i (nest row a.rows s e deep) (row r) r ≡ Until a.stop
+  stands_item : {i : Sort} → Stands row e r i → item row a.rows s i (nest row a.rows s e deep) (row r) r ≡ Some a.stop
   stands_item d = rw d.is at (object_item row a.rows s e deep a.want r a.walk)
 
   nothing_known : Stands row e r Unknown → ⊥
@@ -214,8 +213,8 @@ less {deep = zero} a z = absurd (z refl)
 less {deep = suc deep} a z = rw (sub-one (suc deep)) a
 
 module _ {row : ℕ → Row} {room : ℕ} {s : List ℕ} {e : Edition} {deep spare r : ℕ} (a : Fit row room s e (suc deep) spare r) where
-  many_end : {l : ManyLetter} → Stands row e r (Many l) → entries row a.rows s (keyed_by l) (object row a.rows s e deep Any) (row r).b (r + 1) ≡ Until a.stop
-  many_end {l} d = let w : Extent = many_walk row a.rows s l (object row a.rows s e deep) r in closed_end (row r) w (over_end (row r) w (stands_item a d))
+  many_end : {l : ManyLetter} → Stands row e r (Many l) → entries row a.rows s (keyed_by l) (object row a.rows s e deep Any) (row r).b (r + 1) ≡ Some a.stop
+  many_end {l} d = let w : Option ℕ = many_walk row a.rows s l (object row a.rows s e deep) r in closed_end (row r) w (over_end (row r) w (stands_item a d))
 
   list_below : Stands row e r (Many ListOf) → Children row room s e deep spare (row r).b (r + 1)
   unfolding entries entry kept
@@ -233,8 +232,8 @@ module _ {row : ℕ → Row} {room : ℕ} {s : List ℕ} {e : Edition} {deep spa
   unfolding entries entry kept
   dict_below d = members_at row a.rows s e deep room a.stated (spare - (row r).b) (row r).b [] (r + 1) (many_end d) (omega (arith, a.span, dict_few d))
 
-  three_end : {l : ThreeLetter} → Stands row e r (Three l) → three_walk row a.rows s l (object row a.rows s e deep) r ≡ Until a.stop
-  three_end {l} d = let w : Extent = three_walk row a.rows s l (object row a.rows s e deep) r in closed_end (row r) w (over_end (row r) w (fit_end (eqb (row r).b 3) (over (row r) w) (stands_item a d)))
+  three_end : {l : ThreeLetter} → Stands row e r (Three l) → three_walk row a.rows s l (object row a.rows s e deep) r ≡ Some a.stop
+  three_end {l} d = let w : Option ℕ = three_walk row a.rows s l (object row a.rows s e deep) r in closed_end (row r) w (over_end (row r) w (fit_end (eqb (row r).b 3) (over (row r) w) (stands_item a d)))
 
   three_below : {l : ThreeLetter} → Stands row e r (Three l) → Children row room s e deep spare 3 (r + 1)
   three_below {l} d = three_at row a.rows s e deep room a.stated spare (name_want l) (attributes_want l) (r + 1) (three_end d) (omega (arith, a.span))

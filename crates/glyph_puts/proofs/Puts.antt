@@ -258,8 +258,8 @@ pub record Listing (row : ℕ → Row) (room : ℕ) (s : List ℕ) (e : Edition)
   pub children : Children row room s e deep (length order₀) left here
   pub long : length order ≡ length order₀
 
-pub list_first : {row : ℕ → Row} {room : ℕ} {s : List ℕ} {e : Edition} {deep n first most : ℕ} {o : List ℕ} {at : ℕ} (order : List ℕ) → Open most (length o) at → Children row room s e deep (length order) n first → Listing row room s e deep n first most o at order n first order o at
-list_first order p c = record { going = going_first p _; children = c; long = refl }
+pub list_first : {row : ℕ → Row} {room : ℕ} {s : List ℕ} {e : Edition} {deep n first most : ℕ} {o : List ℕ} {at : ℕ} (order : List ℕ) {left : ℕ} → left ≡ n → Open most (length o) at → Children row room s e deep (length order) n first → Listing row room s e deep n first most o at order left first order o at
+list_first order q p c = rw q (record { going = going_first p _; children = c; long = refl })
 
 module _ {row : ℕ → Row} {room : ℕ} {s : List ℕ} {e : Edition} {deep n first most : ℕ} {o : List ℕ} {at : ℕ} {order₀ : List ℕ} {left here : ℕ} {order out : List ℕ} {stop : ℕ} (g : Listing row room s e deep n first most o at order₀ left here order out stop) where
   pub list_fit : 0 < left → Fit row room s e deep (length order) here
@@ -273,18 +273,18 @@ module _ {row : ℕ → Row} {room : ℕ} {s : List ℕ} {e : Edition} {deep n f
     list_open = going_open p g.going
 
     module _ (h : 0 < left) {x : Row} (f : x ≡ row here) where
-      pub list_again : {order' out' : List ℕ} {stop' : ℕ} → Adds (object_bytes row s e deep here) most out stop out' stop' → length out' ≡ length out → length order' ≡ length order → Listing row room s e deep n first most o at order₀ (left - 1) x.end order' out' stop'
-      list_again a l k =
-          let m : left ≡ suc (left - 1) = omega arith in
+      pub list_again : {m : ℕ} {order' out' : List ℕ} {stop' : ℕ} → left ≡ suc m → Adds (object_bytes row s e deep here) most out stop out' stop' → length out' ≡ length out → length order' ≡ length order → Listing row room s e deep n first most o at order₀ m x.end order' out' stop'
+      list_again {m} i a l k =
           let q : x.end ≡ (row here).end = rw f in
+          let c : left - 1 ≡ m = omega arith in
           record {
-            going = rw q (going_on p g.going (ap (λ (i : ℕ). entries_bytes row s e deep i here) m ∙ entries_next row s e deep (left - 1) here) a l);
-            children = other_children g.children h q;
+            going = rw q (going_on p g.going (ap (λ (i : ℕ). entries_bytes row s e deep i here) i ∙ entries_next row s e deep m here) a l);
+            children = rw c at (other_children g.children h q);
             long = k ∙ g.long;
           }
 
-      pub list_leaf : {b : Bool} {out' : List ℕ} {stop' : ℕ} → b ≡ holds x.kind → b ≡ false → Adds (leaf_form s x) most out stop out' stop' → length out' ≡ length out → Listing row room s e deep n first most o at order₀ (left - 1) x.end order out' stop'
-      list_leaf b c a l = list_again (leaf_put (list_fit h) f (sym b ∙ c) a) l refl
+      pub list_leaf : {m : ℕ} {b : Bool} {out' : List ℕ} {stop' : ℕ} → left ≡ suc m → b ≡ holds x.kind → b ≡ false → Adds (leaf_form s x) most out stop out' stop' → length out' ≡ length out → Listing row room s e deep n first most o at order₀ m x.end order out' stop'
+      list_leaf i b c a l = list_again i (leaf_put (list_fit h) f (sym b ∙ c) a) l refl
 
     pub list_done : left ≤ 0 → Adds (entries_bytes row s e deep n first) most o at out stop
     list_done h =
@@ -297,8 +297,8 @@ pub record Pairing (row : ℕ → Row) (room : ℕ) (s : List ℕ) (e : Edition)
   pub members : Members row room s e deep (length order₀) left here
   pub long : length order ≡ length order₀
 
-pub pairs_first : {row : ℕ → Row} {room : ℕ} {s : List ℕ} {e : Edition} {deep n first most : ℕ} {o : List ℕ} {at : ℕ} (order : List ℕ) → Open most (length o) at → Members row room s e deep (length order) n first → Pairing row room s e deep n first most o at order n first order o at
-pairs_first order p c = record { going = going_first p _; members = c; long = refl }
+pub pairs_first : {row : ℕ → Row} {room : ℕ} {s : List ℕ} {e : Edition} {deep n first most : ℕ} {o : List ℕ} {at : ℕ} (order : List ℕ) {left : ℕ} → left ≡ n → Open most (length o) at → Members row room s e deep (length order) n first → Pairing row room s e deep n first most o at order left first order o at
+pairs_first order q p c = rw q (record { going = going_first p _; members = c; long = refl })
 
 module _ {row : ℕ → Row} {room : ℕ} {s : List ℕ} {e : Edition} {deep n first most : ℕ} {o : List ℕ} {at : ℕ} {order₀ : List ℕ} {left here : ℕ} {order out : List ℕ} {stop : ℕ} (g : Pairing row room s e deep n first most o at order₀ left here order out stop) where
   pub pairs_fit : 0 < left → Fit row room s e deep (length order) (here + 1)
@@ -314,12 +314,13 @@ module _ {row : ℕ → Row} {room : ℕ} {s : List ℕ} {e : Edition} {deep n f
     pub pairs_open : Open most (length out) stop
     pairs_open = going_open p g.going
 
-    pub pairs_again : {order' out' : List ℕ} {stop' next : ℕ} → 0 < left → Paired (pair_bytes row s e deep (key_text room row s) here) most out stop out' stop' order order' → length out' ≡ length out → next ≡ (row (here + 1)).end → Pairing row room s e deep n first most o at order₀ (left - 1) next order' out' stop'
-    pairs_again h a l q =
-        let m : left ≡ suc (left - 1) = omega arith in
+    pub pairs_again : {m : ℕ} {order' out' : List ℕ} {stop' next : ℕ} → left ≡ suc m → Paired (pair_bytes row s e deep (key_text room row s) here) most out stop out' stop' order order' → length out' ≡ length out → next ≡ (row (here + 1)).end → Pairing row room s e deep n first most o at order₀ m next order' out' stop'
+    pairs_again {m} i a l q =
+        let c : left - 1 ≡ m = omega arith in
+        let h : 0 < left = omega arith in
         record {
-          going = rw q (going_on p g.going (ap (λ (i : ℕ). pairs_bytes row s e deep i here) m ∙ pairs_next row s e deep (key_text room row s) (left - 1) here (key_is here (pairs_fit h))) a.adds l);
-          members = other_members g.members h q;
+          going = rw q (going_on p g.going (ap (λ (i : ℕ). pairs_bytes row s e deep i here) i ∙ pairs_next row s e deep (key_text room row s) m here (key_is here (pairs_fit h))) a.adds l);
+          members = rw c at (other_members g.members h q);
           long = a.long ∙ g.long;
         }
 

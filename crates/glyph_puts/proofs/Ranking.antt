@@ -7,12 +7,12 @@ use native.Mathlib.Omega.{arith}
 use lib.ListN.{length}
 use lib.Dec.{ltb}
 use borrow.Author.Tests.{lt-ltb, ltb-true}
-use Rattle.order.specs.declared.Relation.{Relation}
-use Rattle.order.specs.declared.Relation.TheVariants.{Before, Equal, After}
+use Rattle.std.proofs.Common.{Ordering, Less, Equal, Greater}
+use Rattle.std.specs.Ordering.{is_lt}
 use Rattle.order.specs.ByteOrder.{compared}
 use Rattle.draft.specs.declared.Row.{Row}
 use Rattle.draft.specs.Read.{text_of}
-use Rattle.sorting.specs.Sorting.{key_text, is_before, before, spot, insert_at, inserted, sorted}
+use Rattle.sorting.specs.Sorting.{key_text, before, spot, insert_at, inserted, sorted}
 use Rattle.key_order.specs.Arranged.{key_rows, over, arranged}
 use Rattle.glyph.specs.declared.Edition.{Edition}
 use Rattle.glyph.specs.Tree.{Tree, Pairs, pair}
@@ -39,10 +39,10 @@ module _ (text : ℕ → List ℕ) (f : ℕ → Tree) where
   insert_by k [] = refl
   insert_by k (x ∷ xs) = go (compared (text k) (text x)) (insert_by k xs)
     where
-      go : (r : Relation) → pairs_by text f (insert_at (spot text k xs) k xs) ≡ insert (text k) (f (k + 1)) (pairs_by text f xs) → pairs_by text f (insert_at (cond (is_before r) 0 (suc (spot text k xs))) k (x ∷ xs)) ≡ put r (text k) (f (k + 1)) (text x) (f (x + 1)) (pairs_by text f xs) (insert (text k) (f (k + 1)) (pairs_by text f xs))
-      go Before ih = refl
+      go : (r : Ordering) → pairs_by text f (insert_at (spot text k xs) k xs) ≡ insert (text k) (f (k + 1)) (pairs_by text f xs) → pairs_by text f (insert_at (cond (is_lt r) 0 (suc (spot text k xs))) k (x ∷ xs)) ≡ put r (text k) (f (k + 1)) (text x) (f (x + 1)) (pairs_by text f xs) (insert (text k) (f (k + 1)) (pairs_by text f xs))
+      go Less ih = refl
       go Equal ih = ap (pair (text x) (f (x + 1))) ih
-      go After ih = ap (pair (text x) (f (x + 1))) ih
+      go Greater ih = ap (pair (text x) (f (x + 1))) ih
 
   sorted_by : (ks : List ℕ) → pairs_by text f (sorted text ks) ≡ sort (pairs_by text f ks)
   unfolding sorted sort pairs_by

@@ -1,7 +1,6 @@
 -- What putting the objects of a table asks, and the bytes that are put. Assumes nothing.
-use Rattle.std.specs.Prelude.{◌≡◌, cond, List, [], ◌∷◌, ◌++◌, ℕ, suc, ◌+◌, ◌*◌, ◌≤◌, eqb, length}
+use Rattle.std.specs.Prelude.{◌≡◌, cond, List, [], ◌∷◌, ◌++◌, ℕ, suc, ◌+◌, ◌*◌, ◌≤◌, eqb, length, Some}
 use Prim.Native.Char.{code}
-use Rattle.draft.specs.declared.Extent.TheVariants.{Until}
 use Rattle.draft.specs.declared.Row.{Row}
 use Rattle.draft.specs.Read.{text_of}
 use Rattle.glyph.specs.declared.Edition.{Edition}
@@ -24,7 +23,7 @@ pub record Fit (row : ℕ → Row) (room : ℕ) (s : List ℕ) (e : Edition) (de
   pub stated : rows ≤ room
   pub want : Want
   pub stop : ℕ
-  pub walk : object row rows s e deep want r ≡ Until stop
+  pub walk : object row rows s e deep want r ≡ Some stop
   pub span : 3 * stop ≤ 3 * (r + 1) + 4 * spare
 
 module _ (row : ℕ → Row) (room : ℕ) (s : List ℕ) (e : Edition) (deep spare : ℕ) where

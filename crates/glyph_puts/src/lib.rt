@@ -4,26 +4,17 @@
 // first n, and its values the words behind them.
 #![tactic(auto)]
 
-ghost use Rattle.std.specs.Prelude.{◌≡◌, true, [], ◌∷◌, ◌++◌, ◌+◌, ◌-◌, ◌*◌, ◌/◌, ◌≤◌, ◌<◌, length, take};
+ghost use Rattle.std.specs.Prelude.{◌≡◌, true, [], ◌∷◌, ◌++◌, ◌+◌, ◌-◌, ◌/◌, ◌≤◌, length};
 ghost use Rattle.draft.specs.Read.{text_of};
 ghost use Rattle.draft.specs.Table.{row_at};
 ghost use Rattle.sorting.specs.Sorting.{key_text};
 ghost use Rattle.glyph_form.specs.Form.{content_bytes};
 ghost use Rattle.glyph_output.specs.Contract.{Open, Adds};
 ghost use Rattle.glyph_rows.specs.Holding.{holds as holdsBy};
-ghost use Rattle.glyph_puts.specs.Contract.{Ready, Fit, Children, Members, Ranked, leaf_form, object_bytes, entries_bytes, pair_bytes, pairs_bytes, dict_bytes, ranked_bytes, Paired};
+ghost use Rattle.glyph_puts.specs.Contract.{Ready, Fit, Children, Members, leaf_form, object_bytes, entries_bytes, pair_bytes, pairs_bytes, dict_bytes, Paired};
 
 use draft::Row;
 use glyph::Edition;
-
-// The row behind the last of the object at row r.
-fn next_row(table: &[u32], room: usize, r: usize) -> usize
-    requires { (r < room) × (room ≤ 4096) × (room * 4 ≤ length table.now) }
-    ensures { result ≡ (row_at room table.now r).end }
-{
-    let row = table::get_row(table, room, r);
-    row.end as usize
-}
 
 // A letter and the text of a row.
 fn put_text(text: &[u8], row: Row, letter: u8, most: usize, at: usize, out: &mut [u8]) -> usize
@@ -39,8 +30,7 @@ fn put_leaf(text: &[u8], row: Row, most: usize, at: usize, out: &mut [u8]) -> us
     requires { (length text.now ≤ 65536) × Open most (length out.old) at }
     ensures { Adds (leaf_form text.now row) most out.old at out.new result }
 {
-    let kind = row.kind;
-    match kind {
+    match row.kind {
         4 => glyph_output::put_integer(out, most, at, row.a),
         5 => glyph_output::put_boolean(out, most, at, row.a),
         8 => put_text(text, row, b'b', most, at, out),
@@ -50,7 +40,7 @@ fn put_leaf(text: &[u8], row: Row, most: usize, at: usize, out: &mut [u8]) -> us
 }
 
 // n objects, one after the other.
-#[cycle(put_container_put_dict_put_entries_put_list_put_ordered_put_pair_put_pairs_put_ranked)]
+#[cycle(putting)]
 fn put_entries(
     edition: Edition,
     table: &[u32],
@@ -67,28 +57,24 @@ fn put_entries(
     requires { Ready room (length table.now) (length text.now) × Open most (length out.old) at × Children (row_at room table.now) room text.now edition deep (length order.old) n first }
     ensures { Adds (entries_bytes (row_at room table.now) text.now edition deep n first) most out.old at out.new result }
 {
-    let mut left = n;
     let mut here = first;
     let mut stop = at;
-    while 0 < left {
+    for _ in 0..n {
         let row = table::get_row(table, room, here);
-        if glyph_rows::holds(row.kind) {
-            stop = put_container(
+        stop = if glyph_rows::holds(row.kind) {
+            put_container(
                 edition, table, room, text, deep, row, here, order, most, stop, out,
-            );
-            here = row.end as usize;
-            left -= 1;
+            )
         } else {
-            stop = put_leaf(text, row, most, stop, out);
-            here = row.end as usize;
-            left -= 1;
-        }
+            put_leaf(text, row, most, stop, out)
+        };
+        here = row.end as usize;
     }
     stop
 }
 
 // A letter, n objects and `;`: a list, an extension or a node.
-#[cycle(put_container_put_dict_put_entries_put_list_put_ordered_put_pair_put_pairs_put_ranked)]
+#[cycle(putting)]
 fn put_list(
     edition: Edition,
     table: &[u32],
@@ -114,7 +100,7 @@ fn put_list(
 }
 
 // The pair of the key at row k.
-#[cycle(put_container_put_dict_put_entries_put_list_put_ordered_put_pair_put_pairs_put_ranked)]
+#[cycle(putting)]
 fn put_pair(
     edition: Edition,
     table: &[u32],
@@ -147,39 +133,8 @@ fn put_pair(
     )
 }
 
-// n pairs, as they stand, and `;`.
-#[cycle(put_container_put_dict_put_entries_put_list_put_ordered_put_pair_put_pairs_put_ranked)]
-fn put_pairs(
-    edition: Edition,
-    table: &[u32],
-    room: usize,
-    text: &[u8],
-    deep: usize,
-    n: usize,
-    first: usize,
-    order: &mut [u32],
-    most: usize,
-    at: usize,
-    out: &mut [u8],
-) -> usize
-    requires { Ready room (length table.now) (length text.now) × Open most (length out.old) at × Members (row_at room table.now) room text.now edition deep (length order.old) n first }
-    ensures { Adds (pairs_bytes (row_at room table.now) text.now edition deep n first ++ (59 ∷ [])) most out.old at out.new result }
-{
-    let mut left = n;
-    let mut here = first;
-    let mut stop = at;
-    while 0 < left {
-        stop = put_pair(
-            edition, table, room, text, deep, here, order, most, stop, out,
-        );
-        here = next_row(table, room, here + 1);
-        left -= 1;
-    }
-    glyph_output::put_byte(out, most, stop, b';')
-}
-
-// An ordered_dict.
-#[cycle(put_container_put_dict_put_entries_put_list_put_ordered_put_pair_put_pairs_put_ranked)]
+// An ordered_dict: its n pairs as they stand.
+#[cycle(putting)]
 fn put_ordered(
     edition: Edition,
     table: &[u32],
@@ -196,52 +151,19 @@ fn put_ordered(
     requires { Ready room (length table.now) (length text.now) × Open most (length out.old) at × Members (row_at room table.now) room text.now edition deep (length order.old) n first }
     ensures { Adds (79 ∷ (pairs_bytes (row_at room table.now) text.now edition deep n first ++ (59 ∷ []))) most out.old at out.new result }
 {
-    let start = glyph_output::put_byte(out, most, at, b'O');
-    put_pairs(
-        edition, table, room, text, deep, n, first, order, most, start, out,
-    )
-}
-
-// The pairs of the keys at the first n rows of `order`, and `;`.
-#[cycle(put_container_put_dict_put_entries_put_list_put_ordered_put_pair_put_pairs_put_ranked)]
-fn put_ranked(
-    edition: Edition,
-    table: &[u32],
-    room: usize,
-    text: &[u8],
-    deep: usize,
-    n: usize,
-    order: &mut [u32],
-    most: usize,
-    at: usize,
-    out: &mut [u8],
-) -> usize
-    requires { Ready room (length table.now) (length text.now) × Open most (length out.old) at × (n ≤ length order.old) × Ranked (row_at room table.now) room text.now edition deep (length order.old - n) (take n order.old) }
-    ensures { Adds (ranked_bytes (row_at room table.now) text.now edition deep (key_text room (row_at room table.now) text.now) (take n order.old) ++ (59 ∷ [])) most out.old at out.new result }
-{
-    let mut i = 0;
-    let mut stop = at;
-    while i < n {
-        let k = sorting::wide(order[i]);
+    let mut here = first;
+    let mut stop = glyph_output::put_byte(out, most, at, b'O');
+    for _ in 0..n {
         stop = put_pair(
-            edition,
-            table,
-            room,
-            text,
-            deep,
-            k,
-            &mut order[n..],
-            most,
-            stop,
-            out,
+            edition, table, room, text, deep, here, order, most, stop, out,
         );
-        i += 1;
+        here = table::get_row(table, room, here + 1).end as usize;
     }
     glyph_output::put_byte(out, most, stop, b';')
 }
 
-// A dict, in byte order of its keys.
-#[cycle(put_container_put_dict_put_entries_put_list_put_ordered_put_pair_put_pairs_put_ranked)]
+// A dict: its n pairs in byte order of their keys.
+#[cycle(putting)]
 fn put_dict(
     edition: Edition,
     table: &[u32],
@@ -259,12 +181,27 @@ fn put_dict(
     ensures { Adds (68 ∷ (dict_bytes (row_at room table.now) text.now edition deep n first ++ (59 ∷ []))) most out.old at out.new result }
 {
     key_order::arrange(table, room, text, n, first, most, order);
-    let start = glyph_output::put_byte(out, most, at, b'D');
-    put_ranked(edition, table, room, text, deep, n, order, most, start, out)
+    let mut stop = glyph_output::put_byte(out, most, at, b'D');
+    for i in 0..n {
+        let k = order[i] as usize;
+        stop = put_pair(
+            edition,
+            table,
+            room,
+            text,
+            deep,
+            k,
+            &mut order[n..],
+            most,
+            stop,
+            out,
+        );
+    }
+    glyph_output::put_byte(out, most, stop, b';')
 }
 
 // The object with children of row r.
-#[cycle(put_container_put_dict_put_entries_put_list_put_ordered_put_pair_put_pairs_put_ranked)]
+#[cycle(putting)]
 fn put_container(
     edition: Edition,
     table: &[u32],
@@ -284,79 +221,27 @@ fn put_container(
     if deep == 0 {
         return at;
     }
+    let deep = deep - 1;
     let n = row.b as usize;
-    let kind = row.kind;
-    match kind {
+    let first = r + 1;
+    match row.kind {
         9 => put_list(
-            edition,
-            table,
-            room,
-            text,
-            deep - 1,
-            b'L',
-            n,
-            r + 1,
-            order,
-            most,
-            at,
-            out,
+            edition, table, room, text, deep, b'L', n, first, order, most, at, out,
         ),
         10 => put_dict(
-            edition,
-            table,
-            room,
-            text,
-            deep - 1,
-            n,
-            r + 1,
-            order,
-            most,
-            at,
-            out,
+            edition, table, room, text, deep, n, first, order, most, at, out,
         ),
         14 => put_ordered(
-            edition,
-            table,
-            room,
-            text,
-            deep - 1,
-            n,
-            r + 1,
-            order,
-            most,
-            at,
-            out,
+            edition, table, room, text, deep, n, first, order, most, at, out,
         ),
         15 => {
             let letter = glyph_rows::extension_letter(edition);
             put_list(
-                edition,
-                table,
-                room,
-                text,
-                deep - 1,
-                letter,
-                3,
-                r + 1,
-                order,
-                most,
-                at,
-                out,
+                edition, table, room, text, deep, letter, 3, first, order, most, at, out,
             )
         }
         16 => put_list(
-            edition,
-            table,
-            room,
-            text,
-            deep - 1,
-            b'X',
-            3,
-            r + 1,
-            order,
-            most,
-            at,
-            out,
+            edition, table, room, text, deep, b'X', 3, first, order, most, at, out,
         ),
         _ => at,
     }

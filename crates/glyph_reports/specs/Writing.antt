@@ -1,10 +1,8 @@
 -- The numbers that writing a glyph message reports, as one record: documents 01's and 02's numbers. Assumes nothing.
-use Rattle.std.specs.Prelude.{ℕ}
+use Rattle.std.specs.Prelude.{ℕ, Ok, Err}
 use Rattle.draft.specs.Refusals.{number_of}
-use Rattle.glyph_form.specs.declared.Answer.{Answer}
-use Rattle.glyph_form.specs.declared.Answer.TheVariants.{Written, Refused}
-use Rattle.glyph_stations.specs.declared.WriteAnswer.{WriteAnswer}
-use Rattle.glyph_stations.specs.declared.WriteAnswer.TheVariants.{Answered, NotSplit}
+use Rattle.glyph_form.specs.Answers.{Answer}
+use Rattle.glyph_stations.specs.Answers.{WriteAnswer}
 
 -- 'place is 0 for the writer'
 pub record Report : Type 0 where
@@ -15,9 +13,9 @@ abbrev pub report : ℕ → ℕ → Report
 report number size = record { number = number; length = size }
 
 abbrev pub report_of : Answer → Report
-report_of (Written n) = report 0 n
-report_of (Refused refusal) = report (number_of refusal) 0
+report_of (Ok n) = report 0 n
+report_of (Err refusal) = report (number_of refusal) 0
 
 abbrev pub station_report_of : WriteAnswer → Report
-station_report_of (Answered a) = report_of a
-station_report_of NotSplit = report 22 0
+station_report_of (Ok a) = report_of a
+station_report_of (Err unsplit) = report 22 0

@@ -15,17 +15,17 @@ pub fn message(answer: Answer, rows: &mut u64, used: &mut u64, place: &mut u64) 
     ensures { report result rows.new used.new place.new ≡ report_of answer }
 {
     match answer {
-        Answer::Accepted { rows: n, used: m } => {
-            *rows = n as u64;
-            *used = m as u64;
+        Ok(accepted) => {
+            *rows = accepted.rows as u64;
+            *used = accepted.used as u64;
             *place = 0;
             0
         }
-        Answer::Refused { number, place: p } => {
+        Err(refused) => {
             *rows = 0;
             *used = 0;
-            *place = p as u64;
-            (number % 256) as u8
+            *place = refused.place as u64;
+            refused.refusal.into()
         }
     }
 }
@@ -35,12 +35,12 @@ pub fn station(answer: StationAnswer, rows: &mut u64, used: &mut u64, place: &mu
     ensures { report result rows.new used.new place.new ≡ station_report_of answer }
 {
     match answer {
-        StationAnswer::Answered(own) => message(own, rows, used, place),
-        StationAnswer::NotSplit => {
+        Ok(own) => message(own, rows, used, place),
+        Err(refusal) => {
             *rows = 0;
             *used = 0;
             *place = 0;
-            22
+            refusal.into()
         }
     }
 }

@@ -2,19 +2,19 @@
 ghost use Rattle.std.specs.Prelude.{◌≡◌};
 ghost use Rattle.glyph_reports.specs.Writing.{report, report_of, station_report_of};
 
-use glyph_form::Answer;
+use draft::Refusal;
 use glyph_stations::WriteAnswer;
 
 // Of a table.
-pub fn written(answer: Answer, size: &mut u64) -> u8
+pub fn written(answer: Result<usize, Refusal>, size: &mut u64) -> u8
     ensures { report result size.new ≡ report_of answer }
 {
     match answer {
-        Answer::Written { length: n } => {
+        Ok(n) => {
             *size = n as u64;
             0
         }
-        Answer::Refused(refusal) => {
+        Err(refusal) => {
             *size = 0;
             draft::number(refusal)
         }
@@ -26,8 +26,8 @@ pub fn station(answer: WriteAnswer, size: &mut u64) -> u8
     ensures { report result size.new ≡ station_report_of answer }
 {
     match answer {
-        WriteAnswer::Answered(own) => written(own, size),
-        WriteAnswer::NotSplit => {
+        Ok(own) => written(own, size),
+        Err(_) => {
             *size = 0;
             22
         }

@@ -5,8 +5,8 @@ use mathlib.Core.List.{List}
 use Prim.Native.Nat.{ℕ}
 use lib.Dec.{eqb}
 use borrow.Author.Tests.{eqb-true}
+use Rattle.std.proofs.Common.{None}
 use Rattle.text.proofs.Comparing.{clash}
-use Rattle.draft.specs.declared.Extent.TheVariants.{Unfit}
 use Rattle.draft.specs.declared.Row.{Row}
 use Rattle.glyph.specs.declared.Edition.{Edition}
 use Rattle.glyph.specs.declared.Edition.TheVariants.{New, Old}
@@ -43,10 +43,10 @@ container e k h = go (eqb k 9) refl (eqb k 10) refl (eqb k 14) refl (eqb k 15) r
     go false p false q false r false s false t h = clash h refl
 
 -- where nothing may nest there is none
-pub floor_none : (row : ℕ → Row) (rows : ℕ) (s : List ℕ) (e : Edition) (x : Row) (r : ℕ) → holds x.kind ≡ true → Unfit ≡ item row rows s (sort_of e x.kind) floor x r
+pub floor_none : (row : ℕ → Row) (rows : ℕ) (s : List ℕ) (e : Edition) (x : Row) (r : ℕ) → holds x.kind ≡ true → None ≡ item row rows s (sort_of e x.kind) floor x r
 floor_none row rows s e x r h = go (container e x.kind h)
   where
-    go : Container e x.kind → Unfit ≡ item row rows s (sort_of e x.kind) floor x r
+    go : Container e x.kind → None ≡ item row rows s (sort_of e x.kind) floor x r
     go (a_many l k q) = rw k
     go (a_three l k q) = rw k
     go (unknown k) = rw k

@@ -10,46 +10,34 @@ use draft::Row;
 use glyph::Edition;
 
 // Whether a kind is that of an object with children.
+#[tactic(auto, unfolding(crate::specs::Holding::holds))]
 pub fn holds(kind: u32) -> bool
     ensures { result ≡ holdsBy kind }
 {
-    match kind {
-        9 => true,
-        10 => true,
-        14 => true,
-        15 => true,
-        16 => true,
-        _ => false,
-    }
+    matches!(kind, 9 | 10 | 14 | 15 | 16)
 }
 
 // Whether a kind is a dict's or an ordered_dict's.
+#[tactic(auto, unfolding(crate::specs::Holding::is_dict))]
 pub fn is_dict(kind: u32) -> bool
     ensures { result ≡ is_dict kind }
 {
-    if kind == 10 {
-        return true;
-    }
-    kind == 14
+    kind == 10 || kind == 14
 }
 
 // Whether a unicode and either dict stand below row r, as an extension's name and attributes.
+#[tactic(auto, unfolding(crate::specs::Holding::named))]
 fn is_named(table: &[u32], room: usize, rows: usize, r: usize) -> bool
     requires { (r < rows) × (rows ≤ room) × (room ≤ 4096) × (room * 4 ≤ length table.now) }
     ensures { result ≡ named (row_at room table.now) rows r }
 {
-    if rows <= r + 2 {
-        return false;
-    }
-    let name = table::get_row(table, room, r + 1);
-    if name.kind == 11 {
-        let attributes = table::get_row(table, room, r + 2);
-        return is_dict(attributes.kind);
-    }
-    false
+    r + 2 < rows
+        && table::get_row(table, room, r + 1).kind == 11
+        && is_dict(table::get_row(table, room, r + 2).kind)
 }
 
 // Whether row r may hold what it says: any number of objects or pairs, but an extension a name, attributes and a content, and a node three objects.
+#[tactic(auto, unfolding(crate::specs::Holding::may_hold, glyph_form::specs::Sorts::sort_of))]
 pub fn may_hold(
     edition: Edition,
     table: &[u32],
@@ -61,21 +49,10 @@ pub fn may_hold(
     requires { (r < rows) × (rows ≤ room) × (room ≤ 4096) × (room * 4 ≤ length table.now) }
     ensures { result ≡ may_hold (row_at room table.now) rows edition row r }
 {
-    let kind = row.kind;
-    match kind {
-        9 => true,
-        10 => true,
-        14 => true,
-        15 => {
-            if row.b == 3 {
-                return is_named(table, room, rows, r);
-            }
-            false
-        }
-        16 => match edition {
-            Edition::New => false,
-            Edition::Old => row.b == 3,
-        },
+    match row.kind {
+        9 | 10 | 14 => true,
+        15 => row.b == 3 && is_named(table, room, rows, r),
+        16 => matches!(edition, Edition::Old) && row.b == 3,
         _ => false,
     }
 }

@@ -1,20 +1,16 @@
 -- What answers each return of the functions that judge a whole table. Assumes nothing.
 use mathlib.Core.Path.{◌≡◌, refl, ◌∙◌}
-use mathlib.Core.Bool.{false}
+use mathlib.Core.Bool.{Bool, false}
 use mathlib.Core.List.{List}
-use Prim.Native.Nat.{ℕ, zero, suc, ◌*◌, ◌≤◌, ◌<◌}
+use Prim.Native.Nat.{ℕ, ◌*◌, ◌≤◌, ◌<◌}
 use native.Mathlib.Omega.{arith}
-use native.Mathlib.Nat.{mul-le-mul_right}
-use mir.Syntax.{w64}
-use mir.Val.{Fits}
 use lib.ListN.{length, replicate}
-use lib.Dec.{eqb}
-use borrow.Author.Tests.{le-leb, lt-leb, ne_eqb}
-use Rattle.draft.specs.declared.Row.{Row}
+use borrow.Author.Tests.{le-leb, lt-leb}
+use Rattle.std.proofs.Common.{Option, Some, None, nat_eq}
+use Rattle.std.specs.Option.{option_eq}
 use Rattle.draft.specs.Table.{room_of, row_at}
 use Rattle.draft.specs.Writable.{wholly}
-use Rattle.row_ends.specs.Ends.{extent_of}
-use Rattle.extents.specs.Asked.{Ready, Checked, Walkable}
+use Rattle.extents.specs.Asked.{Ready, Walkable}
 use Rattle.keys.proofs.Keeping.{noted_blank}
 use Rattle.key_rows.specs.Contract.{Entries}
 use Rattle.glyph.specs.declared.Edition.{Edition}
@@ -27,9 +23,9 @@ pub blank_met : {s : List ℕ} {room rows : ℕ} {T : List ℕ} {good : ℕ} (r 
 blank_met r a b e = record { ready = a.ready; checked = a.checked; entries = b; noted = noted_blank e }
 
 -- where an object ends, as against the stated rows
-wholly_is : (n : ℕ) {rows : ℕ} → 1 ≤ rows → eqb n rows ≡ wholly rows (extent_of n)
-wholly_is zero {rows} h = ne_eqb 0 rows (λ e. omega arith)
-wholly_is (suc n) h = refl
+wholly_is : (o : Option ℕ) (rows : ℕ) → option_eq nat_eq o (Some rows) ≡ wholly rows o
+wholly_is None rows = refl
+wholly_is (Some n) rows = refl
 
 -- the whole table
 module _ (e : Edition) (deep : ℕ) (T : List ℕ) (rows : ℕ) (s : List ℕ) where
@@ -38,32 +34,26 @@ module _ (e : Edition) (deep : ℕ) (T : List ℕ) (rows : ℕ) (s : List ℕ) w
   table_long h = rw (lt-leb _ _ h)
 
   module _ (h : length s ≤ 65536) where
-    pub table_empty : rows < 1 → false ≡ writable e deep T rows s
+    pub table_empty : rows ≡ 0 → false ≡ writable e deep T rows s
     unfolding writable writable_within
-    table_empty i = rw (le-leb _ _ h, lt-leb 1 rows i)
+    table_empty i = rw (le-leb _ _ h, i)
 
-    module _ (i : 1 ≤ rows) where
+    module _ (n : rows ≡ 0 → ⊥) where
+      some_rows : 1 ≤ rows
+      some_rows = omega arith
+
       pub table_many : 4096 < rows → false ≡ writable e deep T rows s
       unfolding writable writable_within
-      table_many j = rw (le-leb _ _ h, le-leb 1 rows i, lt-leb rows 4096 j)
+      table_many j = rw (le-leb _ _ h, le-leb 1 rows some_rows, lt-leb rows 4096 j)
 
       module _ (j : rows ≤ 4096) where
         pub table_short : length T < rows * 4 → false ≡ writable e deep T rows s
         unfolding writable writable_within
-        table_short k = rw (le-leb _ _ h, le-leb 1 rows i, le-leb rows 4096 j, lt-leb (rows * 4) (length T) k)
+        table_short k = rw (le-leb _ _ h, le-leb 1 rows some_rows, le-leb rows 4096 j, lt-leb (rows * 4) (length T) k)
 
-        pub table_walked : (n : ℕ) {room : ℕ} → rows * 4 ≤ length T → room ≡ room_of 4096 (length T) → extent_of n ≡ object (row_at room T) rows s e deep Any 0 → eqb n rows ≡ writable e deep T rows s
+        pub table_walked : {o : Option ℕ} {room : ℕ} {b : Bool} → rows * 4 ≤ length T → room ≡ room_of 4096 (length T) → o ≡ object (row_at room T) rows s e deep Any 0 → b ≡ option_eq nat_eq o (Some rows) → b ≡ writable e deep T rows s
         unfolding writable writable_within
-        table_walked n k l m = wholly_is n (omega arith) ∙ rw (le-leb _ _ h, le-leb 1 rows i, le-leb rows 4096 j, le-leb (rows * 4) (length T) k, m, l)
-
--- no row's texts were checked before
-pub checked_none : {row : ℕ → Row} {s : List ℕ} → Checked row s 0
-checked_none = record { fine = λ r h. absurd (omega arith) }
-
-pub all_bytes : {rows room words : ℕ} (n : ℕ) → Ready rows room words → n ≤ 65536 → Fits w64 (rows * n)
-all_bytes {rows} n h l =
-    let m : rows * n ≤ 4096 * n = mul-le-mul_right n (omega (arith, h.stated, h.most)) in
-    omega arith
+        table_walked {o} k l m f = f ∙ wholly_is o rows ∙ rw (le-leb _ _ h, le-leb 1 rows some_rows, le-leb rows 4096 j, le-leb (rows * 4) (length T) k, m, l)
 
 pub ready_table : {rows room : ℕ} (words : ℕ) → rows ≤ 4096 → rows * 4 ≤ words → room ≡ room_of 4096 words → Ready rows room words
 ready_table words h i e = record { stated = omega (arith, e); most = omega (arith, e); table = omega (arith, e) }
@@ -72,4 +62,4 @@ ready_table words h i e = record { stated = omega (arith, e); most = omega (arit
 pub rows_few : {rows room words : ℕ} → Ready rows room words → rows ≤ 4096
 rows_few h = omega (arith, h.stated, h.most)
 
-pub ruleset whole = (blank_met, rows_few, table_long, table_empty, table_many, table_short, table_walked, ready_table, checked_none, all_bytes)
+pub ruleset whole = (blank_met, rows_few, table_long, table_empty, table_many, table_short, table_walked, ready_table)

@@ -8,24 +8,20 @@ use mathlib.Core.List.{List}
 use Prim.Native.Nat.{ℕ, ◌*◌, ◌/◌, ◌≤◌}
 use native.Mathlib.Omega.{arith}
 use lib.ListN.{length, drop, replicate}
+use Rattle.std.proofs.Common.{Ok, Err}
 use Rattle.draft.specs.declared.Refusal.TheVariants.{NoLimit}
 use Rattle.draft.specs.Limits.{allowed}
 use Rattle.shares.specs.declared.Station.{Station}
-use Rattle.shares.specs.Share.{other, splits, size_of, share_of}
+use Rattle.shares.specs.Share.{no_share, other, splits, size_of, share_of}
 use Rattle.shares.proofs.Lent.{below}
 use Rattle.shares.proofs.Sharing as sharing
 use Rattle.glyph.specs.declared.Edition.{Edition}
-use Rattle.glyph.specs.declared.Answer.TheVariants as answer
-use Rattle.glyph.specs.Answers.{reading, answer_of}
-use Rattle.glyph_form.specs.declared.Answer.TheVariants as unwritten
+use Rattle.glyph.specs.declared.Refusal.TheVariants.{BadLimit}
+use Rattle.glyph.specs.Answers.{reading, answer_of, refused_as}
 use Rattle.glyph_form.specs.Answers as writer
 use Rattle.glyph_demands.specs.Answered.{rows_in, Columns}
 use Rattle.glyph_demands.proofs.Settled as whole-table
-use Rattle.glyph_stations.specs.declared.StationAnswer.{StationAnswer}
-use Rattle.glyph_stations.specs.declared.StationAnswer.TheVariants.{Answered, NotSplit}
-use Rattle.glyph_stations.specs.declared.WriteAnswer.{WriteAnswer}
-use Rattle.glyph_stations.specs.declared.WriteAnswer.TheVariants as write
-use Rattle.glyph_stations.specs.Answers.{read_answer, read_words, ReadFor, write_answer, written_bytes, WroteFor}
+use Rattle.glyph_stations.specs.Answers.{StationAnswer, read_answer, read_words, ReadFor, write_answer, written_bytes, WroteFor, WriteAnswer}
 use Rattle.glyph_shares.specs.Own.{OwnRead, OwnWrite, LastingFor}
 
 -- a share keeps its length
@@ -37,19 +33,19 @@ keeps e limit s W = whole-table.whole e limit s (length W) (record { says = refl
 
 module _ {e : Edition} {limit : ℕ} {s : List ℕ} {station : Station} {split : ℕ} {T T' : List ℕ} {a : StationAnswer} (d : ReadFor e limit s station split T T' a) where
   -- 22 is told exactly if the row does not split the table.
-  pub told_exactly : (a ≡ NotSplit) ↔ (splits split (length T) ≡ false)
+  pub told_exactly : (a ≡ (Err no_share)) ↔ (splits split (length T) ≡ false)
   unfolding read_answer
-  told_exactly = (λ i. go (splits split (length T)) refl i, λ h. d.says ∙ sharing.unsplit_told station split T (read_answer e limit s) NotSplit h)
+  told_exactly = (λ i. go (splits split (length T)) refl i, λ h. d.says ∙ sharing.unsplit_told station split T (read_answer e limit s) (Err no_share) h)
     where
-      go : (b : Bool) → splits split (length T) ≡ b → a ≡ NotSplit → splits split (length T) ≡ false
+      go : (b : Bool) → splits split (length T) ≡ b → a ≡ (Err no_share) → splits split (length T) ≡ false
       go true ok i =
-          let j : Answered (answer_of (reading e limit s (length (share_of station split T)))) ≡ NotSplit = sym (sharing.given_there station split T ok (read_answer e limit s) NotSplit) ∙ sym d.says ∙ i in
+          let j : Ok (answer_of (reading e limit s (length (share_of station split T)))) ≡ (Err no_share) = sym (sharing.given_there station split T ok (read_answer e limit s) (Err no_share)) ∙ sym d.says ∙ i in
           let z : ◌≡◌ {A = ℕ} 0 1 = cc in
           absurd (omega arith)
       go false h i = h
 
   -- Then no word of the table is changed.
-  pub nothing_changed : a ≡ NotSplit → T' ≡ T
+  pub nothing_changed : a ≡ (Err no_share) → T' ≡ T
   nothing_changed i = d.leaves ∙ sharing.unsplit_words station split T (read_words e limit s) (told_exactly.0 i)
 
   -- OTHER'S. No word of the other station's share is changed.
@@ -70,19 +66,19 @@ module _ {e : Edition} {limit : ℕ} {s : List ℕ} {station : Station} {split :
       go false h = ap (drop (length T / 4 * 4)) (d.leaves ∙ sharing.unsplit_words station split T (read_words e limit s) h)
 
 module _ {e : Edition} {limit : ℕ} {T : List ℕ} {station : Station} {split rows : ℕ} {s out out' : List ℕ} {a : WriteAnswer} (d : WroteFor e limit T station split rows s out out' a) where
-  pub write_told_exactly : (a ≡ write.NotSplit) ↔ (splits split (length T) ≡ false)
+  pub write_told_exactly : (a ≡ (Err no_share)) ↔ (splits split (length T) ≡ false)
   unfolding write_answer
-  write_told_exactly = (λ i. go (splits split (length T)) refl i, λ h. d.says ∙ sharing.unsplit_told station split T (write_answer e limit rows s (length out)) write.NotSplit h)
+  write_told_exactly = (λ i. go (splits split (length T)) refl i, λ h. d.says ∙ sharing.unsplit_told station split T (write_answer e limit rows s (length out)) (Err no_share) h)
     where
-      go : (b : Bool) → splits split (length T) ≡ b → a ≡ write.NotSplit → splits split (length T) ≡ false
+      go : (b : Bool) → splits split (length T) ≡ b → a ≡ (Err no_share) → splits split (length T) ≡ false
       go true ok i =
-          let j : write.Answered (writer.answer_of e limit (share_of station split T) rows s (length out)) ≡ write.NotSplit = sym (sharing.given_there station split T ok (write_answer e limit rows s (length out)) write.NotSplit) ∙ sym d.says ∙ i in
+          let j : Ok (writer.answer_of e limit (share_of station split T) rows s (length out)) ≡ (Err no_share) = sym (sharing.given_there station split T ok (write_answer e limit rows s (length out)) (Err no_share)) ∙ sym d.says ∙ i in
           let z : ◌≡◌ {A = ℕ} 0 1 = cc in
           absurd (omega arith)
       go false h i = h
 
   -- Then no byte of the output is changed.
-  pub no_byte_changed : a ≡ write.NotSplit → out' ≡ out
+  pub no_byte_changed : a ≡ (Err no_share) → out' ≡ out
   no_byte_changed i = d.leaves ∙ sharing.unsplit_told station split T (written_bytes e limit rows s (length out)) out (write_told_exactly.0 i)
 
 -- ---- the share
@@ -98,7 +94,7 @@ module _ (station : Station) (split : ℕ) (T : List ℕ) (ok : splits split (le
       let n : length (share_of station split T) ≡ size_of station split (length T) = sharing.share_size station split T ok in
       record {
         own = answer_of (reading e limit s (size_of station split (length T)));
-        is = d.says ∙ sharing.given_there station split T ok (read_answer e limit s) NotSplit ∙ rw n;
+        is = d.says ∙ sharing.given_there station split T ok (read_answer e limit s) (Err no_share) ∙ rw n;
         did =
             record {
               says = refl;
@@ -115,7 +111,7 @@ module _ (station : Station) (split : ℕ) (T : List ℕ) (ok : splits split (le
   own_write rows s out d =
       record {
         own = writer.answer_of e limit (share_of station split T) rows s (length out);
-        is = d.says ∙ sharing.given_there station split T ok (write_answer e limit rows s (length out)) write.NotSplit;
+        is = d.says ∙ sharing.given_there station split T ok (write_answer e limit rows s (length out)) (Err no_share);
         did = record { says = refl; leaves = d.leaves ∙ sharing.given_there station split T ok (written_bytes e limit rows s (length out)) out };
       }
 
@@ -129,7 +125,7 @@ read_alike station other-station split other-split T U ok ok' size e limit s c d
     let x = own_read station split T ok e limit s c in
     let y = rw (← size) at (own_read other-station other-split U ok' e limit s d) in
     let z = whole-table.settled e limit s (size_of station split (length T)) x.did y.did in
-    (x.is ∙ ap Answered z.0 ∙ sym y.is, z.1)
+    (x.is ∙ ap Ok z.0 ∙ sym y.is, z.1)
 
 -- Answer and output depend on the edition, the limit, the share's words, the stated rows, the text bytes and the output's length.
 pub write_alike :
@@ -141,7 +137,7 @@ write_alike station other-station split other-split T U ok ok' same e limit rows
     let x = own_write station split T ok e limit rows s out₀ c in
     let y = own_write other-station other-split U ok' e limit rows s out₁ d in
     let i : x.own ≡ y.own = x.did.says ∙ rw (same, size) (sym y.did.says) in
-    (x.is ∙ ap write.Answered i ∙ sym y.is, x.did.leaves ∙ rw (i, same, size) (sym y.did.leaves))
+    (x.is ∙ ap Ok i ∙ sym y.is, x.did.leaves ∙ rw (i, same, size) (sym y.did.leaves))
 
 -- COLUMNS (E12) and GROWTH (E11) in a share: word j of its row r stands at its own room times j plus r, and its spare words are zero; and an answer
 -- other than 8, 9, 22 and 23 stays under a higher limit and in a larger share, with its place and rows, the added words being zero.
@@ -160,23 +156,23 @@ share_stays here there split split' T U ok ok' e s {limit} {later} higher most l
     let x = own_read here split T ok e limit s c in
     let y = own_read there split' U ok' e later s d in
     let z = whole-table.stays e s higher most larger x.did y.did (rw x.is at l) in
-    (y.is ∙ ap Answered z.0 ∙ sym x.is, z.1)
+    (y.is ∙ ap Ok z.0 ∙ sym x.is, z.1)
 
 -- 23: the share, or the output, is zeros.
 module _ (station : Station) (split : ℕ) (T : List ℕ) (ok : splits split (length T) ≡ true) (e : Edition) {limit : ℕ} (h : allowed limit ≡ false) where
   pub read_unlimited :
       (s : List ℕ) {T' : List ℕ} {a : StationAnswer} → ReadFor e limit s station split T T' a
-      → (a ≡ Answered (answer.Refused 23 0)) × (share_of station split T' ≡ replicate (size_of station split (length T)) 0)
+      → (a ≡ Ok (refused_as BadLimit 0)) × (share_of station split T' ≡ replicate (size_of station split (length T)) 0)
   read_unlimited s d =
       let x = own_read station split T ok e limit s d in
       let z = whole-table.unlimited e limit s (size_of station split (length T)) h x.did in
-      (x.is ∙ ap Answered z.0, z.1)
+      (x.is ∙ ap Ok z.0, z.1)
 
   pub write_unlimited :
       (rows : ℕ) (s out : List ℕ) {out' : List ℕ} {a : WriteAnswer} → WroteFor e limit T station split rows s out out' a
-      → (a ≡ write.Answered (unwritten.Refused NoLimit)) × (out' ≡ replicate (length out) 0)
+      → (a ≡ Ok (Err NoLimit)) × (out' ≡ replicate (length out) 0)
   unfolding writer.answer_of
   write_unlimited rows s out d =
       let x = own_write station split T ok e limit rows s out d in
-      let i : x.own ≡ unwritten.Refused NoLimit = x.did.says ∙ rw h in
-      (x.is ∙ ap write.Answered i, x.did.leaves ∙ rw i)
+      let i : x.own ≡ Err NoLimit = x.did.says ∙ rw h in
+      (x.is ∙ ap Ok i, x.did.leaves ∙ rw i)

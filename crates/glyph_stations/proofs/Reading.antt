@@ -1,35 +1,30 @@
 -- What answers each return of the function that reads a glyph message for a station. Assumes nothing.
-use mathlib.Core.Path.{◌≡◌, ap}
-use mathlib.Core.List.{List, ◌++◌}
-use Prim.Native.Nat.{ℕ, ◌-◌}
-use lib.ListN.{length, take, drop}
+use Rattle.std.proofs.Common.{◌≡◌, ◌∙◌, ap, Result, Ok, Err, List, ◌++◌, ℕ, ◌-◌, length, take, drop}
+use Rattle.std.specs.declared.ops.Range.{Range}
 use Rattle.shares.specs.declared.Station.{Station}
-use Rattle.shares.specs.declared.Share.{Share}
-use Rattle.shares.specs.declared.Share.TheVariants as share
-use Rattle.shares.specs.Share.{share_for}
+use Rattle.shares.specs.declared.NotSplit.{NotSplit}
+use Rattle.shares.specs.Share.{no_share, share_for}
 use Rattle.shares.proofs.Lent.{lending, lent_answer, lent_table, unlent_answer, unlent_table}
 use Rattle.glyph.specs.declared.Edition.{Edition}
-use Rattle.glyph.specs.declared.Answer.{Answer}
-use Rattle.glyph.specs.Answers.{reading, Answers}
-use Rattle.glyph_stations.specs.declared.StationAnswer.TheVariants.{Answered, NotSplit}
+use Rattle.glyph.specs.Answers.{Answer, reading, Answers}
 use Rattle.glyph_stations.specs.Answers.{read_answer, read_words, ReadFor}
 
-module _ (station : Station) (split : ℕ) (T : List ℕ) {found : Share} (i : found ≡ share_for (length T) split station) (e : Edition) (limit : ℕ) (s : List ℕ) where
+module _ (station : Station) (split : ℕ) (T : List ℕ) {share : Result (Range ℕ) NotSplit} (i : share ≡ share_for (length T) split station) where
   pub read_there :
-      {first end : ℕ} → found ≡ share.Words first end → {X : List ℕ} {a : Answer}
-      → Answers (reading e limit s (length (take (end - first) (drop first T)))) (length (take (end - first) (drop first T))) X a
-      → ReadFor e limit s station split T (take first T ++ (X ++ drop (end - first) (drop first T))) (Answered a)
+      {part : Range ℕ} → share ≡ Ok part → {X : List ℕ} (e : Edition) (limit : ℕ) (s : List ℕ) {a : Answer}
+      → Answers (reading e limit s (length (take (part.end - part.start) (drop part.start T)))) (length (take (part.end - part.start) (drop part.start T))) X a
+      → ReadFor e limit s station split T (take part.start T ++ (X ++ drop (part.end - part.start) (drop part.start T))) (Ok a)
   unfolding read_answer read_words
-  read_there f d =
+  read_there f e limit s d =
       record {
-        says = lent_answer split station T i f (read_answer e limit s) _ (ap Answered d.says);
+        says = lent_answer split station T i f (read_answer e limit s) _ (ap Ok d.says);
         leaves = lent_table split station T i f (read_words e limit s) d.leaves;
       }
 
-  pub read_nowhere : found ≡ share.NotSplit → ReadFor e limit s station split T T NotSplit
-  read_nowhere f =
+  pub read_nowhere : {why : NotSplit} → share ≡ Err why → {a : Result Answer NotSplit} → a ≡ Err why → (e : Edition) (limit : ℕ) (s : List ℕ) → ReadFor e limit s station split T T a
+  read_nowhere f z e limit s =
       record {
-        says = unlent_answer split station T i f (read_answer e limit s) NotSplit;
+        says = z ∙ unlent_answer split station T i f (read_answer e limit s) (Err no_share);
         leaves = unlent_table split station T i f (read_words e limit s);
       }
 

@@ -11,13 +11,14 @@ use Rattle.text.specs.Utf8.{well_formed}
 use Rattle.draft.specs.Bytes.{part}
 use Rattle.draft.specs.Rows.{row}
 use Rattle.draft.specs.Table.{set_row}
-use Rattle.item.specs.declared.Step.{Step}
-use Rattle.item.specs.Contract.{read_to, Fitting}
+use Rattle.std.specs.Prelude.{Ok}
+use Rattle.item.specs.declared.Reached.{Reached}
+use Rattle.item.specs.Contract.{reached, Fitting}
 use Rattle.glyph.specs.declared.Refusal.TheVariants.{Ended, UnexpectedByte, BadText}
 use Rattle.glyph.specs.Numbers.{digits}
 use Rattle.glyph.specs.Read.{opened, content, lengthened, text, text_kind, good_text}
 use Rattle.glyph_bytes.specs.Places.{Open, Counted}
-use Rattle.glyph_item.specs.Contract.{refused_at, Did}
+use Rattle.glyph_item.specs.Contract.{Step, refused_at, Did}
 use Rattle.glyph_item.proofs.Readings.{done, did_no, leaf_got, opened_full, opened_on}
 use Rattle.glyph_integers.specs.Signs.{Slots}
 use Rattle.glyph_integers.proofs.Numbers.{numbered_cut, numbered_none, numbered_wrong, numbered_on}
@@ -27,14 +28,6 @@ pub slots : {at row room bytes words : ℕ} → Fitting at row room bytes words 
 slots f h = record { left = h; rows = f.rows; table = f.table; message = f.message }
 
 -- content
-pub good_text_lem : (u : Bool) (t : List ℕ) {b : Bool} → u ≡ true → b ≡ well_formed t → b ≡ good_text u t
-unfolding good_text
-good_text_lem u t e h = rw e h
-
-pub good_bytes : (u : Bool) (t : List ℕ) → u ≡ false → true ≡ good_text u t
-unfolding good_text
-good_bytes u t e = rw e
-
 module _ (s : List ℕ) (u : Bool) (o n at : ℕ) {room r : ℕ} {T T' : List ℕ} {step : Step} where
   pub content_cut : length s ≤ o + n → step ≡ refused_at Ended at → Did (content s u o n at r) (length s) room (at + 1) r T T' step
   unfolding content
@@ -49,10 +42,10 @@ module _ (s : List ℕ) (u : Bool) (o n at : ℕ) {room r : ℕ} {T T' : List �
     unfolding content
     content_bad k f g e = did_no BadText e (simp (lt-ltb _ _ h, eq-eqb _ _ k) (rw (← f, g)))
 
-    pub content_got : {b : Bool} {k words : ℕ} → get_or s (o + n) 0 ≡ 59 → b ≡ good_text u (part s o n) → b ≡ true → k ≡ text_kind u → step ≡ read_to (o + n + 1) (r + 1) → T' ≡ set_row room T r (row k o n (r + 1)) → at < o → Slots r room (length s) words → Did (content s u o n at r) (length s) room (at + 1) r T T' step
-    unfolding content
-    content_got k f g q e w l z =
-        done (simp (lt-ltb _ _ h, eq-eqb _ _ k) (rw (← f, g, ← q))) (leaf_got e w (omega arith) (omega arith) z.left)
+pub content_got : (s : List ℕ) (u : Bool) (o n at : ℕ) {room r : ℕ} {T T' : List ℕ} → o + n < length s → {b : Bool} {k words : ℕ} {x : Reached} → get_or s (o + n) 0 ≡ 59 → b ≡ good_text u (part s o n) → b ≡ true → k ≡ text_kind u → x ≡ reached (o + n + 1) (r + 1) → T' ≡ set_row room T r (row k o n (r + 1)) → at < o → Slots r room (length s) words → Did (content s u o n at r) (length s) room (at + 1) r T T' (Ok x)
+unfolding content
+content_got s u o n at h k f g q e w l z =
+    done (simp (lt-ltb _ _ h, eq-eqb _ _ k) (rw (← f, g, ← q))) (leaf_got e w (omega arith) (omega arith) z.left)
 
 -- content of a length that was cut: both are past the end
 cut_content : (s : List ℕ) (u : Bool) (o at r v n : ℕ) → v ≡ min n 2147483649 → length s ≤ 65536 → content s u o n at r ≡ content s u o v at r
@@ -94,11 +87,11 @@ module _ (s : List ℕ) (u : Bool) (at : ℕ) {room r : ℕ} {T T' : List ℕ} {
   unfolding text
   text_on x y d = done (rw (x.on y)) d
 
-  pub text_empty : {k words : ℕ} → Open s (at + 1) b → b ≡ false → k ≡ text_kind u → step ≡ read_to (at + 2) (r + 1) → T' ≡ set_row room T r (row k (at + 1) 0 (r + 1)) → Slots r room (length s) words → Did (text s u at r) (length s) room (at + 1) r T T' step
-  unfolding text
-  text_empty x y q e w z = let t = x.there y in done (rw (x.ends y, ← q)) (leaf_got e w (omega arith) (omega arith) z.left)
+pub text_empty : (s : List ℕ) (u : Bool) (at : ℕ) {room r : ℕ} {T T' : List ℕ} {b : Bool} {k words : ℕ} {x : Reached} → Open s (at + 1) b → b ≡ false → k ≡ text_kind u → x ≡ reached (at + 2) (r + 1) → T' ≡ set_row room T r (row k (at + 1) 0 (r + 1)) → Slots r room (length s) words → Did (text s u at r) (length s) room (at + 1) r T T' (Ok x)
+unfolding text
+text_empty s u at x y q e w z = let t = x.there y in done (rw (x.ends y, ← q)) (leaf_got e w (omega arith) (omega arith) z.left)
 
 pub unicode_on : (s : List ℕ) (at : ℕ) {room r : ℕ} {T T' : List ℕ} {step : Step} → r < room → Did (text s true at r) (length s) room (at + 1) r T T' step → Did (opened room at r (text s true at r)) (length s) room (at + 1) r T T' step
 unicode_on s at h d = opened_on at _ h d
 
-pub ruleset texts = (unicode_on, slots, good_text_lem, good_bytes, content_cut, content_wrong, content_bad, content_got, length_cut, length_none, length_wrong, length_on, value_small, after_digits, text_on, text_empty, opened_full)
+pub ruleset texts = (unicode_on, slots, content_cut, content_wrong, content_bad, content_got, length_cut, length_none, length_wrong, length_on, value_small, after_digits, text_on, text_empty, opened_full)

@@ -12,7 +12,8 @@ ghost use Rattle.glyph_integers.specs.Signs.{Slots};
 ghost use Rattle.glyph_texts.specs.Plain.{Plain};
 
 use glyph::Refusal;
-use item::Step;
+use glyph_bytes::Digits;
+use glyph_item::Step;
 
 // Whether the n bytes at o are below 128, so far as a look at sixteen bytes tells: at the eight before their end, and at their first eight if
 // they are more. Of fewer than eight some that stand before them are looked at too.
@@ -38,21 +39,16 @@ fn is_text(s: &[u8], o: usize, n: usize) -> bool
     requires { o + n ≤ length s.now }
     ensures { result ≡ well_formed (part s.now o n) }
 {
-    if is_plain(s, o, n) {
-        return true;
-    }
-    text_check::walk_from(content::part(s, o, n), 0)
+    is_plain(s, o, n) || text_check::walk_from(content::part(s, o, n), 0)
 }
 
 // Whether content, the n bytes at o, is well-formed: a bytearray's always is.
+#[tactic(auto, unfolding(glyph::specs::Read::good_text))]
 fn is_good(unicode: bool, s: &[u8], o: usize, n: usize) -> bool
     requires { o + n ≤ length s.now }
     ensures { result ≡ good_text unicode (part s.now o n) }
 {
-    if unicode {
-        return is_text(s, o, n);
-    }
-    true
+    !unicode || is_text(s, o, n)
 }
 
 fn text_kind(unicode: bool) -> u32
@@ -77,24 +73,16 @@ fn read_content(
 {
     let end = o + n;
     if s.len() <= end {
-        return glyph_item::refuse(Refusal::Ended, at);
+        return item::refuse(Refusal::Ended, at);
     }
     if s[end] != b';' {
-        return glyph_item::refuse(Refusal::UnexpectedByte, at);
+        return item::refuse(Refusal::UnexpectedByte, at);
     }
-    if is_good(unicode, s, o, n) {
-        item::put_leaf(
-            row,
-            end + 1,
-            text_kind(unicode),
-            o as u32,
-            n as u32,
-            room,
-            table,
-        )
-    } else {
-        glyph_item::refuse(Refusal::BadText, at)
+    if !is_good(unicode, s, o, n) {
+        return item::refuse(Refusal::BadText, at);
     }
+    let kind = text_kind(unicode);
+    Ok(item::put_leaf(row, end + 1, kind, o as u32, n as u32, room, table))
 }
 
 // A length, `:` and the content.
@@ -109,18 +97,14 @@ fn read_lengthened(
     requires { (at < length s.now) × Slots row room (length s.now) (length table.old) }
     ensures { Did (lengthened s.now unicode at row) (length s.now) room (at + 1) row table.old table.new result }
 {
-    let number = glyph_bytes::count(s, at + 1);
-    let end = number.end;
+    let Digits { end, value } = glyph_bytes::count(s, at + 1);
     if s.len() <= end {
-        return glyph_item::refuse(Refusal::Ended, at);
+        return item::refuse(Refusal::Ended, at);
     }
-    if end <= at + 1 {
-        return glyph_item::refuse(Refusal::UnexpectedByte, at);
+    if end <= at + 1 || s[end] != b':' {
+        return item::refuse(Refusal::UnexpectedByte, at);
     }
-    if s[end] != b':' {
-        return glyph_item::refuse(Refusal::UnexpectedByte, at);
-    }
-    read_content(s, at, row, unicode, end + 1, number.value, room, table)
+    read_content(s, at, row, unicode, end + 1, value, room, table)
 }
 
 // A letter and `;`, or a letter, a length, `:`, the content and `;`.
@@ -139,7 +123,8 @@ pub fn read_text(
         return read_lengthened(s, at, row, unicode, room, table);
     }
     let o = at + 1;
-    item::put_leaf(row, at + 2, text_kind(unicode), o as u32, 0, room, table)
+    let kind = text_kind(unicode);
+    Ok(item::put_leaf(row, at + 2, kind, o as u32, 0, room, table))
 }
 
 // The unicode at `at`, whose letter has been seen.
@@ -148,7 +133,7 @@ pub fn read_unicode(s: &[u8], at: usize, row: usize, room: usize, table: &mut [u
     ensures { Did (opened room at row (text s.now true at row)) (length s.now) room (at + 1) row table.old table.new result }
 {
     if room <= row {
-        return glyph_item::refuse(Refusal::NoRow, at);
+        return item::refuse(Refusal::NoRow, at);
     }
     read_text(s, at, row, true, room, table)
 }

@@ -7,9 +7,9 @@ use native.Mathlib.Omega.{arith}
 use lib.Dec.{leb}
 use lib.ListN.{length}
 use borrow.Author.Tests.{leb-true, le-leb, eq-eqb}
+use Rattle.std.proofs.Common.{Some}
 use Rattle.text.proofs.Comparing.{both}
 use Rattle.draft.specs.declared.Row.{Row}
-use Rattle.draft.specs.declared.Extent.TheVariants.{Until}
 use Rattle.draft.specs.Table.{room_of, row_at}
 use Rattle.draft.specs.Meaning.{Realises}
 use Rattle.draft.specs.Written.{rows_of}
@@ -40,7 +40,7 @@ unfolding rows_of
 rows_length T rows = from_length (row_in T) 0 rows
 
 module _ (e : Edition) (limit : ℕ) (T : List ℕ) (rows : ℕ) (s : List ℕ) where
-  tests : writable e limit T rows s ≡ true → Within 65536 4096 T rows s × (object (row_in T) rows s e limit Any 0 ≡ Until rows)
+  tests : writable e limit T rows s ≡ true → Within 65536 4096 T rows s × (object (row_in T) rows s e limit Any 0 ≡ Some rows)
   unfolding writable writable_within
   tests h =
       let f = both (leb (length s) 65536) _ h in
@@ -83,6 +83,6 @@ module _ (e : Edition) (limit : ℕ) (T : List ℕ) (rows : ℕ) (s : List ℕ) 
   unfolding writable writable_within rows_of
   realised_writable {t = t} w o m =
       let n : length (cells t) ≡ rows = sym (counts m) ∙ rows_length T rows in
-      let g : object (row_in T) rows s e limit Any 0 ≡ Until (0 + length (cells t)) = (fits (row_in T) rows s o any).walks 0 (realises_stands rows m) (omega (arith, n)) in
-      let i : object (row_in T) rows s e limit Any 0 ≡ Until rows = g ∙ ap Until (omega (arith, n)) in
+      let g : object (row_in T) rows s e limit Any 0 ≡ Some (0 + length (cells t)) = (fits (row_in T) rows s o any).walks 0 (realises_stands rows m) (omega (arith, n)) in
+      let i : object (row_in T) rows s e limit Any 0 ≡ Some rows = g ∙ ap Some (omega (arith, n)) in
       rw (le-leb _ _ w.text, le-leb _ _ w.some_row, le-leb _ _ w.few, le-leb _ _ w.there, i) (eq-eqb rows rows refl)

@@ -8,12 +8,12 @@ use native.Mathlib.Nat.{add-zero}
 use lib.ListN.{length}
 use borrow.Author.Tests.{lt-ltb}
 use lib.Dec.{ltb}
+use Rattle.std.proofs.Common.{Some}
 use Rattle.text.specs.Utf8.{well_formed}
 use Rattle.text.specs.Texts.{among}
 use Rattle.draft.specs.declared.Row.{Row}
-use Rattle.draft.specs.declared.Verdict.TheVariants.{Fine}
+use Rattle.std.specs.Prelude.{Ok}
 use Rattle.draft.specs.declared.Content.TheVariants as content
-use Rattle.draft.specs.declared.Extent.TheVariants.{Until}
 use Rattle.draft.specs.Content.{content_rule, key_rule}
 use Rattle.draft.specs.Read.{Texts}
 use Rattle.draft.specs.Grammar.{cell, contents, Cell, Keeps}
@@ -48,7 +48,7 @@ keeps_bytes : (t : List ℕ) → Keeps content.Binary t
 unfolding content_rule
 keeps_bytes t = refl
 
-fresh : (seen : Texts) (k : List ℕ) → among seen k ≡ false → key_rule seen k ≡ Fine
+fresh : (seen : Texts) (k : List ℕ) → among seen k ≡ false → key_rule seen k ≡ Ok tt
 unfolding key_rule
 fresh seen k h = rw h
 
@@ -81,7 +81,7 @@ module _ (row : ℕ → Row) (rows : ℕ) (s : List ℕ) where
             object_is e d w r ∙ rw (lt-ltb r rows (omega (arith, b.0)), z, ap (meets w) k ∙ met m) (g.walks r h l);
       }
 
-  nothing_fits : WalkedBy row rows s (λ r. Until r) []
+  nothing_fits : WalkedBy row rows s (λ r. Some r) []
   nothing_fits = record { walks = λ r h l. rw add-zero }
 
   key_kept : (seen : Texts) {k : List ℕ} {cs : List Cell} (r : ℕ) → Stands row s r (cell 11 0 (contents k) ∷ cs) → keeping row rows s seen r ≡ k ∷ seen

@@ -8,13 +8,13 @@ use native.Mathlib.Omega.{arith}
 use lib.Dec.{leb, eqb, ltb}
 use lib.ListN.{length, drop, length-append, length-take, length-drop}
 use borrow.Author.Tests.{eqb-true, leb-true}
+use Rattle.std.proofs.Common.{Some}
 use Rattle.text.specs.Utf8.{well_formed}
 use Rattle.text.specs.Texts.{among}
 use Rattle.draft.specs.declared.Row.{Row}
 use Rattle.draft.specs.declared.Refusal.TheVariants.{BadText, RepeatedKey}
-use Rattle.draft.specs.declared.Verdict.TheVariants.{Fine}
+use Rattle.std.specs.Prelude.{Ok}
 use Rattle.draft.specs.declared.Content.TheVariants as content
-use Rattle.draft.specs.declared.Extent.TheVariants.{Until}
 use Rattle.draft.specs.Content.{fine_if, bad_if, content_rule, key_rule}
 use Rattle.draft.specs.Read.{Texts, text_of}
 use Rattle.draft.specs.Grammar.{holding, number, contents, Cell, cell}
@@ -83,19 +83,19 @@ sort_kind e k =
     (sort_or e k 16 (node_sort e) Unknown (node_kind e k) tt)))))))))
 
 -- rules that hold
-text_by : (t : List ℕ) → content_rule content.Text t ≡ Fine → well_formed t ≡ true
+text_by : (t : List ℕ) → content_rule content.Text t ≡ Ok tt → well_formed t ≡ true
 unfolding content_rule
 text_by t h = go (well_formed t) h
   where
-    go : (b : Bool) → fine_if b BadText ≡ Fine → b ≡ true
+    go : (b : Bool) → fine_if b BadText ≡ Ok tt → b ≡ true
     go true i = refl
     go false i = let z : ◌≡◌ {A = ℕ} 0 1 = cc in absurd (omega arith)
 
-key_by : (seen : Texts) (k : List ℕ) → key_rule seen k ≡ Fine → among seen k ≡ false
+key_by : (seen : Texts) (k : List ℕ) → key_rule seen k ≡ Ok tt → among seen k ≡ false
 unfolding key_rule
 key_by seen k h = go (among seen k) h
   where
-    go : (b : Bool) → bad_if b RepeatedKey ≡ Fine → b ≡ false
+    go : (b : Bool) → bad_if b RepeatedKey ≡ Ok tt → b ≡ false
     go true i = let z : ◌≡◌ {A = ℕ} 0 1 = cc in absurd (omega arith)
     go false i = refl
 
@@ -145,47 +145,47 @@ module _ (row : ℕ → Row) (rows : ℕ) (s : List ℕ) (words : (r : ℕ) → 
   stands_at e h = rw e at h
 
   -- an object of one row
-  one : (e : Edition) (d : ℕ) {r to : ℕ} {t : Tree} → walk-leaf (row r) r ≡ Until to → length (cells t) ≡ 1 → ((row r).end ≡ r + 1 → Stands row s r (cells t)) → Object e d (bytes_of e t) t → Made e d r to t
+  one : (e : Edition) (d : ℕ) {r to : ℕ} {t : Tree} → walk-leaf (row r) r ≡ Some to → length (cells t) ≡ 1 → ((row r).end ≡ r + 1 → Stands row s r (cells t)) → Object e d (bytes_of e t) t → Made e d r to t
   one e d {r} h l m o = let f = leaf_by_lem (row r) r h in record { ends = omega (arith, f.1, l); stands = m f.0; derived = o }
 
-  integer_made : (e : Edition) (d : ℕ) {r to : ℕ} → (row r).kind ≡ 4 → integer_item (row r) r ≡ Until to → Made e d r to (leaf 4 (number (row r).a))
+  integer_made : (e : Edition) (d : ℕ) {r to : ℕ} → (row r).kind ≡ 4 → integer_item (row r) r ≡ Some to → Made e d r to (leaf 4 (number (row r).a))
   unfolding cells bytes_of leaf_bytes has_number
   integer_made e d {r} k h =
       let f = fit_by (eqb (row r).b 0) _ h in
       one e d f.1 refl (λ z. stands_one (means k (omega (arith, z)) (says_number (rw k) refl (eqb-true _ _ f.0)))) (integer_written e d (row r).a (words r))
 
-  boolean_made : (e : Edition) (d : ℕ) {r to : ℕ} → (row r).kind ≡ 5 → boolean_item (row r) r ≡ Until to → Made e d r to (leaf 5 (number (row r).a))
+  boolean_made : (e : Edition) (d : ℕ) {r to : ℕ} → (row r).kind ≡ 5 → boolean_item (row r) r ≡ Some to → Made e d r to (leaf 5 (number (row r).a))
   unfolding cells bytes_of leaf_bytes has_number
   boolean_made e d {r} k h =
       let f = fit_by (leb (row r).a 1) _ h in
       let g = fit_by (eqb (row r).b 0) _ f.1 in
       one e d g.1 refl (λ z. stands_one (means k (omega (arith, z)) (says_number (rw k) refl (eqb-true _ _ g.0)))) (boolean_object e d (row r).a (leb-true _ _ f.0))
 
-  text_made : (e : Edition) (d : ℕ) {r to : ℕ} → (row r).kind ≡ 11 → content_item s content.Text (row r) r ≡ Until to → Made e d r to (leaf 11 (contents (text_of s (row r))))
+  text_made : (e : Edition) (d : ℕ) {r to : ℕ} → (row r).kind ≡ 11 → content_item s content.Text (row r) r ≡ Some to → Made e d r to (leaf 11 (contents (text_of s (row r))))
   unfolding cells bytes_of leaf_bytes has_content
   text_made e d {r} k h =
       let f = content_by s content.Text (row r) r h in
       one e d f.3 refl (λ z. stands_one (means k (omega (arith, z)) (says_contents (rw k) f.1 refl))) (unicode (content_written (text_of s (row r)) (text_short (row r))) (text_by (text_of s (row r)) f.2))
 
-  bytes_made : (e : Edition) (d : ℕ) {r to : ℕ} → (row r).kind ≡ 8 → content_item s content.Binary (row r) r ≡ Until to → Made e d r to (leaf 8 (contents (text_of s (row r))))
+  bytes_made : (e : Edition) (d : ℕ) {r to : ℕ} → (row r).kind ≡ 8 → content_item s content.Binary (row r) r ≡ Some to → Made e d r to (leaf 8 (contents (text_of s (row r))))
   unfolding cells bytes_of leaf_bytes has_content
   bytes_made e d {r} k h =
       let f = content_by s content.Binary (row r) r h in
       one e d f.3 refl (λ z. stands_one (means k (omega (arith, z)) (says_contents (rw k) f.1 refl))) (bytearray (content_written (text_of s (row r)) (text_short (row r))))
 
-  nil_made : (e : Edition) (d : ℕ) {r to : ℕ} → (row r).kind ≡ 13 → walk-holding 0 (row r) (Until (r + 1)) ≡ Until to → Made e d r to (leaf 13 (holding 0))
+  nil_made : (e : Edition) (d : ℕ) {r to : ℕ} → (row r).kind ≡ 13 → walk-holding 0 (row r) (Some (r + 1)) ≡ Some to → Made e d r to (leaf 13 (holding 0))
   unfolding cells bytes_of leaf_bytes has_number has_content
   nil_made e d {r} k h =
-      let f = holding_by 0 (row r) (Until (r + 1)) h in
-      let g = over_by (row r) (Until (r + 1)) f.1 in
+      let f = holding_by 0 (row r) (Some (r + 1)) h in
+      let g = over_by (row r) (Some (r + 1)) f.1 in
       let i = until_same g.2 in
       record { ends = sym i; stands = stands_one (means k (omega (arith, g.1, i)) (says_holding (rw k) (rw k) g.0 f.0)); derived = nil }
 
   -- what a walk of objects gives
   abbrev Walks : Edition → ℕ → Type 0
-  Walks e d = (w : Want) (r to : ℕ) → object row rows s e d w r ≡ Until to → Made e d r to (tree_at row s e d r) × Meets w (tree_at row s e d r)
+  Walks e d = (w : Want) (r to : ℕ) → object row rows s e d w r ≡ Some to → Made e d r to (tree_at row s e d r) × Meets w (tree_at row s e d r)
 
-  all_made : (e : Edition) (d : ℕ) → Walks e d → (n r to : ℕ) → items (alike (object row rows s e d Any)) nothing n [] r ≡ Until to → MadeAll e d n r to (trees row s (tree_at row s e d) n r)
+  all_made : (e : Edition) (d : ℕ) → Walks e d → (n r to : ℕ) → items (alike (object row rows s e d Any)) nothing n [] r ≡ Some to → MadeAll e d n r to (trees row s (tree_at row s e d) n r)
   unfolding items alike nothing trees cells bytes_of
   all_made e d walks zero r to h = record { many_count = refl; ends = omega (arith, until_same h); stands = stands_none; derived = close }
   all_made e d walks (suc n) r to h =
@@ -205,7 +205,7 @@ module _ (row : ℕ → Row) (rows : ℕ) (s : List ℕ) (words : (r : ℕ) → 
 
   -- a key and its value
   pair_made :
-      (e : Edition) (d : ℕ) → Walks e d → (seen : Texts) {r m : ℕ} → member row rows s (object row rows s e d Any) seen r ≡ Until m
+      (e : Edition) (d : ℕ) → Walks e d → (seen : Texts) {r m : ℕ} → member row rows s (object row rows s e d Any) seen r ≡ Some m
       → Made e d r (r + 1) (leaf 11 (contents (text_of s (row r)))) × (among seen (text_of s (row r)) ≡ false) × Made e d (r + 1) m (tree_at row s e d (r + 1))
   unfolding member walk_pair string_by walk-string
   pair_made e d walks seen {r} {m} h =
@@ -225,7 +225,7 @@ module _ (row : ℕ → Row) (rows : ℕ) (s : List ℕ) (words : (r : ℕ) → 
 
   pairs_made :
       (e : Edition) (d : ℕ) → Walks e d → (n : ℕ) (seen : Texts) (r to : ℕ)
-      → items (member row rows s (object row rows s e d Any)) (keeping row rows s) n seen r ≡ Until to
+      → items (member row rows s (object row rows s e d Any)) (keeping row rows s) n seen r ≡ Some to
       → MadePairs e d n seen r to (pairs row s (tree_at row s e d) n r)
   unfolding items keeping pairs cells bytes_of leaf_bytes
   pairs_made e d walks zero seen r to h = record { many_count = refl; ends = omega (arith, until_same h); stands = stands_none; derived = close_members }
@@ -254,7 +254,7 @@ module _ (row : ℕ → Row) (rows : ℕ) (s : List ℕ) (words : (r : ℕ) → 
 
   three_made :
       (e : Edition) (d : ℕ) → Walks e d → (w v : Want) (r to : ℕ)
-      → walk_pair (object row rows s e d w) (walk_pair (object row rows s e d v) (object row rows s e d Any)) r ≡ Until to
+      → walk_pair (object row rows s e d w) (walk_pair (object row rows s e d v) (object row rows s e d Any)) r ≡ Some to
       → (a : Tree) × (b : Tree) × (c : Tree) × (trees row s (tree_at row s e d) 3 r ≡ also a (also b (also c none))) × MadeThree e d w v r to a b c
   unfolding walk_pair trees cells bytes_of
   three_made e d walks w v r to h =
@@ -290,7 +290,7 @@ module _ (row : ℕ → Row) (rows : ℕ) (s : List ℕ) (words : (r : ℕ) → 
 
   -- an object's own row, over what it holds
   module _ (e : Edition) (d : ℕ) (walks : Walks e d) {r to : ℕ} where
-    list_made : (row r).kind ≡ 9 → over (row r) (items (alike (object row rows s e d Any)) nothing (row r).b [] (r + 1)) ≡ Until to → Made e (suc d) r to (many-tree 9 (trees row s (tree_at row s e d) (row r).b (r + 1)))
+    list_made : (row r).kind ≡ 9 → over (row r) (items (alike (object row rows s e d Any)) nothing (row r).b [] (r + 1)) ≡ Some to → Made e (suc d) r to (many-tree 9 (trees row s (tree_at row s e d) (row r).b (r + 1)))
     unfolding cells bytes_of letter_for has_number has_content
     list_made k h =
         let f = over_by (row r) _ h in
@@ -302,7 +302,7 @@ module _ (row : ℕ → Row) (rows : ℕ) (s : List ℕ) (words : (r : ℕ) → 
         }
 
     dict_made :
-        (row r).kind ≡ 10 → over (row r) (items (member row rows s (object row rows s e d Any)) (keeping row rows s) (row r).b [] (r + 1)) ≡ Until to
+        (row r).kind ≡ 10 → over (row r) (items (member row rows s (object row rows s e d Any)) (keeping row rows s) (row r).b [] (r + 1)) ≡ Some to
         → Made e (suc d) r to (plain (pairs row s (tree_at row s e d) (row r).b (r + 1)))
     unfolding cells bytes_of has_number has_content
     dict_made k h =
@@ -315,7 +315,7 @@ module _ (row : ℕ → Row) (rows : ℕ) (s : List ℕ) (words : (r : ℕ) → 
         }
 
     ordered_made :
-        (row r).kind ≡ 14 → over (row r) (items (member row rows s (object row rows s e d Any)) (keeping row rows s) (row r).b [] (r + 1)) ≡ Until to
+        (row r).kind ≡ 14 → over (row r) (items (member row rows s (object row rows s e d Any)) (keeping row rows s) (row r).b [] (r + 1)) ≡ Some to
         → Made e (suc d) r to (ordered (pairs row s (tree_at row s e d) (row r).b (r + 1)))
     unfolding cells bytes_of has_number has_content
     ordered_made k h =
@@ -331,7 +331,7 @@ module _ (row : ℕ → Row) (rows : ℕ) (s : List ℕ) (words : (r : ℕ) → 
     over_three :
         (k : ℕ) (w v : Want) → has_number k ≡ false → has_content k ≡ false
         → ((zs : List ℕ) (a b c : Tree) → Parts e d w v zs a b c → Object e (suc d) (letter_for e k ∷ zs) (many-tree k (also a (also b (also c none)))))
-        → (row r).kind ≡ k → walk-holding 3 (row r) (walk_pair (object row rows s e d w) (walk_pair (object row rows s e d v) (object row rows s e d Any)) (r + 1)) ≡ Until to
+        → (row r).kind ≡ k → walk-holding 3 (row r) (walk_pair (object row rows s e d w) (walk_pair (object row rows s e d v) (object row rows s e d Any)) (r + 1)) ≡ Some to
         → Made e (suc d) r to (many-tree k (trees row s (tree_at row s e d) 3 (r + 1)))
     unfolding cells bytes_of
     over_three k w v i j make l h =
@@ -347,7 +347,7 @@ module _ (row : ℕ → Row) (rows : ℕ) (s : List ℕ) (words : (r : ℕ) → 
         })
 
   -- what stands at a row, by its sort: where nothing more may nest, and where others may
-  floor_made : (e : Edition) {r to : ℕ} (o : Sort) → HasKind e o (row r).kind → item row rows s o floor (row r) r ≡ Until to → Made e zero r to (told row s o (inside row s e zero) (row r) r)
+  floor_made : (e : Edition) {r to : ℕ} (o : Sort) → HasKind e o (row r).kind → item row rows s o floor (row r) r ≡ Some to → Made e zero r to (told row s o (inside row s e zero) (row r) r)
   floor_made e Integer k h = integer_made e zero k h
   floor_made e Boolean k h = boolean_made e zero k h
   floor_made e (Content content.Double) k h = absurd k
@@ -360,7 +360,7 @@ module _ (row : ℕ → Row) (rows : ℕ) (s : List ℕ) (words : (r : ℕ) → 
   floor_made e Unknown k h = unfit_until h
 
   under_made :
-      (e : Edition) (d : ℕ) → Walks e d → {r to : ℕ} (o : Sort) → HasKind e o (row r).kind → item row rows s o (under (object row rows s e d)) (row r) r ≡ Until to
+      (e : Edition) (d : ℕ) → Walks e d → {r to : ℕ} (o : Sort) → HasKind e o (row r).kind → item row rows s o (under (object row rows s e d)) (row r) r ≡ Some to
       → Made e (suc d) r to (told row s o (inside row s e (suc d)) (row r) r)
   unfolding entries entry kept has_number has_content
   under_made e d walks Integer k h = integer_made e (suc d) k h

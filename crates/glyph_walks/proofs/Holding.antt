@@ -7,10 +7,9 @@ use native.Mathlib.Omega.{arith}
 use native.Mathlib.Numerals.{sub-one}
 use lib.Dec.{eqb, ltb}
 use borrow.Author.Tests.{eqb-true}
+use Rattle.std.proofs.Common.{Option, Some, None}
 use Rattle.text.proofs.Comparing.{clash, both}
 use Rattle.draft.specs.declared.Content.TheVariants.{Text as TextContent}
-use Rattle.draft.specs.declared.Extent.{Extent}
-use Rattle.draft.specs.declared.Extent.TheVariants.{Until, Unfit}
 use Rattle.draft.specs.declared.Row.{Row}
 use Rattle.draft.specs.Writable.{Walk, fit, over, then, pair, items, alike, nothing}
 use Rattle.key_rows.proofs.Keying.{no_end, fit_end, content_end}
@@ -29,29 +28,29 @@ use Rattle.glyph_walks.specs.Contract.{nested}
 
 -- ---- three objects, one after the other
 
-fit_true : (b : Bool) (o : Extent) {n : ℕ} → fit b o ≡ Until n → b ≡ true
+fit_true : (b : Bool) (o : Option ℕ) {n : ℕ} → fit b o ≡ Some n → b ≡ true
 fit_true true o e = refl
 fit_true false o e = absurd (no_end e)
 
-then_until : (o : Extent) → then o Until ≡ o
-then_until Unfit = refl
-then_until (Until n) = refl
+then_until : (o : Option ℕ) → then o Some ≡ o
+then_until None = refl
+then_until (Some n) = refl
 
 three_items : (g : Walk) (r : ℕ) → items (alike g) nothing 3 [] r ≡ pair g (pair g g) r
 unfolding items alike pair
 three_items g r = first (g r)
   where
-    third : (o : Extent) → then o (λ c. Until c) ≡ o
-    third Unfit = refl
-    third (Until c) = refl
+    third : (o : Option ℕ) → then o (λ c. Some c) ≡ o
+    third None = refl
+    third (Some c) = refl
 
-    second : (o : Extent) → then o (λ b. then (g b) (λ c. Until c)) ≡ then o g
-    second Unfit = refl
-    second (Until b) = third (g b)
+    second : (o : Option ℕ) → then o (λ b. then (g b) (λ c. Some c)) ≡ then o g
+    second None = refl
+    second (Some b) = third (g b)
 
-    first : (o : Extent) → then o (λ a. then (g a) (λ b. then (g b) (λ c. Until c))) ≡ then o (λ a. then (g a) g)
-    first Unfit = refl
-    first (Until a) = second (g a)
+    first : (o : Option ℕ) → then o (λ a. then (g a) (λ b. then (g b) (λ c. Some c))) ≡ then o (λ a. then (g a) g)
+    first None = refl
+    first (Some a) = second (g a)
 
 module _ (row : ℕ → Row) (rows : ℕ) (s : List ℕ) (e : Edition) where
   pub object_here : (deep : ℕ) (w : Want) (r : ℕ) → object row rows s e deep w r ≡ fit (ltb r rows) (fit (meets w (row r).kind) (item row rows s (sort_of e (row r).kind) (nested row rows s e deep) (row r) r))
@@ -63,10 +62,10 @@ module _ (row : ℕ → Row) (rows : ℕ) (s : List ℕ) (e : Edition) where
     abbrev at : Want → Walk
     at w = object row rows s e deep w
 
-    abbrev its : ℕ → Extent
+    abbrev its : ℕ → Option ℕ
     its r = item row rows s (sort_of e (row r).kind) (nested row rows s e deep) (row r) r
 
-    stands : (w : Want) (r : ℕ) {n : ℕ} → at w r ≡ Until n → (ltb r rows ≡ true) × (meets w (row r).kind ≡ true) × (its r ≡ Until n)
+    stands : (w : Want) (r : ℕ) {n : ℕ} → at w r ≡ Some n → (ltb r rows ≡ true) × (meets w (row r).kind ≡ true) × (its r ≡ Some n)
     stands w r h =
         let g = sym (object_here deep w r) ∙ h in
         let f = fit_end (ltb r rows) (fit (meets w (row r).kind) (its r)) g in
@@ -81,10 +80,10 @@ module _ (row : ℕ → Row) (rows : ℕ) (s : List ℕ) (e : Edition) where
     unfolding sort_of
     unicode_sort k q = rw (eqb-true k 11 q)
 
-    unicode_end : (w : Want) (r : ℕ) {n : ℕ} → eqb (row r).kind 11 ≡ true → at w r ≡ Until n → n ≡ r + 1
+    unicode_end : (w : Want) (r : ℕ) {n : ℕ} → eqb (row r).kind 11 ≡ true → at w r ≡ Some n → n ≡ r + 1
     unicode_end w r k h = content_end s TextContent (row r) r (rw (unicode_sort (row r).kind k) at (stands w r h).2)
 
-    abbrev parts : ℕ → Extent
+    abbrev parts : ℕ → Option ℕ
     parts r = pair (at Text) (pair (at EitherDict) (at Any)) (r + 1)
 
     next_two : (r : ℕ) → r + 1 + 1 ≡ r + 2
@@ -97,24 +96,24 @@ module _ (row : ℕ → Row) (rows : ℕ) (s : List ℕ) (e : Edition) where
         b : (eqb (row (r + 1)).kind 11 ≡ true) × (is_dict (row (r + 2)).kind ≡ true)
         b = both (eqb (row (r + 1)).kind 11) (is_dict (row (r + 2)).kind) (both (ltb (r + 2) rows) (eqb (row (r + 1)).kind 11 && is_dict (row (r + 2)).kind) h).1
 
-        go : (o : Extent) → at Any (r + 1) ≡ o → then o (λ k. then (at EitherDict k) (at Any)) ≡ then o (λ k. then (at Any k) (at Any))
-        go Unfit q = refl
-        go (Until k) q = let z : k ≡ r + 2 = unicode_end Any (r + 1) b.0 q ∙ next_two r in rw (z, wanted EitherDict (r + 2) b.1)
+        go : (o : Option ℕ) → at Any (r + 1) ≡ o → then o (λ k. then (at EitherDict k) (at Any)) ≡ then o (λ k. then (at Any k) (at Any))
+        go None q = refl
+        go (Some k) q = let z : k ≡ r + 2 = unicode_end Any (r + 1) b.0 q ∙ next_two r in rw (z, wanted EitherDict (r + 2) b.1)
 
-    three_unnamed : (r : ℕ) → named row rows r ≡ false → Unfit ≡ parts r
+    three_unnamed : (r : ℕ) → named row rows r ≡ false → None ≡ parts r
     unfolding named is_dict meets pair
     three_unnamed r h = first (at Text (r + 1)) refl
       where
-        first : (o : Extent) → at Text (r + 1) ≡ o → Unfit ≡ then o (λ k. then (at EitherDict k) (at Any))
-        first Unfit q = refl
-        first (Until k) q =
+        first : (o : Option ℕ) → at Text (r + 1) ≡ o → None ≡ then o (λ k. then (at EitherDict k) (at Any))
+        first None q = refl
+        first (Some k) q =
             let m = (stands Text (r + 1) q).1 in
             let z : k ≡ r + 2 = unicode_end Text (r + 1) m q ∙ next_two r in
             rw z (second m (at EitherDict (r + 2)) refl)
           where
-            second : eqb (row (r + 1)).kind 11 ≡ true → (o : Extent) → at EitherDict (r + 2) ≡ o → Unfit ≡ then o (at Any)
-            second m Unfit p = refl
-            second m (Until j) p = let v = stands EitherDict (r + 2) p in absurd (clash (rw (v.0, m) v.1) h)
+            second : eqb (row (r + 1)).kind 11 ≡ true → (o : Option ℕ) → at EitherDict (r + 2) ≡ o → None ≡ then o (at Any)
+            second m None p = refl
+            second m (Some j) p = let v = stands EitherDict (r + 2) p in absurd (clash (rw (v.0, m) v.1) h)
 
 -- ---- what a row with children must say
 
@@ -132,13 +131,13 @@ module _ (row : ℕ → Row) (rows : ℕ) (s : List ℕ) (e : Edition) (x : Row)
     abbrev within : Nest
     within = under (object row rows s e deep)
 
-    abbrev whole : Extent
+    abbrev whole : Option ℕ
     whole = item row rows s (sort_of e x.kind) within x r
 
-    holding_none : (b : Bool) → Unfit ≡ fit b (over x Unfit)
+    holding_none : (b : Bool) → None ≡ fit b (over x None)
     holding_none true = none (eqb x.a 0)
       where
-        none : (c : Bool) → Unfit ≡ fit c Unfit
+        none : (c : Bool) → None ≡ fit c None
         none true = refl
         none false = refl
     holding_none false = refl
@@ -147,16 +146,16 @@ module _ (row : ℕ → Row) (rows : ℕ) (s : List ℕ) (e : Edition) (x : Row)
     any = object row rows s e deep Any
 
     -- it may not hold that
-    pub held_not : may_hold row rows e x r ≡ false → Unfit ≡ whole
+    pub held_not : may_hold row rows e x r ≡ false → None ≡ whole
     unfolding may_hold
     held_not m = go (container e x.kind h)
       where
-        three : (l : ThreeLetter) (b : Bool) → (b && three_named row rows l r) ≡ false → Unfit ≡ fit b (over x (pair (object row rows s e deep (name_want l)) (pair (object row rows s e deep (attributes_want l)) any) (r + 1)))
+        three : (l : ThreeLetter) (b : Bool) → (b && three_named row rows l r) ≡ false → None ≡ fit b (over x (pair (object row rows s e deep (name_want l)) (pair (object row rows s e deep (attributes_want l)) any) (r + 1)))
         three Extension true n = rw (← three_unnamed row rows s e deep r n) (holding_none true)
         three Node true n = absurd (clash refl n)
         three l false n = refl
 
-        go : Container e x.kind → Unfit ≡ whole
+        go : Container e x.kind → None ≡ whole
         go (a_many l k q) = absurd (clash refl (rw k at m))
         go (a_three l k q) = rw k (three l (eqb x.b 3) (rw k at m))
         go (unknown k) = rw k

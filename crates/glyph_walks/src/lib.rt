@@ -6,7 +6,6 @@
 
 ghost use Rattle.std.specs.Prelude.{◌≡◌, true, ◌+◌, ◌<◌};
 ghost use Rattle.draft.specs.Table.{row_at};
-ghost use Rattle.row_ends.specs.Ends.{extent_of};
 ghost use Rattle.extents.specs.Asked.{Walkable};
 ghost use Rattle.keys.specs.Notes.{named};
 ghost use Rattle.key_rows.specs.Contract.{Prepared, Done};
@@ -20,6 +19,7 @@ use draft::{Content, Row};
 use glyph::{Edition, Want};
 
 // An object without children, by its row. It is the same in both editions.
+#[tactic(auto, unfolding(crate::specs::Contract::childless, glyph_form::specs::Sorts::sort_of))]
 fn walk_leaf(
     table: &[u32],
     room: usize,
@@ -28,9 +28,9 @@ fn walk_leaf(
     good: usize,
     row: Row,
     r: usize,
-) -> usize
+) -> Option<usize>
     requires { Walkable text.now room rows table.now good × Here (row_at room table.now) rows row r }
-    ensures { extent_of result ≡ childless (row_at room table.now) rows text.now row r }
+    ensures { result ≡ childless (row_at room table.now) rows text.now row r }
 {
     let kind = row.kind;
     match kind {
@@ -39,7 +39,7 @@ fn walk_leaf(
         8 => extents::walk_content(text, Content::Binary, row, r, good),
         11 => extents::walk_content(text, Content::Text, row, r, good),
         13 => row_ends::close_holding(0, row, r + 1),
-        _ => 0,
+        _ => None,
     }
 }
 
@@ -56,32 +56,29 @@ fn walk_container(
     row: Row,
     r: usize,
     notes: &mut [u16],
-) -> usize
+) -> Option<usize>
     requires { (holdsBy row.kind ≡ true) × Here (row_at room table.now) rows row r × Met text.now room rows table.now good r notes.old }
     ensures { Done (item (row_at room table.now) rows text.now (sort_of edition row.kind) (nested (row_at room table.now) rows text.now edition deep) row r) (named text.now room table.now) notes.old notes.new r result }
 {
-    if deep == 0 {
-        return 0;
+    if deep == 0 || !glyph_rows::may_hold(edition, table, room, rows, row, r) {
+        return None;
     }
-    if glyph_rows::may_hold(edition, table, room, rows, row, r) {
-        let keyed = glyph_rows::is_dict(row.kind);
-        let n = row.b as usize;
-        let next = walk_entries(
-            edition,
-            table,
-            room,
-            rows,
-            text,
-            good,
-            deep - 1,
-            n,
-            keyed,
-            r + 1,
-            notes,
-        );
-        return row_ends::close_over(row, next);
-    }
-    0
+    let keyed = glyph_rows::is_dict(row.kind);
+    let n = row.b as usize;
+    let next = walk_entries(
+        edition,
+        table,
+        room,
+        rows,
+        text,
+        good,
+        deep - 1,
+        n,
+        keyed,
+        r + 1,
+        notes,
+    )?;
+    row_ends::close_over(row, next)
 }
 
 // n objects, one after the other, each behind its key if they have keys. Their dict is known to the notes by the row where they begin.
@@ -98,38 +95,24 @@ fn walk_entries(
     keyed: bool,
     first: usize,
     notes: &mut [u16],
-) -> usize
+) -> Option<usize>
     requires { Prepared text.now room rows table.now good first notes.old }
     ensures { Done (entries (row_at room table.now) rows text.now keyed (object (row_at room table.now) rows text.now edition deep Want.Any) n first) (named text.now room table.now) notes.old notes.new first result }
 {
-    let mut left = n;
     let mut here = first;
-    while 0 < left {
-        let at = key_rows::dict_key_if(keyed, table, room, rows, text, good, here, notes, first);
-        if at == 0 {
-            return 0;
-        }
+    for _i in 0..n {
+        let at = key_rows::walk_key_if(keyed, table, room, rows, text, good, here, notes, first)?;
         if rows <= at {
-            return 0;
+            return None;
         }
         let row = table::get_row(table, room, at);
         if glyph_rows::holds(row.kind) {
-            let next = walk_container(edition, table, room, rows, text, good, deep, row, at, notes);
-            if next == 0 {
-                return 0;
-            }
-            here = next;
-            left -= 1;
+            here = walk_container(edition, table, room, rows, text, good, deep, row, at, notes)?;
         } else {
-            let next = walk_leaf(table, room, rows, text, good, row, at);
-            if next == 0 {
-                return 0;
-            }
-            here = next;
-            left -= 1;
+            here = walk_leaf(table, room, rows, text, good, row, at)?;
         }
     }
-    here
+    Some(here)
 }
 
 // The object of row r.
@@ -143,12 +126,12 @@ pub fn walk_object(
     deep: usize,
     r: usize,
     notes: &mut [u16],
-) -> usize
+) -> Option<usize>
     requires { Met text.now room rows table.now good r notes.old }
     ensures { Done (object (row_at room table.now) rows text.now edition deep Want.Any r) (named text.now room table.now) notes.old notes.new r result }
 {
     if rows <= r {
-        return 0;
+        return None;
     }
     let row = table::get_row(table, room, r);
     if glyph_rows::holds(row.kind) {

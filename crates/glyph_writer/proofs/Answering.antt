@@ -8,8 +8,7 @@ use lib.ListN.{length, take, drop, replicate, length-take, length-drop, drop_of_
 use lib.Seq.{take_at}
 use lib.Dec.{leb}
 use borrow.Author.Tests.{lt-leb, le-leb, leb-true, leb-false, eqb-true}
-use Rattle.draft.specs.declared.Extent.{Extent}
-use Rattle.draft.specs.declared.Extent.TheVariants.{Until, Unfit}
+use Rattle.std.proofs.Common.{Option, Some, None, Ok, Err}
 use Rattle.draft.specs.declared.Refusal.TheVariants.{TooLong, NotWritable, FormTooLong, OutputTooShort, NoLimit}
 use Rattle.draft.specs.Limits.{allowed}
 use Rattle.draft.specs.Table.{room_of, row_at}
@@ -17,11 +16,9 @@ use Rattle.draft.specs.Writable.{wholly}
 use Rattle.text.proofs.Comparing.{both}
 use Rattle.glyph.specs.declared.Edition.{Edition}
 use Rattle.glyph.specs.declared.Want.TheVariants.{Any}
-use Rattle.glyph_form.specs.declared.Answer.{Answer}
-use Rattle.glyph_form.specs.declared.Answer.TheVariants.{Written, Refused}
 use Rattle.glyph_form.specs.Writable.{object, writable_within, writable}
 use Rattle.glyph_form.specs.Form.{form_within, form_of}
-use Rattle.glyph_form.specs.Answers.{answer_for, answer_of, output_of, Did}
+use Rattle.glyph_form.specs.Answers.{answer_for, answer_of, output_of, Did, Answer}
 use Rattle.glyph_output.specs.Contract.{reached, Open, Adds}
 use Rattle.glyph_output.proofs.Adding.{reached_same, reached_over}
 use Rattle.glyph_puts.specs.Contract.{Ready, Fit, object_bytes}
@@ -29,14 +26,14 @@ use Rattle.glyph_writer.specs.Contract.{RefusedWith, Filled}
 
 -- the answer, by how many bytes the form has
 module _ (n room : ℕ) where
-  pub answer_long : 65536 < n → Refused FormTooLong ≡ answer_for n room
+  pub answer_long : 65536 < n → Err FormTooLong ≡ answer_for n room
   answer_long h = sym (rw (lt-leb n 65536 h))
 
   module _ (h : n ≤ 65536) where
-    pub answer_short : room < n → Refused OutputTooShort ≡ answer_for n room
+    pub answer_short : room < n → Err OutputTooShort ≡ answer_for n room
     answer_short l = sym (rw (le-leb n 65536 h, lt-leb n room l))
 
-    pub answer_written : n ≤ room → Written n ≡ answer_for n room
+    pub answer_written : n ≤ room → Ok n ≡ answer_for n room
     answer_written l = sym (rw (le-leb n 65536 h, le-leb n room l))
 
 pub ruleset answers = (answer_long, answer_short, answer_written)
@@ -46,9 +43,9 @@ pub most_open : {n m : ℕ} → m ≡ min n 65536 → Open m n 0
 most_open e = record { within = omega (arith, e); few = omega (arith, e); told = omega arith }
 
 -- a table that is writable is ready, and its root object fit
-wholly_end : (rows : ℕ) (o : Extent) → wholly rows o ≡ true → o ≡ Until rows
-wholly_end rows Unfit e = absurd (let z : ◌≡◌ {A = ℕ} 0 1 = cc in omega arith)
-wholly_end rows (Until n) e = ap Until (eqb-true n rows e)
+wholly_end : (rows : ℕ) (o : Option ℕ) → wholly rows o ≡ true → o ≡ Some rows
+wholly_end rows None e = absurd (let z : ◌≡◌ {A = ℕ} 0 1 = cc in omega arith)
+wholly_end rows (Some n) e = ap Some (eqb-true n rows e)
 
 module _ (e : Edition) (limit : ℕ) (T : List ℕ) (rows : ℕ) (s : List ℕ) {room : ℕ} (w : writable e limit T rows s ≡ true) (g : room ≡ room_of 4096 (length T)) where
   pub root_ready : Ready room (length T) (length s)
@@ -104,7 +101,7 @@ module _ (form : List ℕ) {o o₁ : List ℕ} {most n : ℕ} (a : Adds form mos
 
 -- the form was put, or there is no room for it
 module _ (form : List ℕ) {o o₁ : List ℕ} {most n : ℕ} (e : most ≡ min (length o) 65536) (a : Adds form most o 0 o₁ n) (l : length o₁ ≡ length o) where
-  pub fill_put : {ys : List ℕ} → n ≤ most → ys ≡ replicate (length (take (length o₁ - n) (drop n o₁))) 0 → Filled form o (take n o₁ ++ (ys ++ drop (length o₁ - n) (drop n o₁))) (Written n)
+  pub fill_put : {ys : List ℕ} → n ≤ most → ys ≡ replicate (length (take (length o₁ - n) (drop n o₁))) 0 → Filled form o (take n o₁ ++ (ys ++ drop (length o₁ - n) (drop n o₁))) (Ok n)
   fill_put {ys} h y =
       let m : length form ≤ 65536 = small (leb (length form) 65536) refl in
       let q : n ≡ length form = ends form a ∙ sym (reached_same (length form) m) in
@@ -113,7 +110,7 @@ module _ (form : List ℕ) {o o₁ : List ℕ} {most n : ℕ} (e : most ≡ min 
       let d : drop (length o₁ - n) (drop n o₁) ≡ [] = drop_of_length-le (drop n o₁) {i = length o₁ - n} (rw length-drop (omega arith)) in
       let z : length (take (length o₁ - n) (drop n o₁)) ≡ length o - n = simp (length-take, length-drop) (omega (arith, l)) in
       record {
-        says = ap Written q ∙ answer_written (length form) (length o) m (omega (arith, q, e));
+        says = ap Ok q ∙ answer_written (length form) (length o) m (omega (arith, q, e));
         leaves = rw (t, d, append-nil, y, z);
       }
     where
@@ -131,11 +128,11 @@ module _ (form : List ℕ) {o o₁ : List ℕ} {most n : ℕ} (e : most ≡ min 
       go true g =
           let m : length form ≤ 65536 = leb-true (length form) 65536 g in
           let q : n ≡ length form = ends form a ∙ sym (reached_same (length form) m) in
-          refused (Refused OutputTooShort) (f ∙ rw q (sym (answer_short (length form) (length o) m (omega (arith, q, e))))) (answer_short (length form) (length o) m (omega (arith, q, e))) refl
+          refused (Err OutputTooShort) (f ∙ rw q (sym (answer_short (length form) (length o) m (omega (arith, q, e))))) (answer_short (length form) (length o) m (omega (arith, q, e))) refl
       go false g =
           let m : 65536 < length form = leb-false (length form) 65536 g in
           let q : n ≡ 65537 = ends form a ∙ sym (reached_over (length form) m) in
-          refused (Refused FormTooLong) (f ∙ sym (answer_long n (length o) (omega (arith, q)))) (answer_long (length form) (length o) m) refl
+          refused (Err FormTooLong) (f ∙ sym (answer_long n (length o) (omega (arith, q)))) (answer_long (length form) (length o) m) refl
 
 pub ruleset filling = (most_open, fill_put, fill_not)
 

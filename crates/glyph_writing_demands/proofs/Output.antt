@@ -9,6 +9,7 @@ use native.Mathlib.Omega.{arith}
 use lib.Dec.{leb}
 use lib.ListN.{length, take, drop, get_or, replicate, take-append-drop}
 use lib.Seq.{take_at, get_or-take, get_or-drop}
+use Rattle.std.proofs.Common.{Ok, Err}
 use Rattle.draft.specs.declared.Refusal.{Refusal}
 use Rattle.draft.specs.declared.Refusal.TheVariants.{TooLong, NotWritable, NoLimit}
 use Rattle.draft.specs.Limits.{allowed}
@@ -20,19 +21,15 @@ use Rattle.written.specs.Derivable.{HoldAlike}
 use Rattle.written.proofs.Standing.{from_same}
 use Rattle.written.proofs.Tests.{agreeing}
 use Rattle.glyph.specs.declared.Edition.{Edition}
-use Rattle.glyph.specs.declared.Answer.{Answer as ReaderAnswer}
-use Rattle.glyph.specs.declared.Answer.TheVariants.{Accepted}
 use Rattle.glyph.specs.Tree.{Tree, cells}
 use Rattle.glyph.specs.Grammar.{Blanks, no_blanks, Root}
 use Rattle.glyph.specs.Answers as reader
-use Rattle.glyph.specs.Answers.{reading, Answers}
+use Rattle.glyph.specs.Answers.{Answer as ReaderAnswer, accepted_as, reading, Answers}
 use Rattle.glyph_demands.proofs.Reading.{complete, one_meaning}
 use Rattle.glyph_demands.proofs.Settled.{derived}
-use Rattle.glyph_form.specs.declared.Answer.{Answer}
-use Rattle.glyph_form.specs.declared.Answer.TheVariants.{Written, Refused}
 use Rattle.glyph_form.specs.Writable.{writable}
 use Rattle.glyph_form.specs.Form.{canon, written, form_of, form_within}
-use Rattle.glyph_form.specs.Answers.{given, answer_of, Did}
+use Rattle.glyph_form.specs.Answers.{given, answer_of, Did, Answer}
 use Rattle.glyph_order.specs.Same.{Same}
 use Rattle.glyph_back.proofs.Back.{read_back as read-form}
 use Rattle.glyph_back.proofs.Sizes.{size}
@@ -46,14 +43,14 @@ use Rattle.glyph_writing_demands.proofs.Writer.{accepted_exactly, written_whole}
 -- what a table tells that was made of a message with this meaning
 read_of :
     (e : Edition) (limit : ℕ) (u : List ℕ) (words : ℕ) {T : List ℕ} {n used used' : ℕ} {t : Tree} → limit ≤ 32 → Root e limit u used' t
-    → Answers (reading e limit u words) words T (Accepted n used) → tree_of e limit T u ≡ t
+    → Answers (reading e limit u words) words T (accepted_as n used) → tree_of e limit T u ≡ t
 read_of e limit u words h g c = read_told e limit u words c limit (omega arith) h ∙ (one_meaning (derived e limit u words c).root g).1
 
 -- the form of what an edition derives, with blanks behind it or not, read with a limit that is not lower into a table with room
 form_read :
     {e : Edition} {limit : ℕ} {t : Tree} → Means e limit t → (after : List ℕ) → Blanks after → (u : List ℕ) → u ≡ written e t ++ after → length u ≤ 65536
     → (later : ℕ) → limit ≤ later → allowed later ≡ true → (words : ℕ) {rows : ℕ} {T' : List ℕ} {a : ReaderAnswer} → length (cells t) ≡ rows
-    → rows ≤ room_of 4096 words → Answers (reading e later u words) words T' a → (a ≡ Accepted rows (length (written e t))) × Same t (tree_of e later T' u)
+    → rows ≤ room_of 4096 words → Answers (reading e later u words) words T' a → (a ≡ accepted_as rows (length (written e t))) × Same t (tree_of e later T' u)
 unfolding reading
 form_read {e} {limit} {t} m after b u is l later h i words {rows} {T'} {a} r k c =
     let f = limit_most later i in
@@ -61,12 +58,12 @@ form_read {e} {limit} {t} m after b u is l later h i words {rows} {T'} {a} r k c
     record { before = []; bytes = written e t; after = after; blanks_before = no_blanks; object = deeper (read-form m.object m.texts) later h; blanks_after = b; is = is; ends = omega arith } in
     let x = complete (room_of 4096 words) g (record { least = limit_least later i; most = f; bytes = l }) (omega (arith, size t, r, k)) in
     let z : length x.rows ≡ rows = counts x.meaning ∙ size t ∙ r in
-    let q : a ≡ Accepted rows (length (written e t)) = c.says ∙ ap reader.answer_of x.is ∙ ap (λ (n : ℕ). Accepted n (length (written e t))) z in
+    let q : a ≡ accepted_as rows (length (written e t)) = c.says ∙ ap reader.answer_of x.is ∙ ap (λ (n : ℕ). accepted_as n (length (written e t))) z in
     let v : tree_of e later T' u ≡ canon t = read_of e later u words f g (rw q at c) in
     (q, rw v (read_back_same m))
 
 -- a call that answered `Written n`
-module _ (e : Edition) (limit : ℕ) (T : List ℕ) (rows : ℕ) (s out₀ out : List ℕ) {n : ℕ} (d : Did e limit T rows s out₀ out (Written n)) where
+module _ (e : Edition) (limit : ℕ) (T : List ℕ) (rows : ℕ) (s out₀ out : List ℕ) {n : ℕ} (d : Did e limit T rows s out₀ out (Ok n)) where
   accepted : AcceptedFor e limit T rows s (length out₀) n
   accepted = (accepted_exactly e limit T rows s (length out₀) n).0 (sym d.says)
 
@@ -88,18 +85,18 @@ module _ (e : Edition) (limit : ℕ) (T : List ℕ) (rows : ℕ) (s out₀ out :
   pub read_back :
       Words T → (later : ℕ) → limit ≤ later → allowed later ≡ true → (t : List ℕ) (words : ℕ) {T' : List ℕ} {a : ReaderAnswer} → take n t ≡ take n out
       → Blanks (drop n t) → length t ≤ 65536 → rows ≤ room_of 4096 words → Answers (reading e later t words) words T' a
-      → (a ≡ Accepted rows n) × Same (tree_of e limit T s) (tree_of e later T' t)
+      → (a ≡ accepted_as rows n) × Same (tree_of e limit T s) (tree_of e later T' t)
   read_back w later h i t words {T'} {a} f b l k c =
       let m = writable_means e limit T rows s w was_writable in
       let q : t ≡ written e (tree_of e limit T s) ++ drop n t = sym (take-append-drop n t) ∙ ap (λ (x : List ℕ). x ++ drop n t) (f ∙ first_bytes) in
       let g = form_read m (drop n t) b t q l later h i words (writable_rows e limit T rows s w was_writable) k c in
-      (g.0 ∙ ap (Accepted rows) (sym form_long), g.1)
+      (g.0 ∙ ap (accepted_as rows) (sym form_long), g.1)
 
 -- ONE FORM. Two accepted calls in one edition wrote the same bytes exactly if the tables, each with its text bytes, mean the same, a plain dict's pair
 -- order aside.
 pub same_bytes :
     (e : Edition) (limit limit' : ℕ) (T T' : List ℕ) (rows rows' : ℕ) (s s' out₀ out₁ out out' : List ℕ) {n n' : ℕ} → Words T → Words T'
-    → Did e limit T rows s out₀ out (Written n) → Did e limit' T' rows' s' out₁ out' (Written n')
+    → Did e limit T rows s out₀ out (Ok n) → Did e limit' T' rows' s' out₁ out' (Ok n')
     → Same (tree_of e limit T s) (tree_of e limit' T' s') ↔ (take n out ≡ take n' out')
 unfolding form_of form_within
 same_bytes e limit limit' T T' rows rows' s s' out₀ out₁ out out' w w' d d' =
@@ -108,9 +105,9 @@ same_bytes e limit limit' T T' rows rows' s s' out₀ out₁ out out' w w' d d' 
 
 -- the answer for a table that is not writable
 abbrev unwritten : Bool → Bool → Answer
-unwritten l x = given l NoLimit (given x TooLong (Refused NotWritable))
+unwritten l x = given l NoLimit (given x TooLong (Err NotWritable))
 
-unwritten_refuses : (l x : Bool) → (m : Refusal) × (unwritten l x ≡ Refused m)
+unwritten_refuses : (l x : Bool) → (m : Refusal) × (unwritten l x ≡ Err m)
 unwritten_refuses false x = (NoLimit, refl)
 unwritten_refuses true false = (TooLong, refl)
 unwritten_refuses true true = (NotWritable, refl)
@@ -149,8 +146,8 @@ module _
             (q, d.leaves ∙ rw (q, l, t) (sym d'.leaves))
         go false h =
             let u = unwritten_refuses (allowed limit) (leb (length s) 65536) in
-            let q : a ≡ Refused u.0 = d.says ∙ rw h u.1 in
-            let q' : a' ≡ Refused u.0 = d'.says ∙ rw (← v, h) u.1 in
+            let q : a ≡ Err u.0 = d.says ∙ rw h u.1 in
+            let q' : a' ≡ Err u.0 = d'.says ∙ rw (← v, h) u.1 in
             (q ∙ sym q', d.leaves ∙ rw (q, l) (sym (d'.leaves ∙ rw q')))
 
     -- NO OTHER WORD. So they do if each word of each stated row, at its place by its own table's room, is the same in both, whatever the other words

@@ -16,10 +16,9 @@ use Rattle.table.proofs.Stored.{rows_there}
 use Rattle.exact.proofs.Realising.{counts, same_meaning}
 use Rattle.written.specs.Derivable.{Within}
 use Rattle.glyph.specs.declared.Edition.{Edition}
-use Rattle.glyph.specs.declared.Answer.TheVariants.{Accepted}
 use Rattle.glyph.specs.Read.{got, message}
 use Rattle.glyph.specs.Tree.{Tree, leaf, many, plain, ordered, cells}
-use Rattle.glyph.specs.Answers.{reading, answer_of, table_of, Answers}
+use Rattle.glyph.specs.Answers.{accepted_as, reading, answer_of, table_of, Answers}
 use Rattle.glyph_demands.proofs.Reading.{one_meaning, growth_of_limits}
 use Rattle.glyph_demands.proofs.Settled.{whole, accepted_read, stored, derived}
 use Rattle.glyph_form.specs.Writable.{writable}
@@ -107,7 +106,7 @@ some_cell (plain ps) = omega arith
 some_cell (ordered ps) = omega arith
 
 -- FROM THE READER. A table that `glyph_reader::read` made of a message that it accepted, with the message as text bytes.
-module _ (e : Edition) (limit : ℕ) (s : List ℕ) (words : ℕ) {T : List ℕ} {n used : ℕ} (d : Answers (reading e limit s words) words T (Accepted n used)) where
+module _ (e : Edition) (limit : ℕ) (s : List ℕ) (words : ℕ) {T : List ℕ} {n used : ℕ} (d : Answers (reading e limit s words) words T (accepted_as n used)) where
   -- It holds the rows that were read.
   pub read_rows : rows_of 4096 T n ≡ (accepted_read e limit s words d).rows
   unfolding rows_of
@@ -121,7 +120,7 @@ module _ (e : Edition) (limit : ℕ) (s : List ℕ) (words : ℕ) {T : List ℕ}
       ∙ rows_there (room_of 4096 words) (replicate words 0) 0 g.rows (omega (arith, (derived e limit s words d).fits)) (omega (arith, length-replicate {A = ℕ} words 0))
 
   -- as a message of a limit that is not lower
-  higher : (later : ℕ) → limit ≤ later → later ≤ 32 → Answers (reading e later s words) words T (Accepted n used)
+  higher : (later : ℕ) → limit ≤ later → later ≤ 32 → Answers (reading e later s words) words T (accepted_as n used)
   unfolding reading
   higher later h k =
       let g = accepted_read e limit s words d in
@@ -151,7 +150,7 @@ module _ (e : Edition) (limit : ℕ) (s : List ℕ) (words : ℕ) {T : List ℕ}
 
 -- the same table, looked at by a limit that is not lower, up to 32
 module _
-    (e : Edition) (limit : ℕ) (s : List ℕ) (words : ℕ) {T : List ℕ} {n used : ℕ} (d : Answers (reading e limit s words) words T (Accepted n used))
+    (e : Edition) (limit : ℕ) (s : List ℕ) (words : ℕ) {T : List ℕ} {n used : ℕ} (d : Answers (reading e limit s words) words T (accepted_as n used))
     (later : ℕ) (h : limit ≤ later) (k : later ≤ 32)
   where
     as_later : Derivable e later s (rows_of 4096 T n)

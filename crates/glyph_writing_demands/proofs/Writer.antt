@@ -10,6 +10,7 @@ use native.Mathlib.Omega.{arith}
 use lib.Dec.{leb}
 use lib.ListN.{length, replicate, length-append, length-replicate}
 use borrow.Author.Tests.{leb-true, leb-false, le-leb, lt-leb}
+use Rattle.std.proofs.Common.{Ok, Err}
 use Rattle.text.proofs.Comparing.{clash}
 use Rattle.draft.specs.declared.Refusal.{Refusal}
 use Rattle.draft.specs.declared.Refusal.TheVariants.{TooLong, NotWritable, FormTooLong, OutputTooShort, NoLimit}
@@ -18,13 +19,10 @@ use Rattle.draft.specs.Limits.{allowed}
 use Rattle.draft.specs.Table.{room_of, row_at}
 use Rattle.draft.proofs.Limiting.{limit_most}
 use Rattle.glyph.specs.declared.Edition.{Edition}
-use Rattle.glyph.specs.declared.Answer.TheVariants.{Accepted}
-use Rattle.glyph.specs.Answers.{reading, Answers}
-use Rattle.glyph_form.specs.declared.Answer.{Answer}
-use Rattle.glyph_form.specs.declared.Answer.TheVariants.{Written, Refused}
+use Rattle.glyph.specs.Answers.{accepted_as, reading, Answers}
 use Rattle.glyph_form.specs.Writable.{writable}
 use Rattle.glyph_form.specs.Form.{form_of}
-use Rattle.glyph_form.specs.Answers.{given, answer_of, Did}
+use Rattle.glyph_form.specs.Answers.{given, answer_of, Did, Answer}
 use Rattle.glyph_demands.specs.Answered.{has}
 use Rattle.glyph_told.specs.Tables.{Words}
 use Rattle.glyph_written.specs.RowKinds.{glyph_kinds}
@@ -33,14 +31,14 @@ use Rattle.glyph_writing_demands.specs.Accepting.{Says, AcceptedFor, RefusedFor,
 use Rattle.glyph_writing_demands.proofs.Tables.{read_writable, read_short}
 
 -- an answer behind a test
-given_written : (b : Bool) (m : Refusal) (o : Answer) {n : ℕ} → given b m o ≡ Written n → (b ≡ true) × (o ≡ Written n)
+given_written : (b : Bool) (m : Refusal) (o : Answer) {n : ℕ} → given b m o ≡ Ok n → (b ≡ true) × (o ≡ Ok n)
 given_written true m o e = (refl, e)
 given_written false m o e = let z : ◌≡◌ {A = ℕ} 0 1 = cc in absurd (omega arith)
 
 -- what a refusal says that comes from the first of five tests that does not hold
 first_of :
     (l a b c d : Bool) (n : ℕ) {m : Refusal} (P : Refusal → Type 0)
-    → given l NoLimit (given a TooLong (given b NotWritable (given c FormTooLong (given d OutputTooShort (Written n))))) ≡ Refused m
+    → given l NoLimit (given a TooLong (given b NotWritable (given c FormTooLong (given d OutputTooShort (Ok n))))) ≡ Err m
     → (l ≡ false → P NoLimit) → (l ≡ true → a ≡ false → P TooLong) → (l ≡ true → a ≡ true → b ≡ false → P NotWritable)
     → (l ≡ true → a ≡ true → b ≡ true → c ≡ false → P FormTooLong) → (l ≡ true → a ≡ true → b ≡ true → c ≡ true → d ≡ false → P OutputTooShort) → P m
 first_of false a b c d n {m} P e i f g h k = let z : m ≡ NoLimit = cc in rw z (i refl)
@@ -55,11 +53,11 @@ module _ (e : Edition) (limit : ℕ) (T : List ℕ) (rows : ℕ) (s : List ℕ) 
   size = length (form_of e limit T s)
 
   -- ACCEPTANCE IS EXACT: the writer accepts, with length n, exactly for that.
-  pub accepted_exactly : (n : ℕ) → (answer_of e limit T rows s room ≡ Written n) ↔ AcceptedFor e limit T rows s room n
+  pub accepted_exactly : (n : ℕ) → (answer_of e limit T rows s room ≡ Ok n) ↔ AcceptedFor e limit T rows s room n
   unfolding answer_of
   accepted_exactly n = (there, back)
     where
-      there : answer_of e limit T rows s room ≡ Written n → AcceptedFor e limit T rows s room n
+      there : answer_of e limit T rows s room ≡ Ok n → AcceptedFor e limit T rows s room n
       there h =
           let l = given_written (allowed limit) NoLimit _ h in
           let a = given_written (leb (length s) 65536) TooLong _ l.1 in
@@ -76,7 +74,7 @@ module _ (e : Edition) (limit : ℕ) (T : List ℕ) (rows : ℕ) (s : List ℕ) 
             fits = omega (arith, i, leb-true size room d.0);
           }
 
-      back : AcceptedFor e limit T rows s room n → answer_of e limit T rows s room ≡ Written n
+      back : AcceptedFor e limit T rows s room n → answer_of e limit T rows s room ≡ Ok n
       back h =
           let c : size ≤ 65536 = omega (arith, h.long, h.most) in
           let d : size ≤ room = omega (arith, h.long, h.fits) in
@@ -108,7 +106,7 @@ module _ (e : Edition) (limit : ℕ) (T : List ℕ) (rows : ℕ) (s : List ℕ) 
 -- a call of the writer
 module _ (e : Edition) (limit : ℕ) (T : List ℕ) (rows : ℕ) (s out₀ out : List ℕ) where
   -- REFUSED: all zeros.
-  pub refused_zeros : {m : Refusal} → Did e limit T rows s out₀ out (Refused m) → out ≡ replicate (length out₀) 0
+  pub refused_zeros : {m : Refusal} → Did e limit T rows s out₀ out (Err m) → out ≡ replicate (length out₀) 0
   refused_zeros d = d.leaves
 
   -- 23 is said, with zeros, for a limit that is not 1 to 32.
@@ -129,7 +127,7 @@ module _ (e : Edition) (limit : ℕ) (T : List ℕ) (rows : ℕ) (s out₀ out :
 
   -- WRITTEN: the form, and zeros behind it, as many bytes as there were.
   pub written_whole :
-      {n : ℕ} → Did e limit T rows s out₀ out (Written n) → (out ≡ form_of e limit T s ++ replicate (length out₀ - n) 0) × (length out ≡ length out₀)
+      {n : ℕ} → Did e limit T rows s out₀ out (Ok n) → (out ≡ form_of e limit T s ++ replicate (length out₀ - n) 0) × (length out ≡ length out₀)
   written_whole {n} d =
       let h = (accepted_exactly e limit T rows s (length out₀) n).0 (sym d.says) in
       let l : length (form_of e limit T s) + length (replicate {A = ℕ} (length out₀ - n) 0) ≡ length out₀ =
@@ -146,7 +144,7 @@ module _ (e : Edition) (limit : ℕ) (T : List ℕ) (rows : ℕ) (s out₀ out :
 -- FROM THE READER: a table that `glyph_reader::read` made, with the rows that it reports and its message as text bytes, is refused neither with 11 nor
 -- with 12 by a call in the same edition whose limit is not lower.
 module _
-    (e : Edition) (limit : ℕ) (s : List ℕ) (words : ℕ) {T : List ℕ} {n used : ℕ} (d : Answers (reading e limit s words) words T (Accepted n used))
+    (e : Edition) (limit : ℕ) (s : List ℕ) (words : ℕ) {T : List ℕ} {n used : ℕ} (d : Answers (reading e limit s words) words T (accepted_as n used))
     (later : ℕ) (h : limit ≤ later)
   where
     neither : (room : ℕ) {m : ℕ} → RefusedFor e later T n s room m → (m ≡ 11 → ⊥) × (m ≡ 12 → ⊥)
@@ -163,13 +161,13 @@ module _
         why x = neither (length out₀) ((refused_exactly e later T n s (length out₀)).0 (rw w.says at x))
 
     -- WRITTEN OR 13, if that limit is one of 1 to 32; and an output as long as the bytes that the message used is long enough.
-    pub written_or_short : allowed later ≡ true → (room : ℕ) → answer_of e later T n s room ≡ given (leb (length (form_of e later T s)) room) OutputTooShort (Written (length (form_of e later T s)))
+    pub written_or_short : allowed later ≡ true → (room : ℕ) → answer_of e later T n s room ≡ given (leb (length (form_of e later T s)) room) OutputTooShort (Ok (length (form_of e later T s)))
     unfolding answer_of
     written_or_short i room =
         let k = read_short e limit s words d later h (limit_most later i) in
         rw (i, le-leb (length s) 65536 k.2, read_writable e limit s words d later h (limit_most later i), le-leb (length (form_of e later T s)) 65536 (omega (arith, k.0, k.1, k.2)))
 
-    pub used_enough : allowed later ≡ true → (out₀ out : List ℕ) {a : Answer} → used ≤ length out₀ → Did e later T n s out₀ out a → a ≡ Written (length (form_of e later T s))
+    pub used_enough : allowed later ≡ true → (out₀ out : List ℕ) {a : Answer} → used ≤ length out₀ → Did e later T n s out₀ out a → a ≡ Ok (length (form_of e later T s))
     used_enough i out₀ out l w =
         let k = read_short e limit s words d later h (limit_most later i) in
         w.says ∙ written_or_short i (length out₀) ∙ rw (le-leb (length (form_of e later T s)) (length out₀) (omega (arith, k.0)))

@@ -1,18 +1,17 @@
 -- Why the glyph writer accepts, and why it refuses, by documents 01's and 02's numbers. Assumes nothing.
-use Rattle.std.specs.Prelude.{◌≡◌, true, false, List, ℕ, ◌≤◌, ◌<◌, length}
+use Rattle.glyph_form.specs.Answers.{Answer}
+use Rattle.std.specs.Prelude.{◌≡◌, true, false, List, ℕ, ◌≤◌, ◌<◌, length, Err}
 use Rattle.draft.specs.declared.Refusal.{Refusal}
 use Rattle.draft.specs.Refusals.{number_of}
 use Rattle.draft.specs.Limits.{allowed}
 use Rattle.glyph.specs.declared.Edition.{Edition}
-use Rattle.glyph_form.specs.declared.Answer.{Answer}
-use Rattle.glyph_form.specs.declared.Answer.TheVariants.{Refused}
 use Rattle.glyph_form.specs.Writable.{writable}
 use Rattle.glyph_form.specs.Form.{form_of}
 
 -- an answer that is the refusal with this number
 pub record Says (number : ℕ) (a : Answer) : Type 0 where
   pub refusal : Refusal
-  pub is : a ≡ Refused refusal
+  pub is : a ≡ Err refusal
   pub number_is : number_of refusal ≡ number
 
 module _ (e : Edition) (limit : ℕ) (T : List ℕ) (rows : ℕ) (s : List ℕ) (room : ℕ) where

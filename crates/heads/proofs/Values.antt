@@ -14,7 +14,7 @@ use Rattle.draft.specs.Codebook.{Book}
 use Rattle.draft.specs.Read.{refused, floor, under, opened, array_item, struct_item, item, value, nested, tag_of}
 use Rattle.draft.proofs.Naming.{number_some}
 use Rattle.item.proofs.Tags.{tag_array, tag_struct}
-use Rattle.item.specs.declared.Step.{Step}
+use Rattle.item.specs.Contract.{Step, step_number}
 use Rattle.item.specs.Contract.{refused_at, read_to, Did}
 use Rattle.item.proofs.Readings.{done, did_no, opened_full, opened_cut, opened_on}
 use Rattle.scalar.proofs.Scalars.{flat}
@@ -75,22 +75,22 @@ unfolding head_of
 head_on bytes room at r d h k = simp (ne_eqb _ _ d, lt-ltb _ _ h, le-leb _ _ k)
 
 -- if its items come next
-pub begun : (s : List ℕ) (room deep at r : ℕ) {step : Step} → step ≡ head_of (length s) room deep at r → step.number ≡ 0 → Begun s room deep at r
+pub begun : (s : List ℕ) (room deep at r : ℕ) {step : Step} → step ≡ head_of (length s) room deep at r → step_number step ≡ 0 → Begun s room deep at r
 unfolding head_of
-begun s room deep at r f e = go _ _ _ refl refl refl (sym (ap (λ (x : Step). x.number) f) ∙ e)
+begun s room deep at r f e = go _ _ _ refl refl refl (sym (ap (λ (x : Step). step_number x) f) ∙ e)
   where
-    go : (a b c : Bool) → eqb deep 0 ≡ a → ltb r room ≡ b → leb (at + 5) (length s) ≡ c → (cond a (refused_at TooDeep at) (cond b (cond c (read_to at r) (refused_at Ended at)) (refused_at NoRow at))).number ≡ 0 → Begun s room deep at r
+    go : (a b c : Bool) → eqb deep 0 ≡ a → ltb r room ≡ b → leb (at + 5) (length s) ≡ c → step_number (cond a (refused_at TooDeep at) (cond b (cond c (read_to at r) (refused_at Ended at)) (refused_at NoRow at))) ≡ 0 → Begun s room deep at r
     go true b c d h k e = absurd (number_some TooDeep e)
     go false false c d h k e = absurd (number_some NoRow e)
     go false true false d h k e = absurd (number_some Ended e)
     go false true true d h k e = record { count = leb-true (at + 5) (length s) k; row = ltb-true r room h; level = positive deep (eqb-false deep 0 d) }
 
 -- then nothing was read
-pub head_same : (bytes room deep at r : ℕ) {step : Step} → step ≡ head_of bytes room deep at r → step.number ≡ 0 → step ≡ read_to at r
+pub head_same : (bytes room deep at r : ℕ) {step : Step} → step ≡ head_of bytes room deep at r → step_number step ≡ 0 → step ≡ read_to at r
 unfolding head_of
-head_same bytes room deep at r {step} f e = go (eqb deep 0) (ltb r room) (leb (at + 5) bytes) f (sym (ap (λ (x : Step). x.number) f) ∙ e)
+head_same bytes room deep at r {step} f e = go (eqb deep 0) (ltb r room) (leb (at + 5) bytes) f (sym (ap (λ (x : Step). step_number x) f) ∙ e)
   where
-    go : (a b c : Bool) → step ≡ cond a (refused_at TooDeep at) (cond b (cond c (read_to at r) (refused_at Ended at)) (refused_at NoRow at)) → (cond a (refused_at TooDeep at) (cond b (cond c (read_to at r) (refused_at Ended at)) (refused_at NoRow at))).number ≡ 0 → step ≡ read_to at r
+    go : (a b c : Bool) → step ≡ cond a (refused_at TooDeep at) (cond b (cond c (read_to at r) (refused_at Ended at)) (refused_at NoRow at)) → step_number (cond a (refused_at TooDeep at) (cond b (cond c (read_to at r) (refused_at Ended at)) (refused_at NoRow at))) ≡ 0 → step ≡ read_to at r
     go true b c f e = absurd (number_some TooDeep e)
     go false false c f e = absurd (number_some NoRow e)
     go false true false f e = absurd (number_some Ended e)
@@ -135,7 +135,7 @@ module _ (s : List ℕ) (deep at : ℕ) {bytes room from r : ℕ} {T T' W' : Lis
 
     module _ (t : b ≡ true) where
       -- it is refused before its items
-      pub value_head : step ≡ head_of (length s) room deep at r → (step.number ≡ 0 → ⊥) → Did (value s room deep at r book) bytes room from r T T' W' step
+      pub value_head : step ≡ head_of (length s) room deep at r → (step_number step ≡ 0 → ⊥) → Did (value s room deep at r book) bytes room from r T T' W' step
       unfolding head_of
       value_head f n = go _ _ _ refl refl refl f
         where
@@ -143,7 +143,7 @@ module _ (s : List ℕ) (deep at : ℕ) {bytes room from r : ℕ} {T T' W' : Lis
           go true y z d l k f = did_no TooDeep f (deep_none s room deep at r book h _ refl (sym o ∙ t) (eqb-true deep 0 d))
           go false false z d l k f = done (deep_some s room deep at r book h _ refl (sym o ∙ t) (positive deep (eqb-false deep 0 d))) (opened_full s 5 at _ (ltb-false r room l) f)
           go false true false d l k f = done (deep_some s room deep at r book h _ refl (sym o ∙ t) (positive deep (eqb-false deep 0 d))) (opened_cut s 5 at _ (ltb-true r room l) (leb-false (at + 5) (length s) k) f)
-          go false true true d l k f = absurd (n (ap (λ (x : Step). x.number) f))
+          go false true true d l k f = absurd (n (ap (λ (x : Step). step_number x) f))
 
       pub value_contents : Begun s room deep at r → Did (contents_of s room (eqb (get_or s at 0) 83) (value s room (deep - 1)) at r book) bytes room from r T T' W' step → Did (value s room deep at r book) bytes room from r T T' W' step
       value_contents g d = done (deep_some s room deep at r book h _ refl (sym o ∙ t) g.level) (opened_on s 5 at _ g.row g.count d)

@@ -5,7 +5,7 @@ use Rattle.draft.specs.declared.Refusal.TheVariants.{Ended, TooDeep, NoRow}
 use Rattle.draft.specs.declared.Row.{Row}
 use Rattle.draft.specs.Bytes.{unsigned_at}
 use Rattle.draft.specs.Read.{Reader, Texts, items, alike, nothing, member, keeping, over}
-use Rattle.item.specs.declared.Step.{Step}
+use Rattle.item.specs.Contract.{Step}
 use Rattle.item.specs.Contract.{refused_at, read_to}
 
 -- a byte that begins an Array or a Struct

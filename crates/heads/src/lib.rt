@@ -6,16 +6,14 @@ ghost use Rattle.std.specs.Prelude.{◌≡◌, ◌<◌, length};
 ghost use Rattle.heads.specs.Items.{holds_items, head_of};
 
 use draft::Refusal;
-use item::Step;
+use item::{Reached, Step};
 
 // Whether a byte begins an Array or a Struct.
+#[tactic(auto, unfolding(crate::specs::Items::holds_items))]
 pub fn holds_items(b: u8) -> bool
     ensures { result ≡ holds_items b }
 {
-    if b == b'A' {
-        return true;
-    }
-    b == b'S'
+    matches!(b, b'A' | b'S')
 }
 
 // Whether an Array or a Struct is refused for what it begins with; if not, nothing is read yet.
@@ -32,5 +30,5 @@ pub fn read_head(s: &[u8], at: usize, row: usize, deep: usize, room: usize) -> S
     if s.len() < at + 5 {
         return item::refuse(Refusal::Ended, at);
     }
-    Step { number: 0, at, row }
+    Ok(Reached { at, row })
 }

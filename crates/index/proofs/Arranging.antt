@@ -11,7 +11,7 @@ use Rattle.draft.specs.declared.Row.{Row}
 use Rattle.draft.specs.Table.{room_of, row_at}
 use Rattle.draft.specs.Writable.{writable}
 use Rattle.member.specs.declared.Member.{Member}
-use Rattle.member.specs.Members.{members_from, is_struct, members}
+use Rattle.member.specs.Members.{member_of, members_from, is_struct, members}
 use Rattle.member.proofs.Counting.{from_none, from_past, from_more}
 use Rattle.sorting.specs.Sorting.{key_text, sorted}
 use Rattle.sorting.proofs.Inserting.{sorted_length}
@@ -49,22 +49,24 @@ module _ (ks : List ℕ) (few : length ks ≤ 2047) where
 
 module _ (row : ℕ → Row) (rows : ℕ) where
   -- c members are noted, and the others are still to come
-  pub record Gathering (n first left here c : ℕ) (order : List ℕ) : Type 0 where
+  pub record Gathering (n first here c : ℕ) (order : List ℕ) : Type 0 where
     pub done : List ℕ
     pub most : length (members_from row rows n first) ≤ 2047
     pub few : c ≤ 2047
     pub count : c ≡ length done
     pub holds : order ≡ padded done
-    pub comes : done ++ key_rows (members_from row rows left here) ≡ key_rows (members_from row rows n first)
+    pub comes : done ++ key_rows (members_from row rows (n - c) here) ≡ key_rows (members_from row rows n first)
 
-  pub gather_first : {n first : ℕ} {order : List ℕ} → length (members_from row rows n first) ≤ 2047 → order ≡ padded [] → Gathering n first n first 0 order
-  gather_first h e = record { done = []; most = h; few = omega arith; count = refl; holds = e; comes = refl }
+  pub gather_first : {n first : ℕ} {order : List ℕ} → length (members_from row rows n first) ≤ 2047 → order ≡ padded [] → Gathering n first first 0 order
+  gather_first {n} h e =
+      let z : n - 0 ≡ n = omega arith in
+      record { done = []; most = h; few = omega arith; count = refl; holds = e; comes = rw z }
 
-  module _ {n first left here c : ℕ} {order : List ℕ} (w : Gathering n first left here c order) where
-    all : c + length (members_from row rows left here) ≡ length (members_from row rows n first)
+  module _ {n first here c : ℕ} {order : List ℕ} (w : Gathering n first here c order) where
+    all : c + length (members_from row rows (n - c) here) ≡ length (members_from row rows n first)
     all =
-        let e : length w.done + length (key_rows (members_from row rows left here)) ≡ length (key_rows (members_from row rows n first)) = sym (length-append w.done (key_rows (members_from row rows left here))) ∙ ap length w.comes in
-        omega (arith, e, w.count, rows_length (members_from row rows left here), rows_length (members_from row rows n first))
+        let e : length w.done + length (key_rows (members_from row rows (n - c) here)) ≡ length (key_rows (members_from row rows n first)) = sym (length-append w.done (key_rows (members_from row rows (n - c) here))) ∙ ap length w.comes in
+        omega (arith, e, w.count, rows_length (members_from row rows (n - c) here), rows_length (members_from row rows n first))
 
     long : length order ≡ 3071
     long = ap length w.holds ∙ padded_length w.done (omega (arith, w.few, w.count))
@@ -72,41 +74,43 @@ module _ (row : ℕ → Row) (rows : ℕ) where
     pub gather_kept : {order₀ : List ℕ} → order₀ ≡ padded [] → length order ≡ length order₀
     gather_kept e = long ∙ sym (ap length e ∙ padded_length [] (omega arith))
 
-    gathered : key_rows (members_from row rows left here) ≡ [] → Gathered (key_rows (members_from row rows n first)) c order
+    gathered : key_rows (members_from row rows (n - c) here) ≡ [] → Gathered (key_rows (members_from row rows n first)) c order
     gathered e =
         let f : w.done ≡ key_rows (members_from row rows n first) = sym (append-nil w.done) ∙ rw e at w.comes in
         record { count = w.count ∙ ap length f; room = omega (arith, w.few, long); holds = w.holds ∙ ap padded f }
 
-    pub gather_none : left ≤ 0 → Gathered (key_rows (members_from row rows n first)) c order
+    pub gather_none : n ≤ c → Gathered (key_rows (members_from row rows n first)) c order
     unfolding key_rows
-    gather_none h = gathered (rw (from_none row rows left here h))
+    gather_none h = gathered (rw (from_none row rows (n - c) here (omega arith)))
 
     pub gather_past : rows ≤ here + 1 → Gathered (key_rows (members_from row rows n first)) c order
     unfolding key_rows
-    gather_past h = gathered (rw (from_past row rows left here h))
-
-    pub gather_past_key : rows ≤ here → Gathered (key_rows (members_from row rows n first)) c order
-    gather_past_key h = gather_past (omega arith)
+    gather_past h = gathered (rw (from_past row rows (n - c) here h))
 
     pub gather_room : c < length order
     gather_room = omega (arith, w.few, long)
 
-    module _ (p : 0 < left) (h : here + 1 < rows) where
-      pub gather_again : {next : ℕ} → next ≡ (row (here + 1)).end → Gathering n first (left - 1) next (c + 1) (set order c here)
+    module _ {m : Member} (p : c < n) (h : (here + 1 < rows) × (m ≡ member_of here (here + 1))) where
+      more : 0 < n - c
+      more = omega arith
+
+      pub gather_again : {next : ℕ} → next ≡ (row m.value).end → Gathering n first next (c + 1) (set order c m.key)
       unfolding key_rows
-      gather_again e =
+      gather_again {next} e =
           let d : List ℕ = w.done in
-          let k : d ++ (here ∷ key_rows (members_from row rows (left - 1) (row (here + 1)).end)) ≡ key_rows (members_from row rows n first) = rw (from_more row rows left here p h) at w.comes in
-          record {
+          let z : n - c - 1 ≡ n - (c + 1) = omega arith in
+          let q : next ≡ (row (here + 1)).end = rw h.1 at e in
+          let k : d ++ (here ∷ key_rows (members_from row rows (n - c - 1) (row (here + 1)).end)) ≡ key_rows (members_from row rows n first) = rw (from_more row rows (n - c) here more h.0) at w.comes in
+          rw h.1 (record {
             done = d ++ (here ∷ []);
             most = w.most;
-            few = omega (arith, all, w.most, ap length (from_more row rows left here p h));
+            few = omega (arith, all, w.most, ap length (from_more row rows (n - c) here more h.0));
             count = rw length-append (omega (arith, w.count));
             holds = rw (w.holds, w.count) (padded_more d (omega (arith, w.few, w.count)) here);
-            comes = rw (e, append_assoc) k;
-          }
+            comes = rw (q, ← z, append_assoc) k;
+          })
 
-pub ruleset gathering = (gather_first, gather_kept, gather_none, gather_past, gather_past_key, gather_room, gather_again)
+pub ruleset gathering = (gather_first, gather_kept, gather_none, gather_room)
 
 -- ---- put in order
 

@@ -1,6 +1,6 @@
 -- The index of a Struct's members: the entries in byte order of their keys, unused ones behind them; and why there is none. Defined for any table.
 -- Assumes nothing.
-use Rattle.std.specs.Prelude.{◌≡◌, cond, ◌||◌, List, [], ◌∷◌, ◌++◌, ℕ, ◌+◌, ◌-◌, ◌/◌, ◌≤◌, ltb, eqb, length, get_or, replicate}
+use Rattle.std.specs.Prelude.{◌≡◌, cond, ◌||◌, List, [], ◌∷◌, ◌++◌, ℕ, ◌+◌, ◌-◌, ◌/◌, ◌≤◌, ltb, eqb, length, get_or, replicate, Result, Ok, Err}
 use Rattle.draft.specs.declared.Row.{Row}
 use Rattle.draft.specs.Table.{room_of, row_at, from}
 use Rattle.draft.specs.Writable.{writable}
@@ -8,6 +8,19 @@ use Rattle.member.specs.declared.Member.{Member}
 use Rattle.member.specs.Members.{member_of, is_struct, members}
 use Rattle.seeking.specs.Seeking.{unused}
 use Rattle.sorting.specs.Sorting.{key_text, sorted}
+use Rattle.index.specs.declared.Refusal.{Refusal}
+use Rattle.index.specs.declared.Refusal.TheVariants.{NotWritable, NoStruct, ShortList}
+
+-- document 02's numbers of the refusals
+abbrev pub number_of : Refusal → ℕ
+number_of NotWritable = 11
+number_of NoStruct = 18
+number_of ShortList = 21
+
+-- 0, or the refusal's number
+abbrev pub told : Result (Unit {0}) Refusal → ℕ
+told (Ok done) = 0
+told (Err why) = number_of why
 
 -- the key rows of members
 unfoldable pub key_rows : List Member → List ℕ

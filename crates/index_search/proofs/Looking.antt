@@ -7,11 +7,11 @@ use native.Mathlib.Omega.{arith}
 use lib.ListN.{length, get_or}
 use lib.Dec.{eqb}
 use borrow.Author.Tests.{eq-eqb, eqb-true}
+use Rattle.std.specs.Prelude.{Err}
 use Rattle.draft.specs.Table.{from}
 use Rattle.draft.specs.Writable.{writable}
 use Rattle.member.specs.declared.Member.{Member}
 use Rattle.lookup_answer.specs.Reports.{report_of}
-use Rattle.lookup_answer.specs.declared.Answer.TheVariants.{Refused}
 use Rattle.lookup_answer.specs.declared.Refusal.TheVariants.{NotWritable}
 use Rattle.seeking.specs.declared.Search.{Search}
 use Rattle.seeking.specs.Seeking.{over, begun, unused}
@@ -45,7 +45,7 @@ module _ (T s keys : List ℕ) (q : Question) (es : List Member) where
   pub looking_done : (left : ℕ) (st : Search) → Looking left st → length es ≤ st.at → report_of (answer_for T s q st) ≡ report_of (answered T s es keys q)
   unfolding answer_for answered through_if found_row
   looking_done left st k h =
-      ap (λ (x : Search). report_of (cond (asks q) (row_answer T s q.rows x.value) (Refused NotWritable)))
+      ap (λ (x : Search). report_of (cond (asks q) (row_answer T s q.rows x.value) (Err NotWritable)))
       (seeking_done (its_relation T s (key_of keys q)) (its_member T s q.rows q.row) left st k h)
 
 -- ---- a question about a key of several is that of a single lookup

@@ -7,11 +7,11 @@ use native.Mathlib.Omega.{arith}
 use lib.Dec.{eqb}
 use lib.ListN.{length, get_or}
 use borrow.Author.Tests.{eq-eqb, ne_eqb, eqb-true}
+use Rattle.std.specs.Prelude.{Some, None}
 use Rattle.text.proofs.Comparing.{clash, both, same_is, same_self}
 use Rattle.draft.specs.declared.Row.{Row}
 use Rattle.draft.specs.Read.{text_of}
 use Rattle.member.specs.declared.Member.{Member}
-use Rattle.member.specs.declared.Found.TheVariants.{At, Absent}
 use Rattle.member.specs.Members.{member_of, has_key, keys_of, find, same_member, is_among}
 use Rattle.member.proofs.Apart.{Apart, none_apart, and_apart}
 use Rattle.sorting.proofs.Inserting.{times, times_at, Stands, stands}
@@ -131,8 +131,8 @@ module _ (row : ℕ → Row) (s : List ℕ) where
 
   -- the first with a key, or that none has it
   data Search (key : List ℕ) (ms : List Member) : Type 0 where
-    at : (k : ℕ) → 0 < times k (key_rows ms) → text_of s (row k) ≡ key → find row s key ms ≡ At (member_of k (k + 1)) → Search key ms
-    none : find row s key ms ≡ Absent → Search key ms
+    at : (k : ℕ) → 0 < times k (key_rows ms) → text_of s (row k) ≡ key → find row s key ms ≡ Some (member_of k (k + 1)) → Search key ms
+    none : find row s key ms ≡ None → Search key ms
 
   search_in : (key : List ℕ) {rows r : ℕ} {ms : List Member} → Apart rows r ms → Search key ms
   unfolding find key_rows times has_key
@@ -144,14 +144,14 @@ module _ (row : ℕ → Row) (s : List ℕ) where
       go false e (at k t f g) = at k (omega (arith, t)) f (rw e g)
       go false e (none g) = none (rw e g)
 
-  found_is : (key : List ℕ) {rows r : ℕ} {ms : List Member} → Apart rows r ms → (k : ℕ) → 0 < times k (key_rows ms) → text_of s (row k) ≡ key → find row s key ms ≡ Absent → ⊥
+  found_is : (key : List ℕ) {rows r : ℕ} {ms : List Member} → Apart rows r ms → (k : ℕ) → 0 < times k (key_rows ms) → text_of s (row k) ≡ key → find row s key ms ≡ None → ⊥
   unfolding find key_rows times has_key
   found_is key none_apart k t e f = omega arith
   found_is key {rows} {r} (and_apart x ms i j a) k t e f = go (has_key row s key x) refl (eqb x k) refl t (λ u v w. found_is key a k u v w)
     where
       go : (b : Bool) → has_key row s key x ≡ b → (c : Bool) → eqb x k ≡ c → 0 < cond c 1 0 + times k (key_rows ms)
-          → (0 < times k (key_rows ms) → text_of s (row k) ≡ key → find row s key ms ≡ Absent → ⊥) → ⊥
-      go true g c h t ih = let u : At (member_of x (x + 1)) ≡ Absent = rw g at f in let z : ◌≡◌ {A = ℕ} 0 1 = cc in omega arith
+          → (0 < times k (key_rows ms) → text_of s (row k) ≡ key → find row s key ms ≡ None → ⊥) → ⊥
+      go true g c h t ih = let u : Some (member_of x (x + 1)) ≡ None = rw g at f in let z : ◌≡◌ {A = ℕ} 0 1 = cc in omega arith
       go false g true h t ih =
           let u : x ≡ k = eqb-true x k h in
           let v : has_key row s key x ≡ true = rw (u, e) (same_self key) in
@@ -160,16 +160,16 @@ module _ (row : ℕ → Row) (s : List ℕ) where
 
   module _ {rows r : ℕ} {ms : List Member} (a : Apart rows r ms) (key : List ℕ) where
     -- THE ONE with a key is found, and none if none has it
-    pub found_at : Distinct ms → (k : ℕ) → 0 < times k (key_rows ms) → text_of s (row k) ≡ key → find row s key ms ≡ At (member_of k (k + 1))
+    pub found_at : Distinct ms → (k : ℕ) → 0 < times k (key_rows ms) → text_of s (row k) ≡ key → find row s key ms ≡ Some (member_of k (k + 1))
     found_at d k t e = go (search_in key a)
       where
-        go : Search key ms → find row s key ms ≡ At (member_of k (k + 1))
-        go (at j u f g) = g ∙ ap (λ (n : ℕ). At (member_of n (n + 1))) (same_row ms d j k u t (f ∙ sym e))
+        go : Search key ms → find row s key ms ≡ Some (member_of k (k + 1))
+        go (at j u f g) = g ∙ ap (λ (n : ℕ). Some (member_of n (n + 1))) (same_row ms d j k u t (f ∙ sym e))
         go (none f) = absurd (found_is key a k t e f)
 
-    pub found_none : ((k : ℕ) → 0 < times k (key_rows ms) → text_of s (row k) ≡ key → ⊥) → find row s key ms ≡ Absent
+    pub found_none : ((k : ℕ) → 0 < times k (key_rows ms) → text_of s (row k) ≡ key → ⊥) → find row s key ms ≡ None
     found_none n = go (search_in key a)
       where
-        go : Search key ms → find row s key ms ≡ Absent
+        go : Search key ms → find row s key ms ≡ None
         go (at j u f g) = absurd (n j u f)
         go (none f) = f

@@ -6,19 +6,17 @@ use Prim.Native.Nat.{ℕ, ◌+◌, ◌-◌, ◌*◌, ◌≤◌, ◌<◌}
 use native.Mathlib.Omega.{arith}
 use lib.ListN.{length, get_or}
 use borrow.Author.Tests.{ne_eqb, lt-ltb, le-ltb}
+use Rattle.std.specs.Prelude.{Err}
 use Rattle.draft.specs.declared.Row.{Row}
 use Rattle.draft.specs.Bytes.{part}
 use Rattle.draft.specs.Table.{room_of, row_at}
 use Rattle.draft.specs.Writable.{writable}
 use Rattle.member.specs.declared.Member.{Member}
 use Rattle.member.specs.Members.{members, is_among}
-use Rattle.order.specs.declared.Relation.{Relation}
-use Rattle.order.specs.declared.Relation.TheVariants.{Before, Equal, After}
+use Rattle.std.proofs.Common.{Ordering, Less, Equal, Greater}
 use Rattle.order.specs.ByteOrder.{compared}
 use Rattle.lookup_answer.specs.declared.Refusal.TheVariants.{NotWritable, NoMember}
-use Rattle.lookup_answer.specs.declared.Answer.{Answer}
-use Rattle.lookup_answer.specs.declared.Answer.TheVariants.{Refused}
-use Rattle.lookup_answer.specs.Answers.{answer_at}
+use Rattle.lookup_answer.specs.Answers.{Answer, answer_at}
 use Rattle.lookup_answer.specs.declared.Report.{Report}
 use Rattle.lookup_answer.specs.Reports.{report_of}
 use Rattle.shape.proofs.Judged.{rows_stated, room_most, room_inside}
@@ -32,11 +30,11 @@ use Rattle.index_search.specs.Through.{relation_to, is_member, verified, start_o
 -- ---- how an entry stands
 
 module _ (room : ℕ) (row : ℕ → Row) (s key : List ℕ) (e : Member) where
-  pub relation_unused : e.key ≡ 0 → After ≡ relation_to room row s key e
+  pub relation_unused : e.key ≡ 0 → Greater ≡ relation_to room row s key e
   unfolding relation_to
   relation_unused h = rw h
 
-  pub relation_used : {t : List ℕ} {r : Relation} → (e.key ≡ 0 → ⊥) → t ≡ key_text room row s e.key → r ≡ compared t key → r ≡ relation_to room row s key e
+  pub relation_used : {t : List ℕ} {r : Ordering} → (e.key ≡ 0 → ⊥) → t ≡ key_text room row s e.key → r ≡ compared t key → r ≡ relation_to room row s key e
   unfolding relation_to
   relation_used h i j = j ∙ rw (ne_eqb e.key 0 h, i)
 
@@ -53,14 +51,14 @@ pub ruleset relating = (relation_unused, relation_used, verify_yes, verify_no)
 
 -- ---- one step
 
-module _ {x y : Relation} (named : Bool) (st : Search) (e : Member) {next : Search} (i : x ≡ y) where
-  pub step_before : x ≡ Before → next ≡ between (st.at + 1) st.high → next ≡ turned y named st e
+module _ {x y : Ordering} (named : Bool) (st : Search) (e : Member) {next : Search} (i : x ≡ y) where
+  pub step_before : x ≡ Less → next ≡ between (st.at + 1) st.high → next ≡ turned y named st e
   step_before f j = j ∙ rw (← i, f)
 
   pub step_equal : x ≡ Equal → next ≡ verified named e → next ≡ turned y named st e
   step_equal f j = j ∙ rw (← i, f)
 
-  pub step_after : x ≡ After → next ≡ between st.low st.at → next ≡ turned y named st e
+  pub step_after : x ≡ Greater → next ≡ between st.low st.at → next ≡ turned y named st e
   step_after f j = j ∙ rw (← i, f)
 
 pub ruleset stepping = (step_before, step_equal, step_after)
@@ -116,16 +114,16 @@ pub ruleset asking = (judged_so, judged_not, number_past, start_first, start_lat
 -- ---- what was found
 
 module _ (T s : List ℕ) (q : Question) (st : Search) where
-  pub answer_not : (q.number ≡ 0 → ⊥) → Refused NotWritable ≡ answer_for T s q st
+  pub answer_not : (q.number ≡ 0 → ⊥) → Err NotWritable ≡ answer_for T s q st
   unfolding answer_for
   answer_not e = rw (ne_eqb q.number 0 e)
 
   module _ (e : q.number ≡ 0) where
-    pub answer_none : st.value ≡ 0 → Refused NoMember ≡ answer_for T s q st
+    pub answer_none : st.value ≡ 0 → Err NoMember ≡ answer_for T s q st
     unfolding answer_for row_answer
     answer_none h = rw (e, h)
 
-    pub answer_past : (st.value ≡ 0 → ⊥) → q.rows ≤ st.value → Refused NoMember ≡ answer_for T s q st
+    pub answer_past : (st.value ≡ 0 → ⊥) → q.rows ≤ st.value → Err NoMember ≡ answer_for T s q st
     unfolding answer_for row_answer
     answer_past f h = rw (e, lt-ltb 0 st.value (omega (arith, f)), le-ltb st.value q.rows h)
 

@@ -8,22 +8,19 @@ use native.Mathlib.Omega.{arith}
 use lib.Dec.{ltb}
 use lib.ListN.{length, get_or}
 use borrow.Author.Tests.{ne_eqb, lt-ltb, ltb-true, ltb-false}
+use Rattle.std.specs.Prelude.{Some, None, Err}
 use Rattle.draft.specs.declared.Row.{Row}
 use Rattle.draft.specs.Table.{room_of, row_at, from}
 use Rattle.draft.specs.Read.{text_of}
 use Rattle.draft.specs.Writable.{writable}
 use Rattle.member.specs.declared.Member.{Member}
-use Rattle.member.specs.declared.Found.TheVariants.{At, Absent}
 use Rattle.member.specs.Members.{member_of, is_struct, members, find, is_among}
 use Rattle.member.proofs.Apart.{Apart}
-use Rattle.order.specs.declared.Relation.{Relation}
-use Rattle.order.specs.declared.Relation.TheVariants.{Before, Equal, After}
+use Rattle.std.proofs.Common.{Ordering, Less, Equal, Greater}
 use Rattle.order.specs.ByteOrder.{compared}
-use Rattle.order.proofs.Ordering.{Less, turned, compared_self, compared_equal, compared_turned, after_less, less_le, le_less, before_after, equal_after}
+use Rattle.order.proofs.Ordering.{Earlier, turned, compared_self, compared_equal, compared_turned, after_less, less_le, le_less, before_after, equal_after}
 use Rattle.lookup_answer.specs.declared.Refusal.TheVariants.{NoMember}
-use Rattle.lookup_answer.specs.declared.Answer.{Answer}
-use Rattle.lookup_answer.specs.declared.Answer.TheVariants.{Refused}
-use Rattle.lookup_answer.specs.Answers.{answer_at, found_answer, look, lookup}
+use Rattle.lookup_answer.specs.Answers.{Answer, answer_at, found_answer, look, lookup}
 use Rattle.seeking.specs.Seeking.{over, begun, unused, searched}
 use Rattle.seeking.proofs.Finding.{Outcome, nothing, found, any_list, InOrder, Sought, none, hit, in_order_finds}
 use Rattle.sorting.specs.Sorting.{key_text, sorted, Rising}
@@ -97,25 +94,25 @@ module _ (room : ℕ) (row : ℕ → Row) (rows : ℕ) (s : List ℕ) (ms : List
         entries_at ks n i h ∙ sym (entry_here (get_or ks i 0) (λ e. omega (arith, w.low)) (omega (arith, w.inside)))
 
     -- IN ORDER: no key is before the key of an earlier entry
-    pub entries_rise : (i j : ℕ) → i ≤ j → j < length ks → Less (text_of s (row (get_or ks j 0))) (text_of s (row (get_or ks i 0))) → ⊥
+    pub entries_rise : (i j : ℕ) → i ≤ j → j < length ks → Earlier (text_of s (row (get_or ks j 0))) (text_of s (row (get_or ks i 0))) → ⊥
     entries_rise i j h l e =
         let u = known i (omega arith) in
         let v = known j l in
         before_not text (get_or ks j 0) (get_or ks i 0) (rises.up i j h l) (rw (is_text_lem (get_or ks j 0) (omega (arith, v.inside)), is_text_lem (get_or ks i 0) (omega (arith, u.inside))) e)
 
     -- and none is the same: each key is before those of the later entries
-    pub entries_ascend : Distinct row s ms → (i j : ℕ) → i < j → j < length ks → Less (text_of s (row (get_or ks i 0))) (text_of s (row (get_or ks j 0)))
+    pub entries_ascend : Distinct row s ms → (i j : ℕ) → i < j → j < length ks → Earlier (text_of s (row (get_or ks i 0))) (text_of s (row (get_or ks j 0)))
     entries_ascend d i j h l = go (compared (text_of s (row (get_or ks i 0))) (text_of s (row (get_or ks j 0)))) refl
       where
         there : (x : ℕ) → x < length ks → 0 < times (get_or ks x 0) (key_rows ms)
         there x z = rw (kept (get_or ks x 0)) at (times_at ks x z)
 
-        go : (c : Relation) → compared (text_of s (row (get_or ks i 0))) (text_of s (row (get_or ks j 0))) ≡ c → c ≡ Before
-        go Before e = refl
+        go : (c : Ordering) → compared (text_of s (row (get_or ks i 0))) (text_of s (row (get_or ks j 0))) ≡ c → c ≡ Less
+        go Less e = refl
         go Equal e =
             absurd (once_apart ks (λ k. rw (kept k) (apart_once apart k)) i j h l
             (same_row row s ms d (get_or ks i 0) (get_or ks j 0) (there i (omega arith)) (there j l) (compared_equal _ _ e)))
-        go After e = absurd (entries_rise i j (omega arith) l (after_less _ _ e))
+        go Greater e = absurd (entries_rise i j (omega arith) l (after_less _ _ e))
 
     -- EACH MEMBER has its entry
     pub member_placed : length ms ≤ n → (m : Member) → is_among m ms ≡ true → (i : ℕ) × (i < length ms) × (get_or es i unused ≡ m)
@@ -129,7 +126,7 @@ module _ (room : ℕ) (row : ℕ → Row) (rows : ℕ) (s : List ℕ) (ms : List
     entry_member i h l = let z : i < length ks = omega (arith, sorted_count) in rw (entry_used i h z) (known i z).among
 
     module _ (r : ℕ) (its : ms ≡ members row rows r) (key : List ℕ) where
-      abbrev relation : Member → Relation
+      abbrev relation : Member → Ordering
       relation = relation_to room row s key
 
       abbrev named : Member → Bool
@@ -144,7 +141,7 @@ module _ (room : ℕ) (row : ℕ → Row) (rows : ℕ) (s : List ℕ) (ms : List
           let w = known i l in
           rw (entry_used i h l, ne_eqb (get_or ks i 0) 0 (λ e. omega (arith, w.low)), is_text_lem (get_or ks i 0) (omega (arith, w.inside)))
 
-      past_is : (i : ℕ) → i < n → length ks ≤ i → relation (get_or es i unused) ≡ After
+      past_is : (i : ℕ) → i < n → length ks ≤ i → relation (get_or es i unused) ≡ Greater
       unfolding relation_to
       past_is i h l = rw (entries_past ks n i h l)
 
@@ -166,17 +163,17 @@ module _ (room : ℕ) (row : ℕ → Row) (rows : ℕ) (s : List ℕ) (ms : List
           bound : (j : ℕ) → j < length es → j < n
           bound j h = rw (entries_length ks n) at h
 
-          down : (i j : ℕ) → i ≤ j → j < length es → relation (get_or es j unused) ≡ Before → relation (get_or es i unused) ≡ Before
+          down : (i j : ℕ) → i ≤ j → j < length es → relation (get_or es j unused) ≡ Less → relation (get_or es i unused) ≡ Less
           down i j h l e = by j _
               (λ a. used_is i (omega (arith, bound j l)) (omega arith)
               ∙ le_less (text_of s (row (get_or ks i 0))) (text_of s (row (get_or ks j 0))) key (entries_rise i j h a) (sym (used_is j (bound j l) a) ∙ e))
               (λ a. before_after e (past_is j (bound j l) a))
 
-          up : (i j : ℕ) → i ≤ j → j < length es → relation (get_or es i unused) ≡ After → relation (get_or es j unused) ≡ After
+          up : (i j : ℕ) → i ≤ j → j < length es → relation (get_or es i unused) ≡ Greater → relation (get_or es j unused) ≡ Greater
           up i j h l e = by j _
               (λ a.
-              let f : compared (text_of s (row (get_or ks i 0))) key ≡ After = sym (used_is i (omega (arith, bound j l)) (omega arith)) ∙ e in
-              let g : Less key (text_of s (row (get_or ks j 0))) = less_le key (text_of s (row (get_or ks i 0))) (text_of s (row (get_or ks j 0))) (after_less (text_of s (row (get_or ks i 0))) key f) (entries_rise i j h a) in
+              let f : compared (text_of s (row (get_or ks i 0))) key ≡ Greater = sym (used_is i (omega (arith, bound j l)) (omega arith)) ∙ e in
+              let g : Earlier key (text_of s (row (get_or ks j 0))) = less_le key (text_of s (row (get_or ks i 0))) (text_of s (row (get_or ks j 0))) (after_less (text_of s (row (get_or ks i 0))) key f) (entries_rise i j h a) in
               used_is j (bound j l) a ∙ compared_turned key (text_of s (row (get_or ks j 0))) ∙ ap turned g)
               (λ a. past_is j (bound j l) a)
 
@@ -189,14 +186,14 @@ module _ (room : ℕ) (row : ℕ → Row) (rows : ℕ) (s : List ℕ) (ms : List
 
       -- what a row found answers
       abbrev row_found : ℕ → Answer
-      row_found v = cond (ltb 0 v && ltb v rows) (answer_at row s v) (Refused NoMember)
+      row_found v = cond (ltb 0 v && ltb v rows) (answer_at row s v) (Err NoMember)
 
       row_found_lem : (k : ℕ) → k + 1 < rows → row_found (k + 1) ≡ answer_at row s (k + 1)
       row_found_lem k h = rw (lt-ltb 0 (k + 1) (omega arith), lt-ltb (k + 1) rows h)
 
       module _ (distinct : Distinct row s ms) (all : length ms ≤ n) where
         -- none stands equal: no member has the key
-        none_finds : ((i : ℕ) → i < length es → relation (get_or es i unused) ≡ Equal → ⊥) → find row s key ms ≡ Absent
+        none_finds : ((i : ℕ) → i < length es → relation (get_or es i unused) ≡ Equal → ⊥) → find row s key ms ≡ None
         none_finds f = found_none row s apart key absent
           where
             absent : (k : ℕ) → 0 < times k (key_rows ms) → text_of s (row k) ≡ key → ⊥
@@ -229,16 +226,16 @@ module _ (room : ℕ) (row : ℕ → Row) (rows : ℕ) (s : List ℕ) (ms : List
   module _ (r : ℕ) (its : ms ≡ members row rows r) (key : List ℕ) (distinct : Distinct row s ms) (es : List Member) where
     pub data Through (v : ℕ) : Type 0 where
       nothing_there : v ≡ 0 → Through v
-      named_there : (i : ℕ) → i < length es → find row s key ms ≡ At (get_or es i unused) → v ≡ (get_or es i unused).value → v < rows → 0 < v → Through v
+      named_there : (i : ℕ) → i < length es → find row s key ms ≡ Some (get_or es i unused) → v ≡ (get_or es i unused).value → v < rows → 0 < v → Through v
 
-    entry_named : (e : Member) → relation_to room row s key e ≡ Equal → is_among e ms ≡ true → (find row s key ms ≡ At e) × (e.value < rows) × (0 < e.value)
+    entry_named : (e : Member) → relation_to room row s key e ≡ Equal → is_among e ms ≡ true → (find row s key ms ≡ Some e) × (e.value < rows) × (0 < e.value)
     unfolding relation_to
     entry_named e f a =
         let w = of_key_row apart e a in
         let u = key_row apart low e.key w.there in
         let c : compared (text_of s (row e.key)) key ≡ Equal = rw (ne_eqb e.key 0 (λ z. omega (arith, u.low)), is_text_lem e.key (omega (arith, u.inside))) at f in
         let v : e.value ≡ e.key + 1 = ap (λ (x : Member). x.value) w.is in
-        (found_at row s apart key distinct e.key w.there (compared_equal _ key c) ∙ ap At (sym w.is), omega (arith, u.inside), omega arith)
+        (found_at row s apart key distinct e.key w.there (compared_equal _ key c) ∙ ap Some (sym w.is), omega (arith, u.inside), omega arith)
 
     any_finds : (wanted : Bool) → Through (searched (relation_to room row s key) (is_member row rows r) es (length es) (begun wanted (length es))).value
     unfolding is_member
@@ -280,15 +277,15 @@ module _ (T : List ℕ) (rows : ℕ) (s : List ℕ) (r : ℕ) where
     through_index n all fits = rw g.writes (index_finds its_room its_row rows s its_members g.apart g.low g.most g.within n r refl key g.distinct all fits)
 
     pub data Answered (es : List Member) (a : Answer) : Type 0 where
-      as_front : (i : ℕ) → i < length es → find its_row s key its_members ≡ At (get_or es i unused) → a ≡ lookup T rows s r key → Answered es a
-      no_member : a ≡ Refused NoMember → Answered es a
+      as_front : (i : ℕ) → i < length es → find its_row s key its_members ≡ Some (get_or es i unused) → a ≡ lookup T rows s r key → Answered es a
+      no_member : a ≡ Err NoMember → Answered es a
 
     pub through_any : (es : List Member) → Answered es (through T rows s r es key)
     unfolding through through_if found_row row_answer lookup look
     through_any es = rw g.writes (go _ (any_finds its_room its_row rows s its_members g.apart g.low g.most g.within r refl key g.distinct es true))
       where
         go : (v : ℕ) → Through its_room its_row rows s its_members g.apart g.low g.most g.within r refl key g.distinct es v
-            → Answered es (cond (ltb 0 v && ltb v rows) (answer_at its_row s v) (Refused NoMember))
+            → Answered es (cond (ltb 0 v && ltb v rows) (answer_at its_row s v) (Err NoMember))
         go v (nothing_there e) = no_member (rw e)
         go v (named_there i h f e l p) = as_front i h f (rw (lt-ltb 0 v p, lt-ltb v rows l, f, e, g.writes))
 

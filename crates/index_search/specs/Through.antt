@@ -1,19 +1,17 @@
 -- Looking a key up through a list of entries: by halves, and an entry whose text is the key is answered only if its two rows are those of a member of
 -- the Struct. Defined for any table and any list. Assumes nothing.
-use Rattle.std.specs.Prelude.{◌≡◌, Bool, true, cond, ◌&&◌, List, ℕ, ◌-◌, ltb, eqb, length, get_or}
+use Rattle.std.specs.Prelude.{◌≡◌, Bool, true, cond, ◌&&◌, List, ℕ, ◌-◌, ltb, eqb, length, get_or, Err}
 use Rattle.draft.specs.declared.Row.{Row}
 use Rattle.draft.specs.Bytes.{part}
 use Rattle.draft.specs.Table.{room_of, row_at, from}
 use Rattle.draft.specs.Writable.{writable}
 use Rattle.member.specs.declared.Member.{Member}
 use Rattle.member.specs.Members.{members, is_among}
-use Rattle.order.specs.declared.Relation.{Relation}
-use Rattle.order.specs.declared.Relation.TheVariants.{After}
+use Rattle.std.specs.declared.cmp.Ordering.{Ordering}
+use Rattle.std.specs.declared.cmp.Ordering.TheVariants.{Greater}
 use Rattle.order.specs.ByteOrder.{compared}
 use Rattle.lookup_answer.specs.declared.Refusal.TheVariants.{NotWritable, NoMember}
-use Rattle.lookup_answer.specs.declared.Answer.{Answer}
-use Rattle.lookup_answer.specs.declared.Answer.TheVariants.{Refused}
-use Rattle.lookup_answer.specs.Answers.{answer_at}
+use Rattle.lookup_answer.specs.Answers.{Answer, answer_at}
 use Rattle.lookup_answer.specs.declared.Report.{Report}
 use Rattle.lookup_answer.specs.Reports.{report_of}
 use Rattle.seeking.specs.declared.Search.{Search}
@@ -22,8 +20,8 @@ use Rattle.sorting.specs.Sorting.{key_text}
 use Rattle.index_search.specs.declared.Question.{Question}
 
 -- how the text of an entry's key stands to a key; an unused entry counts as after every key
-unfoldable pub relation_to : ℕ → (ℕ → Row) → List ℕ → List ℕ → Member → Relation
-relation_to room row s key e = cond (eqb e.key 0) After (compared (key_text room row s e.key) key)
+unfoldable pub relation_to : ℕ → (ℕ → Row) → List ℕ → List ℕ → Member → Ordering
+relation_to room row s key e = cond (eqb e.key 0) Greater (compared (key_text room row s e.key) key)
 
 -- an entry names the two rows of a member of the Struct of row r
 unfoldable pub is_member : (ℕ → Row) → ℕ → ℕ → Member → Bool
@@ -34,7 +32,7 @@ abbrev pub verified : Bool → Member → Search
 verified named e = cond named (ended e.value) (ended 0)
 
 module _ (T s : List ℕ) where
-  abbrev pub its_relation : List ℕ → Member → Relation
+  abbrev pub its_relation : List ℕ → Member → Ordering
   its_relation key = relation_to (room_of 4096 (length T)) (row_at (room_of 4096 (length T)) T) s key
 
   abbrev pub its_member : ℕ → ℕ → Member → Bool
@@ -46,10 +44,10 @@ module _ (T s : List ℕ) where
 
   -- what it answers
   unfoldable pub row_answer : ℕ → ℕ → Answer
-  row_answer rows v = cond (ltb 0 v && ltb v rows) (answer_at (row_at (room_of 4096 (length T)) T) s v) (Refused NoMember)
+  row_answer rows v = cond (ltb 0 v && ltb v rows) (answer_at (row_at (room_of 4096 (length T)) T) s v) (Err NoMember)
 
   unfoldable pub through_if : Bool → ℕ → ℕ → List Member → List ℕ → Answer
-  through_if writes rows r es key = cond writes (row_answer rows (found_row writes rows r es key)) (Refused NotWritable)
+  through_if writes rows r es key = cond writes (row_answer rows (found_row writes rows r es key)) (Err NotWritable)
 
 -- LOOKING A KEY UP THROUGH A LIST: '11', or what the search through the list finds
 unfoldable pub through : List ℕ → ℕ → List ℕ → ℕ → List Member → List ℕ → Answer
@@ -98,7 +96,7 @@ module _ (T s : List ℕ) where
   step_for keys q st e = stepped (its_relation T s (key_of keys q)) (its_member T s q.rows q.row) st e
 
   unfoldable pub answer_for : Question → Search → Answer
-  answer_for q st = cond (asks q) (row_answer T s q.rows st.value) (Refused NotWritable)
+  answer_for q st = cond (asks q) (row_answer T s q.rows st.value) (Err NotWritable)
 
   -- what a question is answered through a list
   unfoldable pub answered : List Member → List ℕ → Question → Answer

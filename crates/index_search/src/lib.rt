@@ -9,12 +9,13 @@ ghost use Rattle.lookup_answer.specs.Reports.{report_of};
 ghost use Rattle.seeking.specs.Seeking.{over, begun, turned};
 ghost use Rattle.index_search.specs.Through.{relation_to, is_member, verified, judged_of, start_of, question_at, asks, Rightly, step_for, answer_for};
 
-use lookup_answer::{Answer, Refusal, Report};
+use lookup_answer::{Refusal, Report, Value};
 use member::Member;
-use order::Relation;
 use seeking::Search;
+use std::cmp::Ordering;
 
 // A key asked for: among how many rows, of the Struct of which row, and where it lies among the keys; and 0, or 11 if the table is not writable.
+// Stays: the number is one of the five words that each turn of binmode's loop copies, and E8's laws (Through.asks, Rightly) speak of it.
 #[derive(Clone, Copy)]
 pub struct Question {
     pub rows: usize,
@@ -98,12 +99,12 @@ pub fn begin(question: Question, n: usize) -> Search
 }
 
 // How the text of an entry's key stands to a key; an unused entry counts as after every key.
-fn relation_to(table: &[u32], room: usize, text: &[u8], key: &[u8], e: Member) -> Relation
+fn relation_to(table: &[u32], room: usize, text: &[u8], key: &[u8], e: Member) -> Ordering
     requires { (room ≤ 4096) × (room * 4 ≤ length table.now) }
     ensures { result ≡ relation_to room (row_at room table.now) text.now key.now e }
 {
     if e.key == 0 {
-        return Relation::After;
+        return Ordering::Greater;
     }
     order::compare(sorting::key_text(table, room, text, e.key as usize), key)
 }
@@ -136,9 +137,9 @@ fn step_in(
     let relation = relation_to(table, room, text, key, e);
     let at = st.at;
     match relation {
-        Relation::Before => seeking::between(at + 1, st.high),
-        Relation::Equal => verify(table, room, rows, r, e),
-        Relation::After => seeking::between(st.low, at),
+        Ordering::Less => seeking::between(at + 1, st.high),
+        Ordering::Equal => verify(table, room, rows, r, e),
+        Ordering::Greater => seeking::between(st.low, at),
     }
 }
 
@@ -161,22 +162,22 @@ pub fn step<'a>(
 }
 
 // What a question is answered by a search that is over.
-fn answer(table: &[u32], text: &[u8], question: Question, st: Search) -> Answer
+fn answer(table: &[u32], text: &[u8], question: Question, st: Search) -> Result<Value, Refusal>
     requires { Rightly table.now text.now question }
     ensures { result ≡ answer_for table.now text.now question st }
 {
     if question.number == 0 {
         let value = st.value;
         if value == 0 {
-            return Answer::Refused(Refusal::NoMember);
+            return Err(Refusal::NoMember);
         }
         if question.rows <= value as usize {
-            return Answer::Refused(Refusal::NoMember);
+            return Err(Refusal::NoMember);
         }
         let room = table::room_of(table.len());
         return lookup_answer::row_answer(table, room, text, value);
     }
-    Answer::Refused(Refusal::NotWritable)
+    Err(Refusal::NotWritable)
 }
 
 // The same in numbers.

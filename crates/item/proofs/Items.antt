@@ -10,42 +10,41 @@ use lib.Dec.{leb, ltb, eqb}
 use lib.ListN.{length, get_or}
 use borrow.Author.Tests.{lt-ltb, le-ltb, leb-true, ne_eqb}
 use Rattle.draft.specs.declared.Refusal.{Refusal}
+use Rattle.draft.specs.declared.Refused.{Refused}
 use Rattle.draft.specs.declared.Refusal.TheVariants.{Ended, UnexpectedByte, UnsetPosition, NoRow}
-use Rattle.draft.specs.declared.Verdict.{Verdict}
-use Rattle.draft.specs.declared.Verdict.TheVariants.{Fine, Bad}
+use Rattle.draft.specs.Verdict.{Verdict}
+use Rattle.std.specs.Prelude.{Ok, Err}
 use Rattle.draft.specs.declared.Content.{Content}
 use Rattle.draft.specs.declared.Content.TheVariants as content
-use Rattle.draft.specs.declared.Entry.{Entry}
-use Rattle.draft.specs.declared.Entry.TheVariants.{Unset, Text}
+use Rattle.std.specs.Prelude.{Some, None}
 use Rattle.draft.specs.declared.Tag.{Tag}
 use Rattle.draft.specs.declared.Tag.TheVariants.{Plain, String, Array, Struct, Unknown}
 use Rattle.draft.specs.declared.Plain.TheVariants.{Integer, True, False, Double, DateTime, Binary, Other}
 use Rattle.draft.specs.declared.Form.TheVariants.{Regular, Recorded, Recalled}
 use Rattle.draft.specs.declared.Row.{Row}
 use Rattle.draft.specs.Rows.{row, kind_of}
-use Rattle.draft.proofs.Naming.{number_some}
 use Rattle.draft.specs.Content.{verdict, all_there, content_rule}
 use Rattle.draft.specs.Bytes.{part}
-use Rattle.draft.specs.Codebook.{Book, recorded}
+use Rattle.draft.specs.Codebook.{span, Entry, Book, recorded}
 use Rattle.draft.specs.Table.{set_row, put_rows, row_at}
 use Rattle.draft.specs.Read.{Reading, got, refused, opened, then, judged, leaf, contents, long_item, recorded_item, recalled_item, recalled, if_string, string, text_of, first_text, string_by, tag_of}
 use Rattle.codebook.specs.Words.{book_of}
 use Rattle.table.proofs.Stored.{first_row}
-use Rattle.item.specs.declared.Step.{Step}
-use Rattle.item.specs.Contract.{refused_at, read_to, judged_at, Did, Stored, Closed, Ends}
+use Rattle.item.specs.declared.Reached.{Reached}
+use Rattle.item.specs.Contract.{Step, refused_at, reached, read_to, judged_at, Did, Stored}
 use Rattle.item.proofs.Tags.{tag_regular, tag_recorded, tag_recalled}
-use Rattle.item.proofs.Readings.{Got, did_next, did_not, done, did_no, held, opened_full, opened_cut, opened_on, leaf_got, judged_bad, judged_fine, judged_did, only_short, only_no, only_on, pair_first, pair_both, over_closed, did_ends, at_in, row_in, only_held, pair_held}
+use Rattle.item.proofs.Readings.{ok_not, Got, did_next, did_not, done, did_no, held, opened_full, opened_cut, opened_on, leaf_got, judged_bad, judged_fine, judged_did, only_short, only_no, only_on, pair_first, pair_both, over_closed, did_ends, at_in, row_in, only_held, pair_held}
 
 -- content that its rule takes lies in the message
-fine_there : (b : Bool) (w : Verdict) → all_there b w ≡ Fine → b ≡ true
+fine_there : (b : Bool) (w : Verdict) → all_there b w ≡ Ok tt → b ≡ true
 fine_there true w e = refl
 fine_there false w e = let z : ◌≡◌ {A = ℕ} 0 1 = cc in absurd (omega arith)
 
-fine_within : (c : Content) (s : List ℕ) (o n : ℕ) {v : Verdict} → v ≡ verdict c s o n → v ≡ Fine → o + n ≤ length s
+fine_within : (c : Content) (s : List ℕ) (o n : ℕ) {v : Verdict} → v ≡ verdict c s o n → v ≡ Ok tt → o + n ≤ length s
 unfolding verdict
 fine_within c s o n e i = leb-true (o + n) (length s) (fine_there (leb (o + n) (length s)) (content_rule c (part s o n)) (sym e ∙ i))
 
-module _ (c : Content) (s : List ℕ) (o n : ℕ) {v : Verdict} (e : v ≡ verdict c s o n) (i : v ≡ Fine) (h : length s ≤ 65536) where
+module _ (c : Content) (s : List ℕ) (o n : ℕ) {v : Verdict} (e : v ≡ verdict c s o n) (i : v ≡ Ok tt) (h : length s ≤ 65536) where
   pub end_fits : Fits w64 (o + n)
   end_fits = omega (arith, fine_within c s o n e i)
 
@@ -57,11 +56,11 @@ module _ (c : Content) (s : List ℕ) (o n : ℕ) {v : Verdict} (e : v ≡ verdi
 
 -- an item's content
 module _ (s : List ℕ) (c : Content) (o n at : ℕ) {room r : ℕ} {T T' : List ℕ} {v : Verdict} (e : v ≡ verdict c s o n) where
-  pub contents_bad : {bytes from : ℕ} {m : Refusal} {step : Step} → v ≡ Bad m → step ≡ refused_at m at → Stored (contents s room c o n at r) bytes room from r T T' step
+  pub contents_bad : {bytes from : ℕ} {m : Refusal} {step : Step} → v ≡ Err m → step ≡ refused_at m at → Stored (contents s room c o n at r) bytes room from r T T' step
   unfolding contents
   contents_bad {m = m} i f = record { did = λ W. judged_bad at _ e m i f }
 
-  pub contents_fine : {k : ℕ} {step : Step} → v ≡ Fine → k ≡ kind_of c → step ≡ read_to (o + n) (r + 1) → T' ≡ set_row room T r (row k o n (r + 1)) → at < o → r < room → Stored (contents s room c o n at r) (length s) room (at + 1) r T T' step
+  pub contents_fine : {k : ℕ} {step : Step} → v ≡ Ok tt → k ≡ kind_of c → step ≡ read_to (o + n) (r + 1) → T' ≡ set_row room T r (row k o n (r + 1)) → at < o → r < room → Stored (contents s room c o n at r) (length s) room (at + 1) r T T' step
   unfolding contents
   contents_fine i k f w l h =
       record { did = λ W. judged_fine at _ e i (leaf_got f (w ∙ rw k) (omega arith) (fine_within c s o n e i) h refl) }
@@ -77,23 +76,23 @@ module _ (s : List ℕ) (c : Content) (o at : ℕ) {m n : ℕ} (e : m ≡ n) {by
 
 -- content that was refused is refused with any codebook; content that was taken has an offset and a length that a word of the codebook holds
 module _ (s : List ℕ) (c : Content) (o m at : ℕ) {bytes room from r : ℕ} {T T₁ : List ℕ} {step : Step} (d : Stored (contents s room c o m at r) bytes room from r T T₁ step) where
-  pub contents_refused : {n : ℕ} (book : Book) {T' W' : List ℕ} → m ≡ n → (step.number ≡ 0 → ⊥) → Did (contents s room c o n at r book) bytes room from r T T' W' step
+  pub contents_refused : {n : ℕ} (book : Book) {T' W' : List ℕ} {y : Refused Refusal} {answer : Step} → m ≡ n → step ≡ Err y → answer ≡ Err y → Did (contents s room c o n at r book) bytes room from r T T' W' answer
   unfolding contents
-  contents_refused book e z = rw (← e) (go (verdict c s o m) (d.did []))
+  contents_refused book {y = y} {answer = answer} e z f = rw (← e) (go (verdict c s o m) (d.did []))
     where
-      go : {T' W' : List ℕ} (v : Verdict) → Did (judged v at (leaf (kind_of c) o m r (o + m) (book_of []))) bytes room from r T T₁ [] step → Did (judged v at (leaf (kind_of c) o m r (o + m) book)) bytes room from r T T' W' step
-      go Fine x = absurd (z (ap (λ (y : Step). y.number) x.says))
-      go (Bad why) x = did_no why x.says refl
+      go : {T' W' : List ℕ} (v : Verdict) → Did (judged v at (leaf (kind_of c) o m r (o + m) (book_of []))) bytes room from r T T₁ [] step → Did (judged v at (leaf (kind_of c) o m r (o + m) book)) bytes room from r T T' W' answer
+      go (Ok tt) x = absurd (ok_not x.says z)
+      go (Err why) x = did_no why (f ∙ sym z ∙ x.says) refl
 
-  contents_in : step.number ≡ 0 → o + m ≤ bytes
+  contents_in : {y : Reached} → step ≡ Ok y → o + m ≤ bytes
   unfolding contents
   contents_in e = go (verdict c s o m) (d.did [])
     where
       go : (v : Verdict) → Did (judged v at (leaf (kind_of c) o m r (o + m) (book_of []))) bytes room from r T T₁ [] step → o + m ≤ bytes
-      go Fine x = x.leaves.within
-      go (Bad why) x = absurd (number_some why (sym (ap (λ (y : Step). y.number) x.says) ∙ e))
+      go (Ok tt) x = x.leaves.within
+      go (Err why) x = absurd (ok_not e x.says)
 
-  module _ (e : step.number ≡ 0) (h : bytes ≤ 65536) where
+  module _ {y : Reached} (e : step ≡ Ok y) (h : bytes ≤ 65536) where
     pub word_offset : o ≤ 65536
     word_offset = omega (arith, contents_in e)
 
@@ -106,10 +105,10 @@ integer_got e i w f l h = rw (← e) (leaf_got i w f l h refl)
 
 -- what stands at a position, as it was recalled
 module _ (s : List ℕ) (at : ℕ) (W : List ℕ) {e x : Entry} (i : e ≡ x) {bytes room from r : ℕ} {T T' : List ℕ} where
-  pub recalled_unset : {step : Step} → e ≡ Unset → step ≡ refused_at UnsetPosition at → Did (recalled s room x at r (book_of W)) bytes room from r T T' W step
+  pub recalled_unset : {step : Step} → e ≡ None → step ≡ refused_at UnsetPosition at → Did (recalled s room x at r (book_of W)) bytes room from r T T' W step
   recalled_unset u f = did_no UnsetPosition f (rw (← i, u))
 
-  pub recalled_got : {o n : ℕ} {step : Step} → e ≡ Text o n → step ≡ read_to (at + 2) (r + 1) → T' ≡ set_row room T r (row 11 o n (r + 1)) → from ≤ at + 2 → at + 2 ≤ bytes → r < room → Did (recalled s room x at r (book_of W)) bytes room from r T T' W step
+  pub recalled_got : {o n : ℕ} {step : Step} → e ≡ Some (span o n) → step ≡ read_to (at + 2) (r + 1) → T' ≡ set_row room T r (row 11 o n (r + 1)) → from ≤ at + 2 → at + 2 ≤ bytes → r < room → Did (recalled s room x at r (book_of W)) bytes room from r T T' W step
   recalled_got u f w l k h = rw (← i, u) (leaf_got f w l k h refl)
 
 -- a byte that begins no String
@@ -155,16 +154,16 @@ pick_one true o m q i = i
 pick_one false o m q i = tt
 
 judged_one : (v : Verdict) (at : ℕ) (o : Reading) → One o → One (judged v at o)
-judged_one Fine at o i = i
-judged_one (Bad m) at o i = tt
+judged_one (Ok tt) at o i = i
+judged_one (Err m) at o i = tt
 
 module _ (s : List ℕ) (room at r : ℕ) (book : Book) where
   opened_one : (size : ℕ) (o : Reading) → One o → One (opened s room size at r o)
   opened_one size o i = pick_one (ltb r room) _ NoRow at (pick_one (leb (at + size) (length s)) o Ended at i)
 
   recalled_one : (e : Entry) → One (recalled s room e at r book)
-  recalled_one Unset = tt
-  recalled_one (Text o n) = (_, refl)
+  recalled_one None = tt
+  recalled_one (Some x) = (_, refl)
 
   contents_one : (c : Content) (o n : ℕ) (b : Book) → One (contents s room c o n at r b)
   unfolding contents
@@ -188,16 +187,15 @@ pub row_text_is : (s : List ℕ) {x y : Row} {t : List ℕ} → t ≡ part s x.a
 row_text_is s e f = e ∙ rw f
 
 -- what an accepted reading did, by itself
-pub got_did : {o : Reading} {bytes room from r : ℕ} {T T₁ W₁ : List ℕ} {step : Step} → step.number ≡ 0 → (g : Got o bytes room from r T T₁ W₁ step) → Did (got g.rows step.at (book_of W₁)) bytes room from r T T₁ W₁ step
-got_did e g = record { says = rw (e, g.next); leaves = record { wrote = g.wrote; ahead = g.ahead; within = g.within; fits = rw (sym g.next) g.fits; holds = refl } }
+pub got_did : {o : Reading} {bytes room from r : ℕ} {T T₁ W₁ : List ℕ} {x : Reached} {step : Step} → step ≡ Ok x → (g : Got o bytes room from r T T₁ W₁ x) → Did (got g.rows x.at (book_of W₁)) bytes room from r T T₁ W₁ step
+got_did {x = x} e g = record { says = e ∙ ap (λ n. Ok (reached x.at n)) g.next; leaves = record { wrote = g.wrote; ahead = g.ahead; within = g.within; fits = rw (sym g.next) g.fits; holds = refl } }
 
 -- a String's refusal is that of one which is to keep a rule
-pub name_refused : (s : List ℕ) (rule : List ℕ → Verdict) (q at : ℕ) (book : Book) {bytes room from from' r : ℕ} {T T₁ T' W₁ W' : List ℕ} {step : Step} → Did (string s room at r book) bytes room from r T T₁ W₁ step → (step.number ≡ 0 → ⊥) → Did (string_by s room rule q at r book) bytes room from' r T T' W' step
+pub name_refused : (s : List ℕ) (rule : List ℕ → Verdict) (q at : ℕ) (book : Book) {bytes room from from' r : ℕ} {T T₁ T' W₁ W' : List ℕ} {x : Refused Refusal} {step answer : Step} → Did (string s room at r book) bytes room from r T T₁ W₁ step → step ≡ Err x → answer ≡ Err x → Did (string_by s room rule q at r book) bytes room from' r T T' W' answer
 unfolding string_by
-name_refused s rule q at book {room = room} {r = r} d n =
-    let z = did_not d n in
-    let e : string s room at r book ≡ refused z.why z.place = z.reading in
-    did_no z.why z.says (ap (λ (o : Reading). then o (λ rows at' book'. judged (rule (first_text s room rows)) q (got rows at' book'))) e)
+name_refused s rule q at book {room = room} {r = r} {x = x} d n f =
+    let e : string s room at r book ≡ refused x.refusal x.place = did_not d n in
+    did_no x.refusal f (ap (λ (o : Reading). then o (λ rows at' book'. judged (rule (first_text s room rows)) q (got rows at' book'))) e)
 
 first_there : (s : List ℕ) (room r : ℕ) (T T₁ : List ℕ) (rows : List Row) (x : Row) → T₁ ≡ put_rows room T r rows → rows ≡ x ∷ [] → r < room → room * 4 ≤ length T → text_of s (row_at room T₁ r) ≡ first_text s room rows
 first_there s room r T T₁ rows x i e h l = rw (i, e, first_row room T r x [] h l)
@@ -207,8 +205,8 @@ unfolding string_by
 name_by s rule room q at r book e f = rw (e, f)
 
 -- a String that was read, whose row is in the table
-module _ (s : List ℕ) (at : ℕ) (book : Book) {bytes room from r : ℕ} {T T₁ W₁ : List ℕ} {step : Step} (d : Did (string s room at r book) bytes room from r T T₁ W₁ step) (e : step.number ≡ 0) where
-  pub the_row : (x : Row) × ((did_next d e).rows ≡ x ∷ [])
+module _ (s : List ℕ) (at : ℕ) (book : Book) {bytes room from r : ℕ} {T T₁ W₁ : List ℕ} {x : Reached} {step : Step} (d : Did (string s room at r book) bytes room from r T T₁ W₁ step) (e : step ≡ Ok x) where
+  pub the_row : (y : Row) × ((did_next d e).rows ≡ y ∷ [])
   the_row = rw (did_next d e).reading at (string_one s room at r book)
 
   pub string_row : r < room
@@ -222,22 +220,13 @@ module _ (s : List ℕ) (at : ℕ) (book : Book) {bytes room from r : ℕ} {T T�
 
   -- as its rule says, at q
   module _ (rule : List ℕ → Verdict) (q : ℕ) {t : List ℕ} {v : Verdict} (l : room * 4 ≤ length T) (f : t ≡ text_of s (row_at room T₁ r)) (g : v ≡ rule t) where
-    pub name_is : string_by s room rule q at r book ≡ judged v q (got (did_next d e).rows step.at (book_of W₁))
+    pub name_is : string_by s room rule q at r book ≡ judged v q (got (did_next d e).rows x.at (book_of W₁))
     name_is = name_by s rule room q at r book (did_next d e).reading (g ∙ ap rule (named l f))
 
-    pub name_judged : {answer : Step} → answer ≡ judged_at v q step → Did (string_by s room rule q at r book) bytes room from r T T₁ W₁ answer
-    name_judged i = done name_is (judged_did v q (got_did e (did_next d e)) i)
+    pub name_judged : {answer : Step} → answer ≡ judged_at v q (Ok x) → Did (string_by s room rule q at r book) bytes room from r T T₁ W₁ answer
+    name_judged i = done name_is (judged_did v q (got_did e (did_next d e)) (i ∙ ap (judged_at v q) (sym e)))
 
 -- an item's own row
-pub close_refused : {step : Step} {k b r room : ℕ} {T : List ℕ} → (step.number ≡ 0 → ⊥) → Closed step k b r room T T step
-close_refused n = record { same = refl; wrote = λ e. absurd (n e); kept = λ m. refl }
-
-pub close_next : {step : Step} {k b r room : ℕ} {T T' : List ℕ} → step.number ≡ 0 → T' ≡ set_row room T r (row k 0 b step.row) → Closed step k b r room T T' step
-close_next e w = record { same = refl; wrote = λ f. w; kept = λ n. absurd (n e) }
-
-pub end_word_lem : {step : Step} {room : ℕ} → Ends step room → room ≤ 4096 → step.number ≡ 0 → Fits w32 step.row
-end_word_lem {step} {room} h k e = let l : step.row ≤ room = h.within e in omega arith
-
 -- small steps on
 pub ahead_one : (n : ℕ) → n + 1 ≤ n + 1
 ahead_one n = omega arith
@@ -258,12 +247,4 @@ pub ruleset leaves = (held, opened_full, opened_cut, opened_on, leaf_got, intege
 
 pub ruleset strings = (string_short, string_regular, string_recorded, string_recalled, string_no, only_short, only_no, only_on, only_held)
 
-pub judged_bad_is : (m : Refusal) (at : ℕ) (step : Step) {v : Verdict} {answer : Step} → v ≡ Bad m → answer ≡ refused_at m at → answer ≡ judged_at v at step
-judged_bad_is m at step i e = rw i e
-
-pub judged_fine_is : (at : ℕ) (step : Step) {v : Verdict} → v ≡ Fine → step ≡ judged_at v at step
-judged_fine_is at step i = rw i
-
-pub ruleset judging = (judged_bad_is, judged_fine_is)
-
-pub ruleset others = (string_row, name_refused, name_judged, pair_first, pair_both, pair_held, at_in, row_in, did_ends, row_text_is, opened_full, opened_on, over_closed, one_in, ahead_next, close_refused, close_next, end_word_lem)
+pub ruleset others = (string_row, name_refused, name_judged, pair_first, pair_both, pair_held, at_in, row_in, did_ends, row_text_is, opened_full, opened_on, over_closed, one_in, ahead_next)

@@ -1,3 +1,4 @@
 pub mod Readings
 pub mod Items
 pub mod Tags
+pub mod Stepping

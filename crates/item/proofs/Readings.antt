@@ -8,50 +8,53 @@ use lib.ListN.{length, length-append, get_or}
 use borrow.Author.Tests.{eq-eqb, ne_eqb, lt-ltb, le-ltb, le-leb, lt-leb}
 use Rattle.draft.specs.declared.Refusal.{Refusal}
 use Rattle.draft.specs.declared.Refusal.TheVariants.{Ended, UnexpectedByte, NoRow}
-use Rattle.draft.specs.declared.Verdict.{Verdict}
-use Rattle.draft.specs.declared.Verdict.TheVariants.{Fine, Bad}
+use Rattle.draft.specs.Verdict.{Verdict}
+use Rattle.std.specs.Prelude.{Result, Ok, Err, IsErrAnd}
 use Rattle.draft.specs.declared.Row.{Row}
-use Rattle.draft.specs.Refusals.{number_of}
+use Rattle.draft.specs.declared.Refused.{Refused}
 use Rattle.draft.specs.Rows.{row}
 use Rattle.draft.specs.Codebook.{Book}
 use Rattle.draft.specs.Table.{set_row, put_rows}
-use Rattle.draft.specs.Read.{Reading, got, refused, Reader, then, behind, pair, over, leaf, judged, opened, only}
-use Rattle.draft.proofs.Naming.{number_some}
+use Rattle.draft.specs.Read.{Reading, got, refused, Reader, behind, pair, over, leaf, judged, opened, only}
 use Rattle.codebook.specs.Words.{book_of}
 use Rattle.table.proofs.Rows.{put_append}
-use Rattle.item.specs.declared.Step.{Step}
-use Rattle.item.specs.Contract.{refused_at, read_to, judged_at, answer, Leaves, Did, Stored, Closed, Ends}
+use Rattle.item.specs.declared.Reached.{Reached}
+use Rattle.item.specs.Contract.{Step, refused_at, reached, read_to, judged_at, answer, Leaves, Did, Stored, Closed, Ends}
 
--- a refusal, by its number
-pub refused_is : (m : Refusal) (p : ℕ) {n : ℕ} → n ≡ number_of m → ◌≡◌ {A = Step} (record { number = n; at = p; row = 0 }) (refused_at m p)
-refused_is m p e = rw e
-
--- an accepted reading, known by the step that it gave
-pub record Got (o : Reading) (bytes room from r : ℕ) (T T' W' : List ℕ) (step : Step) : Type 0 where
+-- an accepted reading, known by where it ended
+pub record Got (o : Reading) (bytes room from r : ℕ) (T T' W' : List ℕ) (x : Reached) : Type 0 where
   pub rows : List Row
-  pub reading : o ≡ got rows step.at (book_of W')
-  pub next : step.row ≡ r + length rows
+  pub reading : o ≡ got rows x.at (book_of W')
+  pub next : x.row ≡ r + length rows
   pub wrote : T' ≡ put_rows room T r rows
-  pub ahead : from ≤ step.at
-  pub within : step.at ≤ bytes
-  pub fits : step.row ≤ room
+  pub ahead : from ≤ x.at
+  pub within : x.at ≤ bytes
+  pub fits : x.row ≤ room
 
--- a refused one
-pub record Not (o : Reading) (step : Step) : Type 0 where
-  pub why : Refusal
-  pub place : ℕ
-  pub reading : o ≡ refused why place
-  pub says : step ≡ refused_at why place
+-- an error that `?` passes on
+pub passed : {T E : Type 0} {d : E} (r : Result T E) → IsErrAnd r (λ y. y ≡ d) → r ≡ Err d
+passed (Ok x) h = absurd h
+passed (Err e) h = ap Err h
+
+ok_is : {x y : Reached} {step : Step} → step ≡ Ok x → step ≡ Ok y → x ≡ y
+ok_is e f = cc
+
+err_is : {x y : Refused Refusal} {step : Step} → step ≡ Err x → step ≡ Err y → x ≡ y
+err_is e f = cc
+
+pub ok_not : {x : Reached} {y : Refused Refusal} {step : Step} → step ≡ Ok x → step ≡ Err y → ⊥
+ok_not e f = cc
 
 module _ {o : Reading} {bytes room from r : ℕ} {T T' W' : List ℕ} {step : Step} where
-  pub did_next : Did o bytes room from r T T' W' step → step.number ≡ 0 → Got o bytes room from r T T' W' step
-  did_next d e = go o d.says d.leaves
+  pub did_next : {x : Reached} → Did o bytes room from r T T' W' step → step ≡ Ok x → Got o bytes room from r T T' W' x
+  did_next {x} d e = go o d.says d.leaves
     where
-      go : (o : Reading) → step ≡ answer r o → Leaves o bytes room from r T T' W' → Got o bytes room from r T T' W' step
-      go (refused n q) s l = absurd (number_some n (sym (ap (λ (x : Step). x.number) s) ∙ e))
+      go : (o : Reading) → step ≡ answer r o → Leaves o bytes room from r T T' W' → Got o bytes room from r T T' W' x
+      go (refused n q) s l = absurd (ok_not e s)
       go (got rows at book) s l =
-          let a : at ≡ step.at = sym (ap (λ (x : Step). x.at) s) in
-          let b : r + length rows ≡ step.row = sym (ap (λ (x : Step). x.row) s) in
+          let i : reached at (r + length rows) ≡ x = ok_is s e in
+          let a : at ≡ x.at = ap (λ (y : Reached). y.at) i in
+          let b : r + length rows ≡ x.row = ap (λ (y : Reached). y.row) i in
           record {
             rows = rows;
             reading = rw (a, ← l.holds);
@@ -63,21 +66,21 @@ module _ {o : Reading} {bytes room from r : ℕ} {T T' W' : List ℕ} {step : St
           }
 
   -- where it went on is in the message and in the room
-  pub at_in : Did o bytes room from r T T' W' step → step.number ≡ 0 → step.at ≤ bytes
+  pub at_in : {x : Reached} → Did o bytes room from r T T' W' step → step ≡ Ok x → x.at ≤ bytes
   at_in d e = (did_next d e).within
 
-  pub row_in : Did o bytes room from r T T' W' step → step.number ≡ 0 → step.row ≤ room
+  pub row_in : {x : Reached} → Did o bytes room from r T T' W' step → step ≡ Ok x → x.row ≤ room
   row_in d e = (did_next d e).fits
 
   pub did_ends : Did o bytes room from r T T' W' step → Ends step room
-  did_ends d = record { within = λ e. (did_next d e).fits }
+  did_ends d = record { within = λ x e. (did_next d e).fits }
 
-  pub did_not : Did o bytes room from r T T' W' step → (step.number ≡ 0 → ⊥) → Not o step
-  did_not d n = go o d.says
+  pub did_not : {x : Refused Refusal} → Did o bytes room from r T T' W' step → step ≡ Err x → o ≡ refused x.refusal x.place
+  did_not {x} d n = go o d.says
     where
-      go : (o : Reading) → step ≡ answer r o → Not o step
-      go (refused m p) s = record { why = m; place = p; reading = refl; says = s }
-      go (got rows at book) s = absurd (n (ap (λ (x : Step). x.number) s))
+      go : (o : Reading) → step ≡ answer r o → o ≡ refused x.refusal x.place
+      go (refused m p) s = let i : record { refusal = m; place = p } ≡ x = err_is s n in rw (← i)
+      go (got rows at book) s = absurd (ok_not s n)
 
 module _ {o : Reading} {bytes room from r : ℕ} {T T' W' : List ℕ} {step : Step} where
   -- a reading that is known by an equation
@@ -110,16 +113,16 @@ module _ {k a b to : ℕ} {book : Book} {bytes room from r : ℕ} {T T' W' : Lis
 
 -- what a rule says
 module _ {v w : Verdict} (at : ℕ) (o : Reading) {bytes room from r : ℕ} {T T' W' : List ℕ} (e : v ≡ w) where
-  pub judged_bad : (m : Refusal) {step : Step} → v ≡ Bad m → step ≡ refused_at m at → Did (judged w at o) bytes room from r T T' W' step
+  pub judged_bad : (m : Refusal) {step : Step} → v ≡ Err m → step ≡ refused_at m at → Did (judged w at o) bytes room from r T T' W' step
   judged_bad m i f = did_no m f (rw (← e, i))
 
-  pub judged_fine : {step : Step} → v ≡ Fine → Did o bytes room from r T T' W' step → Did (judged w at o) bytes room from r T T' W' step
+  pub judged_fine : {step : Step} → v ≡ Ok tt → Did o bytes room from r T T' W' step → Did (judged w at o) bytes room from r T T' W' step
   judged_fine i d = rw (← e, i) d
 
 -- what a rule says of a reading that was accepted
 pub judged_did : (v : Verdict) (at : ℕ) {o : Reading} {bytes room from r : ℕ} {T T' W' : List ℕ} {step answer : Step} → Did o bytes room from r T T' W' step → answer ≡ judged_at v at step → Did (judged v at o) bytes room from r T T' W' answer
-judged_did Fine at d e = rw e d
-judged_did (Bad m) at d e = did_no m e refl
+judged_did (Ok tt) at d e = rw e d
+judged_did (Err m) at d e = did_no m e refl
 
 -- what f reads, where only the byte b may begin it
 module _ (s : List ℕ) (b : ℕ) (f : Reader) (at : ℕ) (book : Book) {bytes room from r : ℕ} {T T' W' : List ℕ} where
@@ -141,19 +144,16 @@ only_held s b f at W h n d = only_on s b f at (book_of W) h n (d.did W)
 
 -- two readings, one after the other
 module _ (f g : Reader) (at : ℕ) (book : Book) {bytes room from r : ℕ} {T T₁ W₁ : List ℕ} {step₁ : Step} (d₁ : Did (f at r book) bytes room from r T T₁ W₁ step₁) where
-  pub pair_first : {from' : ℕ} {T' W' : List ℕ} → (step₁.number ≡ 0 → ⊥) → Did (pair f g at r book) bytes room from' r T T' W' step₁
+  pub pair_first : {from' : ℕ} {T' W' : List ℕ} {x : Refused Refusal} {step : Step} → step₁ ≡ Err x → step ≡ Err x → Did (pair f g at r book) bytes room from' r T T' W' step
   unfolding pair
-  pair_first n = go (f at r book) (did_not d₁ n)
-    where
-      go : {from' : ℕ} {T' W' : List ℕ} (o : Reading) → Not o step₁ → Did (then o (λ rows at' book'. behind rows (g at' (r + length rows) book'))) bytes room from' r T T' W' step₁
-      go o z = did_no z.why z.says (rw z.reading)
+  pair_first {x = x} n e = did_no x.refusal e (rw (did_not d₁ n))
 
   -- the second's answer is the pair's
-  pair_of : {T₂ W₂ : List ℕ} {step₂ : Step} (o : Got (f at r book) bytes room from r T T₁ W₁ step₁) → Did (g step₁.at (r + length o.rows) (book_of W₁)) bytes room (step₁.at + 1) (r + length o.rows) T₁ T₂ W₂ step₂ → Did (pair f g at r book) bytes room from r T T₂ W₂ step₂
+  pair_of : {T₂ W₂ : List ℕ} {x : Reached} {step₂ : Step} (o : Got (f at r book) bytes room from r T T₁ W₁ x) → Did (g x.at (r + length o.rows) (book_of W₁)) bytes room (x.at + 1) (r + length o.rows) T₁ T₂ W₂ step₂ → Did (pair f g at r book) bytes room from r T T₂ W₂ step₂
   unfolding pair
-  pair_of {T₂} {W₂} {step₂} o d = rw o.reading (go (g step₁.at (r + length o.rows) (book_of W₁)) d.says d.leaves)
+  pair_of {T₂} {W₂} {x} {step₂} o d = rw o.reading (go (g x.at (r + length o.rows) (book_of W₁)) d.says d.leaves)
     where
-      go : (x : Reading) → step₂ ≡ answer (r + length o.rows) x → Leaves x bytes room (step₁.at + 1) (r + length o.rows) T₁ T₂ W₂ → Did (behind o.rows x) bytes room from r T T₂ W₂ step₂
+      go : (y : Reading) → step₂ ≡ answer (r + length o.rows) y → Leaves y bytes room (x.at + 1) (r + length o.rows) T₁ T₂ W₂ → Did (behind o.rows y) bytes room from r T T₂ W₂ step₂
       go (refused m q) s l = record { says = s; leaves = tt }
       go (got rows to book₂) s l =
           let n : length (o.rows ++ rows) ≡ length o.rows + length rows = length-append o.rows rows in
@@ -169,10 +169,10 @@ module _ (f g : Reader) (at : ℕ) (book : Book) {bytes room from r : ℕ} {T T�
             };
           }
 
-  pub pair_both : {T₂ W₂ : List ℕ} {step₂ : Step} → step₁.number ≡ 0 → Did (g step₁.at step₁.row (book_of W₁)) bytes room (step₁.at + 1) step₁.row T₁ T₂ W₂ step₂ → Did (pair f g at r book) bytes room from r T T₂ W₂ step₂
+  pub pair_both : {x : Reached} {T₂ W₂ : List ℕ} {step₂ : Step} → step₁ ≡ Ok x → Did (g x.at x.row (book_of W₁)) bytes room (x.at + 1) x.row T₁ T₂ W₂ step₂ → Did (pair f g at r book) bytes room from r T T₂ W₂ step₂
   pair_both e d = let o = did_next d₁ e in pair_of o (rw o.next at d)
 
-  pub pair_held : {T₂ : List ℕ} {step₂ : Step} → step₁.number ≡ 0 → Stored (g step₁.at step₁.row) bytes room (step₁.at + 1) step₁.row T₁ T₂ step₂ → Did (pair f g at r book) bytes room from r T T₂ W₁ step₂
+  pub pair_held : {x : Reached} {T₂ : List ℕ} {step₂ : Step} → step₁ ≡ Ok x → Stored (g x.at x.row) bytes room (x.at + 1) x.row T₁ T₂ step₂ → Did (pair f g at r book) bytes room from r T T₂ W₁ step₂
   pair_held e d = pair_both e (d.did W₁)
 
 -- an item over a reading of what it holds
@@ -184,8 +184,7 @@ over_closed k b r {o} {bytes} {room} {from} {from'} {T} {T₁} {T₂} {W'} {step
     go (refused m q) s l = record { says = s; leaves = tt }
     go (got rows at book) s l =
         let more : r + length (row k 0 b (r + 1 + length rows) ∷ rows) ≡ r + 1 + length rows = omega arith in
-        let end : step.row ≡ r + 1 + length rows = ap (λ (x : Step). x.row) s in
-        let wrote : T₂ ≡ set_row room T₁ r (row k 0 b (r + 1 + length rows)) = c.wrote (ap (λ (x : Step). x.number) s) ∙ rw end in
+        let wrote : T₂ ≡ set_row room T₁ r (row k 0 b (r + 1 + length rows)) = c.wrote _ s in
         record {
           says = s ∙ rw more;
           leaves = record { wrote = wrote ∙ rw (l.wrote, add-one r); ahead = omega (arith, l.ahead); within = l.within; fits = omega (arith, l.fits); holds = l.holds };

@@ -5,28 +5,25 @@
 ghost use Rattle.std.specs.Prelude.{◌≡◌, ◌+◌, ◌*◌, ◌≤◌, ◌<◌, length};
 ghost use Rattle.draft.specs.Bytes.{unsigned_at};
 ghost use Rattle.draft.specs.Table.{set_row};
-ghost use Rattle.item.specs.Contract.{refused_at, read_to, judged_at, Closed, Ends};
+ghost use Rattle.item.specs.Contract.{refused_at, reached, judged_at, Closed, Ends};
 
-use draft::{Refusal, Row, Verdict};
+use draft::{Refusal, Refused, Row, Verdict};
 
-// What reading an item answers: 0 if it was read, with the next byte and the next row; or the number of a refusal, with its place.
-// All three are words, so that an answer is copied as it was stored.
-#[derive(Drop)]
-pub struct Step {
-    pub number: usize,
+// Up to where items were read: the next byte and the next row.
+#[derive(Clone, Copy, Debug, PartialEq, Eq)]
+pub struct Reached {
     pub at: usize,
     pub row: usize,
 }
 
+// What reading an item answers.
+pub type Step<R = Refusal> = Result<Reached, Refused<R>>;
+
 // A refusal at a place.
-pub fn refuse(refusal: Refusal, at: usize) -> Step
+pub fn refuse<R>(refusal: R, at: usize) -> Step<R>
     ensures { result ≡ refused_at refusal at }
 {
-    Step {
-        number: draft::number(refusal) as usize,
-        at,
-        row: 0,
-    }
+    Err(Refused { refusal, place: at })
 }
 
 // An item that was read up to a step, unless its rule refuses it at a place.
@@ -34,16 +31,9 @@ pub fn judged(verdict: Verdict, place: usize, step: Step) -> Step
     ensures { result ≡ judged_at verdict place step }
 {
     match verdict {
-        Verdict::Bad(refusal) => refuse(refusal, place),
-        Verdict::Fine => step,
+        Err(refusal) => refuse(refusal, place),
+        Ok(()) => step,
     }
-}
-
-// A byte as a number: its caller has no fit of the element to show.
-pub fn wide(x: u8) -> usize
-    ensures { (result ≡ x) × (result < 256) }
-{
-    x as usize
 }
 
 // The four bytes at i, least significant first.
@@ -51,10 +41,10 @@ pub fn unsigned(s: &[u8], i: usize) -> usize
     requires { i + 4 ≤ length s.now }
     ensures { (result ≡ unsigned_at s.now i) × (result < 4294967296) }
 {
-    let a = wide(s[i]);
-    let b = wide(s[i + 1]);
-    let c = wide(s[i + 2]);
-    let d = wide(s[i + 3]);
+    let a = usize::from(s[i]);
+    let b = usize::from(s[i + 1]);
+    let c = usize::from(s[i + 2]);
+    let d = usize::from(s[i + 3]);
     a + 256 * (b + 256 * (c + 256 * d))
 }
 
@@ -67,9 +57,9 @@ pub fn put_leaf(
     b: u32,
     room: usize,
     table: &mut [u32],
-) -> Step
+) -> Reached
     requires { (row < room) × (room ≤ 4096) × (room * 4 ≤ length table.old) }
-    ensures { (result ≡ read_to to (row + 1)) × (table.new ≡ set_row room table.old row (record { kind = kind; a = a; b = b; end = row + 1 })) }
+    ensures { (result ≡ reached to (row + 1)) × (table.new ≡ set_row room table.old row (record { kind = kind; a = a; b = b; end = row + 1 })) }
 {
     let end = row + 1;
     table::put_row(
@@ -83,22 +73,23 @@ pub fn put_leaf(
             end: end as u32,
         },
     );
-    Step {
-        number: 0,
-        at: to,
-        row: end,
-    }
+    Reached { at: to, row: end }
 }
 
 // The row of an item behind the rows of what it holds, if those were read.
-pub fn close(step: Step, kind: u32, b: u32, row: usize, room: usize, table: &mut [u32]) -> Step
+pub fn close<R>(
+    step: Step<R>,
+    kind: u32,
+    b: u32,
+    row: usize,
+    room: usize,
+    table: &mut [u32],
+) -> Step<R>
     requires { Ends step room × (row < room) × (room ≤ 4096) × (room * 4 ≤ length table.old) }
     ensures { Closed step kind b row room table.old table.new result }
 {
-    if step.number != 0 {
-        return step;
-    }
-    let end = step.row;
+    let inside = step?;
+    let end = inside.row;
     table::put_row(
         table,
         room,
@@ -110,5 +101,5 @@ pub fn close(step: Step, kind: u32, b: u32, row: usize, room: usize, table: &mut
             end: end as u32,
         },
     );
-    step
+    Ok(inside)
 }

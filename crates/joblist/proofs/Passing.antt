@@ -6,12 +6,10 @@ use native.Mathlib.Omega.{arith}
 use lib.ListN.{length, drop, length-drop}
 use mir.Syntax.{w64}
 use mir.Val.{Fits}
-use Rattle.records.specs.declared.Found.{Found}
-use Rattle.records.specs.declared.Found.TheVariants.{Body}
-use Rattle.records.specs.Job.{find}
+use Rattle.records.specs.Job.{find, Found, body_at}
 use Rattle.records.proofs.Standing.{Lies, lies_from}
 
-module _ (s : List ℕ) (n from start size : ℕ) {f : Found} (h : from ≤ length s) (e : f ≡ find n n from 0 (drop from s)) (i : f ≡ Body start size) where
+module _ (s : List ℕ) (n from start size : ℕ) {f : Found} (h : from ≤ length s) (e : f ≡ find n n from 0 (drop from s)) (i : f ≡ body_at start size) where
   lie : Lies from start size (drop from s)
   lie = lies_from n n from (drop from s) (sym e ∙ i)
 

@@ -129,15 +129,15 @@ keys_length row zero r = refl
 keys_length row (suc n) r = ap suc (keys_length row n (row (r + 1)).end)
 
 module _ (row : ℕ → Row) (n : ℕ) (o : List ℕ) (h : n + n / 2 ≤ length o) where
-  lent_length : length (take (n - 0) (drop 0 o)) ≡ n
-  lent_length = let q : n - 0 ≡ n = omega arith in rw q (length-take-le n o (omega arith))
+  lent_length : length (take n o) ≡ n
+  lent_length = length-take-le n o (omega arith)
 
-  pub front_keys : {room first : ℕ} → Keys row room n first → Keys row room (length (take (n - 0) (drop 0 o))) first
+  pub front_keys : {room first : ℕ} → Keys row room n first → Keys row room (length (take n o)) first
   front_keys k = rw lent_length k
 
-  module _ (first : ℕ) {ys : List ℕ} (e : ys ≡ key_rows row (length (take (n - 0) (drop 0 o))) first) where
+  module _ (first : ℕ) {ys : List ℕ} (e : ys ≡ key_rows row (length (take n o)) first) where
     abbrev noted : List ℕ
-    noted = take 0 o ++ (ys ++ drop (n - 0) (drop 0 o))
+    noted = ys ++ drop n o
 
     ys_keys : ys ≡ key_rows row n first
     ys_keys = rw lent_length at e
@@ -146,20 +146,17 @@ module _ (row : ℕ → Row) (n : ℕ) (o : List ℕ) (h : n + n / 2 ≤ length 
     ys_length = ap length ys_keys ∙ keys_length row n first
 
     noted_front : take n noted ≡ ys
-    noted_front = take_at ys (drop (n - 0) (drop 0 o)) n ys_length
-
-    noted_lent : take (n - 0) (drop 0 noted) ≡ key_rows row n first
-    noted_lent = let q : n - 0 ≡ n = omega arith in ap (λ (m : ℕ). take m noted) q ∙ noted_front ∙ ys_keys
+    noted_front = take_at ys (drop n o) n ys_length
 
     pub noted_room : n + n / 2 ≤ length noted
-    noted_room = let q : n - 0 ≡ n = omega arith in rw (q, length-append, ys_length, length-drop) (omega arith)
+    noted_room = rw (length-append, ys_length, length-drop) (omega arith)
 
     pub few_so : (text : ℕ → List ℕ) (most : ℕ) → n < 2 → Laid text most (key_rows row n first) n noted
     few_so text most l = let k : length (key_rows row n first) < 2 = rw (keys_length row n first) l in record { is = noted_front ∙ ys_keys ∙ sym (arranged_few text most (key_rows row n first) k) }
 
-    module _ (text : ℕ → List ℕ) (most : ℕ) {b : Bool} (f : b ≡ over text most (take (n - 0) (drop 0 noted))) where
+    module _ (text : ℕ → List ℕ) (most : ℕ) {b : Bool} (f : b ≡ over text most (take n noted)) where
       is_over : b ≡ over text most (key_rows row n first)
-      is_over = f ∙ ap (over text most) noted_lent
+      is_over = f ∙ ap (over text most) (noted_front ∙ ys_keys)
 
       pub left_so : b ≡ true → Laid text most (key_rows row n first) n noted
       unfolding arranged

@@ -1,5 +1,5 @@
 // The rows of a dict's keys, put in byte order of their texts.
-#![tactic(auto)]
+#![tactic(auto, using(crate::proofs::Arranging::gathering, crate::proofs::Arranging::counting, crate::proofs::Arranging::fronts))]
 
 ghost use Rattle.std.specs.Prelude.{◌≡◌, ◌+◌, ◌*◌, ◌/◌, ◌≤◌, length};
 ghost use Rattle.draft.specs.Table.{row_at};
@@ -11,13 +11,10 @@ fn gather(table: &[u32], room: usize, first: usize, rows: &mut [u32])
     requires { (room ≤ 4096) × (room * 4 ≤ length table.now) × Keys (row_at room table.now) room (length rows.old) first }
     ensures { rows.new ≡ key_rows (row_at room table.now) (length rows.old) first }
 {
-    let mut i = 0;
     let mut here = first;
-    while i < rows.len() {
-        rows[i] = here as u32;
-        let value = table::get_row(table, room, here + 1);
-        here = value.end as usize;
-        i += 1;
+    for row in rows {
+        *row = here as u32;
+        here = table::get_row(table, room, here + 1).end as usize;
     }
 }
 
@@ -27,15 +24,12 @@ fn is_over(table: &[u32], room: usize, text: &[u8], most: usize, rows: &[u32]) -
     ensures { result ≡ over (key_text room (row_at room table.now) text.now) most rows.now }
 {
     let mut left = most;
-    let mut i = 0;
-    while i < rows.len() {
-        let k = sorting::wide(rows[i]);
-        let key = sorting::key_text(table, room, text, k);
+    for &row in rows {
+        let key = sorting::key_text(table, room, text, row as usize);
         if left < key.len() {
             return true;
         }
         left -= key.len();
-        i += 1;
     }
     false
 }
@@ -54,11 +48,8 @@ pub fn arrange(
     requires { (room ≤ 4096) × (room * 4 ≤ length table.now) × (n + n / 2 ≤ length rows.old) × Keys (row_at room table.now) room n first }
     ensures { Laid (key_text room (row_at room table.now) text.now) most (key_rows (row_at room table.now) n first) n rows.new }
 {
-    gather(table, room, first, &mut rows[0..n]);
-    if n < 2 {
-        return;
-    }
-    if is_over(table, room, text, most, &rows[0..n]) {
+    gather(table, room, first, &mut rows[..n]);
+    if n < 2 || is_over(table, room, text, most, &rows[..n]) {
         return;
     }
     merging::sort_front(table, room, text, rows, n);

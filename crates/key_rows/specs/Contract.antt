@@ -1,12 +1,9 @@
 -- What walking rows asks of the table and the notes on keys, and what it does to the notes. Assumes nothing.
-use Rattle.std.specs.Prelude.{◌≡◌, Bool, true, false, List, ℕ, ◌/◌, ◌≤◌, ◌<◌, length}
+use Rattle.std.specs.Prelude.{◌≡◌, Bool, true, false, List, ℕ, ◌/◌, ◌≤◌, ◌<◌, length, Option, Some}
 use Rattle.draft.specs.Strings.{Text}
 use Rattle.draft.specs.Content.{key_rule}
 use Rattle.draft.specs.Table.{row_at}
 use Rattle.draft.specs.Writable.{string_by}
-use Rattle.draft.specs.declared.Extent.{Extent}
-use Rattle.draft.specs.declared.Extent.TheVariants.{Until}
-use Rattle.row_ends.specs.Ends.{extent_of}
 use Rattle.extents.specs.Asked.{Ready, Checked}
 use Rattle.keys.specs.Notes.{named, keys_of, Noted, Keeps, Joins}
 
@@ -24,31 +21,31 @@ pub record Prepared (s : List ℕ) (room rows : ℕ) (T : List ℕ) (good r : �
   pub noted : Noted (named s room T) N r
 
 -- the notes after a walk from row `first` on, if it found an end
-pub record Walked (t : ℕ → Text) (N N' : List ℕ) (first : ℕ) (e : Extent) : Type 0 where
-  pub on : (next : ℕ) → e ≡ Until next → first ≤ next
-  pub keeps : (next : ℕ) → e ≡ Until next → Keeps t t N N' first next
+pub record Walked (t : ℕ → Text) (N N' : List ℕ) (first : ℕ) (e : Option ℕ) : Type 0 where
+  pub on : (next : ℕ) → e ≡ Some next → first ≤ next
+  pub keeps : (next : ℕ) → e ≡ Some next → Keeps t t N N' first next
 
 -- the same of a walk that met an owner's key first
-pub record Joined (t : ℕ → Text) (N N' : List ℕ) (owner first : ℕ) (e : Extent) : Type 0 where
-  pub joins : (next : ℕ) → e ≡ Until next → Joins t t N N' owner first next
+pub record Joined (t : ℕ → Text) (N N' : List ℕ) (owner first : ℕ) (e : Option ℕ) : Type 0 where
+  pub joins : (next : ℕ) → e ≡ Some next → Joins t t N N' owner first next
 
 -- what a walk did that was to give this extent
-pub record Done (o : Extent) (t : ℕ → Text) (N N' : List ℕ) (first n : ℕ) : Type 0 where
-  pub says : extent_of n ≡ o
-  pub walked : Walked t N N' first (extent_of n)
+pub record Done (o : Option ℕ) (t : ℕ → Text) (N N' : List ℕ) (first : ℕ) (e : Option ℕ) : Type 0 where
+  pub says : e ≡ o
+  pub walked : Walked t N N' first e
 
 module _ (s : List ℕ) (room rows : ℕ) (T : List ℕ) where
   -- what a walk did that was to meet an owner's key behind those noted
-  pub record KeyDone (owner r : ℕ) (N N' : List ℕ) (n : ℕ) : Type 0 where
-    pub says : extent_of n ≡ string_by (row_at room T) rows s (key_rule (keys_of (named s room T) N owner r)) r
-    pub joined : Joined (named s room T) N N' owner r (extent_of n)
+  pub record KeyDone (owner r : ℕ) (N N' : List ℕ) (e : Option ℕ) : Type 0 where
+    pub says : e ≡ string_by (row_at room T) rows s (key_rule (keys_of (named s room T) N owner r)) r
+    pub joined : Joined (named s room T) N N' owner r e
 
   -- what a walk did that was to meet nothing
-  pub record Nothing (r : ℕ) (N N' : List ℕ) (n : ℕ) : Type 0 where
-    pub says : n ≡ r
+  pub record Nothing (r : ℕ) (N N' : List ℕ) (e : Option ℕ) : Type 0 where
+    pub says : e ≡ Some r
     pub notes : N' ≡ N
 
   -- what a walk did that was to meet an owner's key, where there are keys
-  pub record KeyIf (keyed : Bool) (owner r : ℕ) (N N' : List ℕ) (n : ℕ) : Type 0 where
-    pub some : keyed ≡ true → KeyDone owner r N N' n
-    pub none : keyed ≡ false → Nothing r N N' n
+  pub record KeyIf (keyed : Bool) (owner r : ℕ) (N N' : List ℕ) (e : Option ℕ) : Type 0 where
+    pub some : keyed ≡ true → KeyDone owner r N N' e
+    pub none : keyed ≡ false → Nothing r N N' e

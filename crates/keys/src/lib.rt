@@ -7,26 +7,13 @@ ghost use Rattle.std.specs.Prelude.{◌≡◌, ◌&&◌, ◌+◌, ◌*◌, ◌<�
 ghost use Rattle.text.specs.Texts.{same, among};
 ghost use Rattle.keys.specs.Notes.{head_of, owner_of, named, keys_of, joined, Noted, Rows, Entry, Placed, Noting, Ahead};
 
-// A word as a number: the caller has no fit of the element to show.
-fn wide(x: u32) -> usize
-    ensures { result ≡ x }
-{
-    x as usize
-}
-
-fn word(x: u16) -> usize
-    ensures { result ≡ x }
-{
-    x as usize
-}
-
 // The text that a row names.
 fn text_of<'a>(s: &'a [u8], table: &[u32], room: usize, row: usize) -> &'a [u8]
     requires { Rows row room (length table.now) }
     ensures { result.now ≡ named s.now room table.now row }
 {
     let x = table::get_row(table, room, row);
-    content::part(s, wide(x.a), wide(x.b))
+    content::part(s, x.a as usize, x.b as usize)
 }
 
 // Whether row k is the owner's, and has the key's bytes.
@@ -42,10 +29,7 @@ fn is_key(
     requires { Rows k room (length table.now) × (k < length notes.now / 3) }
     ensures { result ≡ (eqb (owner_of notes.now k) owner && same key.now (named s.now room table.now k)) }
 {
-    if word(notes[k * 3 + 2]) != owner {
-        return false;
-    }
-    names::equal(key, text_of(s, table, room, k))
+    notes[k * 3 + 2] as usize == owner && names::equal(key, text_of(s, table, room, k))
 }
 
 // Whether a key of the owner on the chain from `newest` on has these bytes. The owner's keys have no row before its first.
@@ -68,7 +52,7 @@ fn find(
         if is_key(s, table, room, notes, owner, k, key) {
             return true;
         }
-        c = word(notes[k * 3 + 1]);
+        c = notes[k * 3 + 1] as usize;
     }
     false
 }
@@ -86,7 +70,7 @@ pub fn crowded(notes: &[u16], owner: usize, h: usize) -> bool
     requires { h < length notes.now / 3 }
     ensures { result ≡ ltb owner (head_of notes.now h) }
 {
-    owner < word(notes[h * 3])
+    owner < notes[h * 3] as usize
 }
 
 // A new key is put on its bucket's chain.
@@ -112,7 +96,7 @@ pub fn note_in(
     requires { Rows row room (length table.now) × Entry owner row (length notes.old) × Noted (named s.now room table.now) notes.old row × Placed (named s.now room table.now) (length notes.old) owner row h }
     ensures { Noting (named s.now room table.now) notes.old notes.new owner row result }
 {
-    let newest = word(notes[h * 3]);
+    let newest = notes[h * 3] as usize;
     let key = text_of(s, table, room, row);
     if find(s, table, room, notes, owner, row, newest, key) {
         return true;

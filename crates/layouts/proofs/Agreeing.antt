@@ -8,10 +8,9 @@ use native.Mathlib.Omega.{arith}
 use lib.Dec.{ltb, eqb}
 use lib.ListN.{length}
 use borrow.Author.Tests.{ltb-true, eqb-true, eq-eqb}
+use Rattle.std.proofs.Common.{Option, Some, None}
 use Rattle.text.proofs.Comparing.{clash}
 use Rattle.draft.specs.declared.Row.{Row}
-use Rattle.draft.specs.declared.Extent.{Extent}
-use Rattle.draft.specs.declared.Extent.TheVariants.{Until, Unfit}
 use Rattle.draft.specs.Bytes.{Below}
 use Rattle.draft.specs.Table.{from}
 use Rattle.draft.specs.Read.{text_of}
@@ -26,11 +25,9 @@ use Rattle.written.proofs.Walking.{walked}
 use Rattle.written.proofs.Fitting.{message_fits}
 use Rattle.draft.specs.Strings.{plan}
 use Rattle.member.specs.declared.Member.{Member}
-use Rattle.member.specs.declared.Found.{Found}
-use Rattle.member.specs.declared.Found.TheVariants.{At, Absent}
 use Rattle.member.specs.Members.{member_of, members_from, is_struct, members, has_key, find, is_among}
 use Rattle.lookup_answer.specs.Answers.{answer_at, found_answer, look}
-use Rattle.order.specs.declared.Relation.TheVariants.{After}
+use Rattle.std.proofs.Common.{Greater}
 use Rattle.order.specs.ByteOrder.{compared}
 use Rattle.sorting.specs.Sorting.{key_text}
 use Rattle.index.specs.Filling.{refusal_in, order_in}
@@ -56,9 +53,9 @@ data Low (rows : ℕ) : List Member → Type 0 where
   no_member : Low rows []
   and_member : {r : ℕ} {ms : List Member} → r + 1 < rows → Low rows ms → Low rows (member_of r (r + 1) ∷ ms)
 
-abbrev FoundLow : ℕ → Found → Type 0
-FoundLow rows (At m) = m.value < rows
-FoundLow rows Absent = Unit {0}
+abbrev FoundLow : ℕ → Option Member → Type 0
+FoundLow rows (Some m) = m.value < rows
+FoundLow rows None = Unit {0}
 
 module _ (f g : ℕ → Row) (rows : ℕ) (same : Alike f g rows) where
   pub struct_same : (r : ℕ) → is_struct f rows r ≡ is_struct g rows r
@@ -116,20 +113,20 @@ module _ (f g : ℕ → Row) (rows : ℕ) (same : Alike f g rows) where
     find_low no_member = tt
     find_low (and_member {r} {ms} l m) = go (find_low m) (has_key g s key r)
       where
-        go : FoundLow rows (find g s key ms) → (b : Bool) → FoundLow rows (cond b (At (member_of r (r + 1))) (find g s key ms))
+        go : FoundLow rows (find g s key ms) → (b : Bool) → FoundLow rows (cond b (Some (member_of r (r + 1))) (find g s key ms))
         go i true = l
         go i false = i
 
     -- what is found, and what is made of it
-    look_found : (o : Found) → FoundLow rows o → found_answer f s o ≡ found_answer g s o
+    look_found : (o : Option Member) → FoundLow rows o → found_answer f s o ≡ found_answer g s o
     unfolding answer_at
-    look_found (At m) l = rw (same m.value l)
-    look_found Absent l = refl
+    look_found (Some m) l = rw (same m.value l)
+    look_found None l = refl
 
-    held_found : (o : Found) → FoundLow rows o → found_text f o ≡ found_text g o
+    held_found : (o : Option Member) → FoundLow rows o → found_text f o ≡ found_text g o
     unfolding numbered_text
-    held_found (At m) l = rw (same m.value l)
-    held_found Absent l = refl
+    held_found (Some m) l = rw (same m.value l)
+    held_found None l = refl
 
     pub look_same : (r : ℕ) → look f rows s r key ≡ look g rows s r key
     unfolding look
@@ -158,7 +155,7 @@ module _ (f g : ℕ → Row) (room : ℕ) (same : Alike f g room) where
 
   pub relation_same : (s key : List ℕ) → relation_to room f s key ≡ relation_to room g s key
   unfolding relation_to
-  relation_same s key = fun_ext (λ e. ap (λ (t : ℕ → List ℕ). cond (eqb e.key 0) After (compared (t e.key) key)) (text_same s))
+  relation_same s key = fun_ext (λ e. ap (λ (t : ℕ → List ℕ). cond (eqb e.key 0) Greater (compared (t e.key) key)) (text_same s))
 
   module _ (rows : ℕ) (h : rows ≤ room) where
     pub member_same : (r : ℕ) → is_member f rows r ≡ is_member g rows r
@@ -175,21 +172,21 @@ module _ (f g : ℕ → Row) (room : ℕ) (same : Alike f g room) where
 
 -- ---- judging
 
-until_is : (rows : ℕ) (o : Extent) → wholly rows o ≡ true → o ≡ Until rows
-until_is rows (Until r) e = ap Until (eqb-true r rows e)
-until_is rows Unfit e = clash e refl
+until_is : (rows : ℕ) (o : Option ℕ) → wholly rows o ≡ true → o ≡ Some rows
+until_is rows (Some r) e = ap Some (eqb-true r rows e)
+until_is rows None e = clash e refl
 
 -- a walk over rows that are words of 32 bits
 walk_over :
     (f g : ℕ → Row) (rows : ℕ) (s : List ℕ) (deep : ℕ) → Below 256 s → ((r : ℕ) → ((f r).a < 4294967296) × ((f r).b < 4294967296)) → Alike f g rows
-    → call_or_response f rows s deep 0 ≡ Until rows → call_or_response g rows s deep 0 ≡ Until rows
+    → call_or_response f rows s deep 0 ≡ Some rows → call_or_response g rows s deep 0 ≡ Some rows
 walk_over f g rows s deep o w same e =
     let k = walked f rows s deep 0 rows e in
     let n : length k.cells ≡ rows = omega (arith, k.ends) in
     let m = rw (n, from_same f g 0 rows (λ i l. same i (omega arith))) at (stands_realises k.stands) in
     let d = message_make ((k.writes w).derives (plan (strings k.cells)) (plan_texts (strings k.cells))) in
     let h = message_fits g rows s d (formed_below (cells_below o m)) (kept (plan_legal (strings k.cells)) (measured d).honest) in
-    h.walks 0 (realises_stands {row = g} rows m) (omega (arith, n)) ∙ ap Until (omega (arith, n))
+    h.walks 0 (realises_stands {row = g} rows m) (omega (arith, n)) ∙ ap Some (omega (arith, n))
 
 -- a test of walks that imply one another
 agreeing : (b c : Bool) → (b ≡ true → c ≡ true) → (c ≡ true → b ≡ true) → b ≡ c
@@ -206,5 +203,5 @@ walk_same f g rows s deep o w w' same =
     (λ e. whole (walk_over f g rows s deep o w same (until_is rows _ e)))
     (λ e. whole (walk_over g f rows s deep o w' (λ i l. sym (same i l)) (until_is rows _ e)))
   where
-    whole : {x : Extent} → x ≡ Until rows → wholly rows x ≡ true
+    whole : {x : Option ℕ} → x ≡ Some rows → wholly rows x ≡ true
     whole e = rw e (eq-eqb rows rows refl)

@@ -7,6 +7,7 @@ use native.Mathlib.Omega.{arith}
 use lib.Dec.{leb, ltb}
 use lib.ListN.{length}
 use borrow.Author.Tests.{leb-true, ltb-true}
+use Rattle.std.specs.Prelude.{Err}
 use Rattle.text.proofs.Comparing.{both}
 use Rattle.draft.specs.declared.Refusal.TheVariants.{TooLong, NotWritable, NoLimit}
 use Rattle.draft.specs.Limits.{allowed}
@@ -17,20 +18,20 @@ use Rattle.draft.specs.Writable.{call_or_response, wholly}
 use Rattle.draft.specs.Written.{written}
 use Rattle.written.proofs.Limiting.{below_at}
 use Rattle.write_answer.specs.Answers as writer
-use Rattle.plan_writer.specs.declared.Answer.TheVariants as p
+use Rattle.std.specs.Prelude.{Err}
+use Rattle.plan_writer.specs.declared.PlanRefusal.TheVariants as p
 use Rattle.plan_writer.specs.Answers as plan_writer
 use Rattle.certificate.specs.Certificate.{certified_texts}
 use Rattle.member.specs.declared.Member.{Member}
-use Rattle.lookup_answer.specs.declared.Answer.TheVariants as l
+use Rattle.lookup_answer.specs.declared.Value.TheVariants as l
 use Rattle.lookup_answer.specs.declared.Refusal.TheVariants as why
 use Rattle.lookup_answer.specs.Answers.{look, answer_at}
-use Rattle.order.specs.declared.Relation.{Relation}
+use Rattle.std.proofs.Common.{Ordering}
 use Rattle.seeking.specs.Seeking.{begun, searched}
 use Rattle.index.specs.Filling.{refusal_in, order_in}
 use Rattle.index_search.specs.Through.{relation_to, is_member}
-use Rattle.choice.specs.declared.Choice.{Choice}
 use Rattle.choice.specs.declared.Refusal.TheVariants as unfit
-use Rattle.choice.specs.Choosing.{preferred}
+use Rattle.choice.specs.Choosing.{Choice, preferred}
 use Rattle.member.specs.Members.{is_struct}
 use Rattle.defaults.specs.Defaults.{Source, held_in, unless, structs_then}
 use Rattle.layouts.specs.Layouts.{Layout, row_by, SameRows}
@@ -118,8 +119,8 @@ module _
       where
         go :
             (b : Bool) → writable_by at limit T rows s ≡ b
-            → plan_writer.given (allowed limit) (p.Refused NoLimit) (plan_writer.given (leb (length s) 65536) (p.Refused TooLong) (plan_writer.given b (p.Refused NotWritable) (plan_writer.answer_by s (rows_by at T rows) plan room)))
-            ≡ plan_writer.given (allowed limit) (p.Refused NoLimit) (plan_writer.given (leb (length s) 65536) (p.Refused TooLong) (plan_writer.given b (p.Refused NotWritable) (plan_writer.answer_by s (rows_by at' T' rows) plan room)))
+            → plan_writer.given (allowed limit) (Err (p.Refused NoLimit)) (plan_writer.given (leb (length s) 65536) (Err (p.Refused TooLong)) (plan_writer.given b (Err (p.Refused NotWritable)) (plan_writer.answer_by s (rows_by at T rows) plan room)))
+            ≡ plan_writer.given (allowed limit) (Err (p.Refused NoLimit)) (plan_writer.given (leb (length s) 65536) (Err (p.Refused TooLong)) (plan_writer.given b (Err (p.Refused NotWritable)) (plan_writer.answer_by s (rows_by at' T' rows) plan room)))
         go true e = rw (rows_same limit e)
         go false e = refl
 
@@ -129,8 +130,8 @@ module _
       where
         go :
             (a x b : Bool) → writable_by at limit T rows s ≡ b
-            → plan_writer.output_of (plan_writer.given a (p.Refused NoLimit) (plan_writer.given x (p.Refused TooLong) (plan_writer.given b (p.Refused NotWritable) (plan_writer.answer_by s (rows_by at T rows) plan room)))) (plan_writer.chosen s (rows_by at T rows) plan) room
-            ≡ plan_writer.output_of (plan_writer.given a (p.Refused NoLimit) (plan_writer.given x (p.Refused TooLong) (plan_writer.given b (p.Refused NotWritable) (plan_writer.answer_by s (rows_by at' T' rows) plan room)))) (plan_writer.chosen s (rows_by at' T' rows) plan) room
+            → plan_writer.output_of (plan_writer.given a (Err (p.Refused NoLimit)) (plan_writer.given x (Err (p.Refused TooLong)) (plan_writer.given b (Err (p.Refused NotWritable)) (plan_writer.answer_by s (rows_by at T rows) plan room)))) (plan_writer.chosen s (rows_by at T rows) plan) room
+            ≡ plan_writer.output_of (plan_writer.given a (Err (p.Refused NoLimit)) (plan_writer.given x (Err (p.Refused TooLong)) (plan_writer.given b (Err (p.Refused NotWritable)) (plan_writer.answer_by s (rows_by at' T' rows) plan room)))) (plan_writer.chosen s (rows_by at' T' rows) plan) room
         go a x true e = rw (rows_same limit e)
         go true true false e = refl
         go true false false e = refl
@@ -152,7 +153,7 @@ module _
       where
         go :
             (b : Bool) → writable_by at 32 T rows s ≡ b
-            → cond b (look (row_of at T) rows s r key) (l.Refused why.NotWritable) ≡ cond b (look (row_of at' T') rows s r key) (l.Refused why.NotWritable)
+            → cond b (look (row_of at T) rows s r key) (Err why.NotWritable) ≡ cond b (look (row_of at' T') rows s r key) (Err why.NotWritable)
         go true e = look_same (row_of at T) (row_of at' T') rows (below 32 e) s key r
         go false e = refl
 
@@ -183,7 +184,7 @@ module _
     found_same : (wanted : Bool) (r : ℕ) (es : List Member) (key : List ℕ) → rows ≤ c → found_row_by at wanted T rows s r es key ≡ found_row_by at' wanted T' rows s r es key
     unfolding found_row_by
     found_same wanted r es key h =
-        ap (λ (x : Member → Relation). (searched x (is_member (row_of at T) rows r) es (length es) (begun wanted (length es))).value)
+        ap (λ (x : Member → Ordering). (searched x (is_member (row_of at T) rows r) es (length es) (begun wanted (length es))).value)
         (relation_same (row_of at T) (row_of at' T') c alike s key ∙ ap (λ (k : ℕ). relation_to (room_of 4096 k) (row_of at' T') s key) tie.long)
         ∙ ap (λ (x : Member → Bool). (searched (relation_to (room_of 4096 (length T')) (row_of at' T') s key) x es (length es) (begun wanted (length es))).value)
         (member_same (row_of at T) (row_of at' T') c alike rows h r)
@@ -194,7 +195,7 @@ module _
       where
         go :
             (a b : Bool) → ltb v rows ≡ b
-            → cond (a && b) (answer_at (row_of at T) s v) (l.Refused why.NoMember) ≡ cond (a && b) (answer_at (row_of at' T') s v) (l.Refused why.NoMember)
+            → cond (a && b) (answer_at (row_of at T) s v) (Err why.NoMember) ≡ cond (a && b) (answer_at (row_of at' T') s v) (Err why.NoMember)
         go true true e = answer_same (row_of at T) (row_of at' T') rows (alike_below rows alike h) s v (ltb-true v rows e)
         go true false e = refl
         go false b e = refl
@@ -205,8 +206,8 @@ module _
       where
         go :
             (b : Bool) → writable_by at 32 T rows s ≡ b
-            → cond b (row_answer_by at T rows s (found_row_by at b T rows s r es key)) (l.Refused why.NotWritable)
-            ≡ cond b (row_answer_by at' T' rows s (found_row_by at' b T' rows s r es key)) (l.Refused why.NotWritable)
+            → cond b (row_answer_by at T rows s (found_row_by at b T rows s r es key)) (Err why.NotWritable)
+            ≡ cond b (row_answer_by at' T' rows s (found_row_by at' b T' rows s r es key)) (Err why.NotWritable)
         go true e = rw (found_same true r es key (fits 32 e)) (row_same (found_row_by at' true T' rows s r es key) (fits 32 e))
         go false e = refl
 

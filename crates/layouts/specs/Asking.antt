@@ -1,6 +1,6 @@
 -- What the calls that are lent a table answer, with any layout of it: the definitions of crates writer, plan_writer, certificate, lookup, position,
 -- index and defaults, with the rows fetched by the layout. Assumes nothing.
-use Rattle.std.specs.Prelude.{Bool, cond, ◌&&◌, List, [], ℕ, ◌*◌, length, leb, ltb}
+use Rattle.std.specs.Prelude.{Bool, cond, ◌&&◌, List, [], ℕ, ◌*◌, length, leb, ltb, Err}
 use Rattle.draft.specs.declared.Row.{Row}
 use Rattle.draft.specs.declared.Refusal.TheVariants.{TooLong, NotWritable, NoLimit}
 use Rattle.draft.specs.Limits.{allowed}
@@ -9,15 +9,14 @@ use Rattle.draft.specs.Strings.{texts_of}
 use Rattle.draft.specs.Table.{room_of, from}
 use Rattle.draft.specs.Writable.{call_or_response, wholly}
 use Rattle.draft.specs.Written.{written}
-use Rattle.write_answer.specs.declared.Answer as W
 use Rattle.write_answer.specs.Answers as writer
-use Rattle.plan_writer.specs.declared.Answer as P
-use Rattle.plan_writer.specs.declared.Answer.TheVariants as p
+use Rattle.std.specs.Prelude.{Err}
+use Rattle.plan_writer.specs.declared.PlanRefusal.TheVariants as p
 use Rattle.plan_writer.specs.Answers as plan_writer
 use Rattle.certificate.specs.Certificate.{certified_texts}
 use Rattle.member.specs.declared.Member.{Member}
-use Rattle.lookup_answer.specs.declared.Answer as L
-use Rattle.lookup_answer.specs.declared.Answer.TheVariants as l
+use Rattle.lookup_answer.specs.Answers as L
+use Rattle.lookup_answer.specs.declared.Value.TheVariants as l
 use Rattle.lookup_answer.specs.declared.Refusal.TheVariants as why
 use Rattle.lookup_answer.specs.Answers.{look, answer_at}
 use Rattle.placing.specs.declared.Placed.{Placed}
@@ -25,7 +24,7 @@ use Rattle.placing.specs.Placing.{settled}
 use Rattle.seeking.specs.Seeking.{begun, searched}
 use Rattle.index.specs.Filling.{refusal_in, order_in}
 use Rattle.index_search.specs.Through.{relation_to, is_member}
-use Rattle.choice.specs.declared.Choice.{Choice}
+use Rattle.choice.specs.Choosing.{Choice}
 use Rattle.choice.specs.declared.Refusal.TheVariants as unfit
 use Rattle.defaults.specs.Defaults.{Source, unless, structs_then}
 use Rattle.layouts.specs.Layouts.{Layout, row_by}
@@ -49,7 +48,7 @@ module _ (at : Layout) where
       && wholly rows (call_or_response (row_of T) rows s limit 0))))
 
   -- writing: the answer, and the output
-  unfoldable pub write_by : ℕ → List ℕ → ℕ → List ℕ → ℕ → W.Answer
+  unfoldable pub write_by : ℕ → List ℕ → ℕ → List ℕ → ℕ → writer.Answer
   write_by limit T rows s room =
       writer.given (allowed limit) NoLimit
       (writer.given (leb (length s) 65536) TooLong
@@ -60,11 +59,11 @@ module _ (at : Layout) where
   written_by limit T rows s room = writer.output_of (write_by limit T rows s room) (written s (rows_by T rows)) room
 
   -- writing with a plan; and whether prices prove one shortest
-  unfoldable pub plan_by : ℕ → List ℕ → ℕ → List ℕ → List ℕ → ℕ → P.Answer
+  unfoldable pub plan_by : ℕ → List ℕ → ℕ → List ℕ → List ℕ → ℕ → plan_writer.Answer
   plan_by limit T rows s plan room =
-      plan_writer.given (allowed limit) (p.Refused NoLimit)
-      (plan_writer.given (leb (length s) 65536) (p.Refused TooLong)
-      (plan_writer.given (writable_by limit T rows s) (p.Refused NotWritable)
+      plan_writer.given (allowed limit) (Err (p.Refused NoLimit))
+      (plan_writer.given (leb (length s) 65536) (Err (p.Refused TooLong))
+      (plan_writer.given (writable_by limit T rows s) (Err (p.Refused NotWritable))
       (plan_writer.answer_by s (rows_by T rows) plan room)))
 
   unfoldable pub planned_by : ℕ → List ℕ → ℕ → List ℕ → List ℕ → ℕ → List ℕ
@@ -75,7 +74,7 @@ module _ (at : Layout) where
 
   -- looking up, and a position
   unfoldable pub lookup_by : List ℕ → ℕ → List ℕ → ℕ → List ℕ → L.Answer
-  lookup_by T rows s r key = cond (writable_by 32 T rows s) (look (row_of T) rows s r key) (l.Refused why.NotWritable)
+  lookup_by T rows s r key = cond (writable_by 32 T rows s) (look (row_of T) rows s r key) (Err why.NotWritable)
 
   unfoldable pub position_by : List ℕ → ℕ → List ℕ → ℕ → Placed
   position_by T rows s r = settled (lookup_by T rows s r (bytes "x")) (lookup_by T rows s r (bytes "y")) (lookup_by T rows s r (bytes "turn"))
@@ -92,11 +91,11 @@ module _ (at : Layout) where
       (searched (relation_to (room_of 4096 (length T)) (row_of T) s key) (is_member (row_of T) rows r) es (length es) (begun wanted (length es))).value
 
   unfoldable pub row_answer_by : List ℕ → ℕ → List ℕ → ℕ → L.Answer
-  row_answer_by T rows s v = cond (ltb 0 v && ltb v rows) (answer_at (row_of T) s v) (l.Refused why.NoMember)
+  row_answer_by T rows s v = cond (ltb 0 v && ltb v rows) (answer_at (row_of T) s v) (Err why.NoMember)
 
   unfoldable pub through_by : List ℕ → ℕ → List ℕ → ℕ → List Member → List ℕ → L.Answer
   through_by T rows s r es key =
-      cond (writable_by 32 T rows s) (row_answer_by T rows s (found_row_by (writable_by 32 T rows s) T rows s r es key)) (l.Refused why.NotWritable)
+      cond (writable_by 32 T rows s) (row_answer_by T rows s (found_row_by (writable_by 32 T rows s) T rows s r es key)) (Err why.NotWritable)
 
   -- a text, the card's or behind it the defaults'
   unfoldable pub chosen_by : Source → Source → List ℕ → Choice

@@ -6,7 +6,7 @@ ghost use Rattle.std.specs.Prelude.{◌+◌, ◌*◌, ◌≤◌, ◌<◌, length
 ghost use Rattle.draft.specs.Read.{contents, integer_item, boolean_item, short_item, long_item};
 ghost use Rattle.item.specs.Contract.{Fitting, Stored};
 
-use draft::{Content, Refusal, Verdict};
+use draft::{Content, Refusal};
 use item::Step;
 
 // The item at `at` whose content is the n bytes at o, unless its rule refuses them.
@@ -25,8 +25,8 @@ pub fn put_contents(
 {
     let verdict = content::inspect(content, s, o, n);
     match verdict {
-        Verdict::Bad(refusal) => item::refuse(refusal, at),
-        Verdict::Fine => item::put_leaf(
+        Err(refusal) => item::refuse(refusal, at),
+        Ok(()) => Ok(item::put_leaf(
             row,
             o + n,
             draft::kind(content),
@@ -34,7 +34,7 @@ pub fn put_contents(
             n as u32,
             room,
             table,
-        ),
+        )),
     }
 }
 
@@ -49,7 +49,7 @@ pub fn read_integer(s: &[u8], at: usize, row: usize, room: usize, table: &mut [u
         return item::refuse(Refusal::Ended, at);
     }
     let bits = item::unsigned(s, at + 1);
-    item::put_leaf(row, at + 5, 4, bits as u32, 0, room, table)
+    Ok(item::put_leaf(row, at + 5, 4, bits as u32, 0, room, table))
 }
 
 pub fn read_boolean(s: &[u8], at: usize, row: usize, a: u32, room: usize, table: &mut [u32]) -> Step
@@ -59,7 +59,7 @@ pub fn read_boolean(s: &[u8], at: usize, row: usize, a: u32, room: usize, table:
     if room <= row {
         return item::refuse(Refusal::NoRow, at);
     }
-    item::put_leaf(row, at + 1, 5, a, 0, room, table)
+    Ok(item::put_leaf(row, at + 1, 5, a, 0, room, table))
 }
 
 // A Double or a DateTime: a size byte, and its content.
@@ -80,7 +80,7 @@ pub fn read_short(
     if s.len() < at + 2 {
         return item::refuse(Refusal::Ended, at);
     }
-    let n = item::wide(s[at + 1]);
+    let n = usize::from(s[at + 1]);
     put_contents(s, at, row, content, at + 2, n, room, table)
 }
 

@@ -11,8 +11,8 @@ use Rattle.text.specs.Utf8.{well_formed}
 use Rattle.text.proofs.Comparing.{clash}
 use Rattle.draft.specs.declared.Refusal.{Refusal}
 use Rattle.draft.specs.declared.Refusal.TheVariants.{Ended, BadText}
-use Rattle.draft.specs.declared.Verdict.{Verdict}
-use Rattle.draft.specs.declared.Verdict.TheVariants.{Fine, Bad}
+use Rattle.draft.specs.Verdict.{Verdict}
+use Rattle.std.specs.Prelude.{Ok, Err}
 use Rattle.draft.specs.declared.Content.TheVariants.{Text}
 use Rattle.draft.specs.declared.Row.{Row}
 use Rattle.draft.specs.Bytes.{part}
@@ -30,15 +30,15 @@ module _ {s N : List ℕ} (x : Row) (n : Notes s N) where
   found_short h = record { fine = λ t k l. absurd (omega arith); unfit = λ f. clash refl f; true_all = n.true_all }
 
 abbrev is_fine : Verdict → Bool
-is_fine Fine = true
-is_fine (Bad m) = false
+is_fine (Ok tt) = true
+is_fine (Err m) = false
 
-bad_not : {v : Verdict} {m : Refusal} → v ≡ Bad m → v ≡ Fine → ⊥
+bad_not : {v : Verdict} {m : Refusal} → v ≡ Err m → v ≡ Ok tt → ⊥
 bad_not p q = clash (ap is_fine (sym p ∙ q)) refl
 
 -- the text of a row inside the text bytes, or not
 module _ (s : List ℕ) (o n : ℕ) where
-  text_outside : length s < o + n → verdict Text s o n ≡ Bad Ended
+  text_outside : length s < o + n → verdict Text s o n ≡ Err Ended
   unfolding verdict
   text_outside h = rw (lt-leb (o + n) (length s) h)
 
@@ -89,7 +89,7 @@ module _ {row : ℕ → Row} {s N : List ℕ} {r : ℕ} (g : Going row s N r) wh
   pub going_again : {N' : List ℕ} {x : Row} {b : Bool} → x ≡ row r → Found s N' x b → b ≡ true → Going row s N' (r + 1)
   going_again {x = x} e f t = record { checked = record { fine = λ k h. go k h (eqb k r) refl }; true_all = f.true_all }
     where
-      go : (k : ℕ) → k < r + 1 → (b : Bool) → eqb k r ≡ b → (row k).kind ≡ 11 → 512 ≤ (row k).b → verdict Text s (row k).a (row k).b ≡ Fine
+      go : (k : ℕ) → k < r + 1 → (b : Bool) → eqb k r ≡ b → (row k).kind ≡ 11 → 512 ≤ (row k).b → verdict Text s (row k).a (row k).b ≡ Ok tt
       go k h true q = rw (eqb-true k r q, ← e) (f.fine t)
       go k h false q = g.checked.fine k (omega (arith, eqb-false k r q))
 

@@ -1,6 +1,6 @@
 -- What was found of a row, with notes on the text bytes, and of the rows before the first bad one. Assumes nothing.
 use Rattle.std.specs.Prelude.{◌≡◌, Bool, true, false, List, ℕ, ◌≤◌, ◌<◌}
-use Rattle.draft.specs.declared.Verdict.TheVariants.{Fine}
+use Rattle.std.specs.Prelude.{Ok}
 use Rattle.draft.specs.declared.Content.TheVariants.{Text}
 use Rattle.draft.specs.declared.Row.{Row}
 use Rattle.draft.specs.Rows.{kind_of}
@@ -12,11 +12,11 @@ use Rattle.extents.specs.Asked.{Checked}
 pub record Unfit (s : List ℕ) (x : Row) : Type 0 where
   pub string : x.kind ≡ kind_of Text
   pub long : 512 ≤ x.b
-  pub not_fine : verdict Text s x.a x.b ≡ Fine → ⊥
+  pub not_fine : verdict Text s x.a x.b ≡ Ok tt → ⊥
 
 -- yes: if it is a String of 512 bytes or more, it is fine; no: it is one, and is not fine; and the notes stay true
 pub record Found (s N : List ℕ) (x : Row) (good : Bool) : Type 0 where
-  pub fine : good ≡ true → x.kind ≡ kind_of Text → 512 ≤ x.b → verdict Text s x.a x.b ≡ Fine
+  pub fine : good ≡ true → x.kind ≡ kind_of Text → 512 ≤ x.b → verdict Text s x.a x.b ≡ Ok tt
   pub unfit : good ≡ false → Unfit s x
   pub true_all : True s N
 

@@ -4,27 +4,24 @@ use mathlib.Core.Bool.{Bool, true, false}
 use mathlib.Core.List.{List}
 use Prim.Native.Nat.{ℕ}
 use lib.ListN.{length}
+use Rattle.std.specs.Prelude.{Option, Some, None, Err}
 use Rattle.draft.specs.declared.Row as R
 use Rattle.draft.specs.Table.{room_of, row_at}
 use Rattle.draft.specs.Writable.{writable}
 use Rattle.member.specs.declared.Member.{Member}
-use Rattle.member.specs.declared.Found.{Found}
-use Rattle.member.specs.declared.Found.TheVariants.{At, Absent}
 use Rattle.member.specs.Members.{members, find}
 use Rattle.shape.proofs.Judged.{rows_stated, room_most, room_inside}
 use Rattle.lookup_answer.specs.declared.Refusal.TheVariants as why
-use Rattle.lookup_answer.specs.declared.Answer.{Answer}
-use Rattle.lookup_answer.specs.declared.Answer.TheVariants.{Refused}
-use Rattle.lookup_answer.specs.Answers.{answer_at, look, lookup}
+use Rattle.lookup_answer.specs.Answers.{Answer, answer_at, look, lookup}
 
 -- ---- by what was found
 
-module _ (row : ℕ → R.Row) (rows : ℕ) (s : List ℕ) (r : ℕ) (key : List ℕ) {f : Found} (e : f ≡ find row s key (members row rows r)) where
-  pub found_answer_lem : {m : Member} {a : Answer} → f ≡ At m → a ≡ answer_at row s m.value → a ≡ look row rows s r key
+module _ (row : ℕ → R.Row) (rows : ℕ) (s : List ℕ) (r : ℕ) (key : List ℕ) {f : Option Member} (e : f ≡ find row s key (members row rows r)) where
+  pub found_answer_lem : {m : Member} {a : Answer} → f ≡ Some m → a ≡ answer_at row s m.value → a ≡ look row rows s r key
   unfolding look
   found_answer_lem g h = rw (← e, g, h)
 
-  pub absent_answer : f ≡ Absent → Refused why.NoMember ≡ look row rows s r key
+  pub absent_answer : f ≡ None → Err why.NoMember ≡ look row rows s r key
   unfolding look
   absent_answer g = rw (← e, g)
 
@@ -35,7 +32,7 @@ module _ (T : List ℕ) (rows : ℕ) (s : List ℕ) {b : Bool} (e : b ≡ writab
   unfolding lookup
   writable_answer f g r key h = rw (← e, f, ← g, h)
 
-  pub unwritable_answer : (r : ℕ) (key : List ℕ) → b ≡ false → Refused why.NotWritable ≡ lookup T rows s r key
+  pub unwritable_answer : (r : ℕ) (key : List ℕ) → b ≡ false → Err why.NotWritable ≡ lookup T rows s r key
   unfolding lookup
   unwritable_answer r key f = rw (← e, f)
 

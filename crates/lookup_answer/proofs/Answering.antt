@@ -10,8 +10,8 @@ use mir.Val.{Fits, SFits, to_z, of_z}
 use mir.Facts.{to_z-of_z}
 use borrow.Author.Rules.{sfits_of}
 use borrow.Author.Tests.{lt-ltb, le-ltb}
-use Rattle.decimal.specs.declared.Decimal as D
-use Rattle.decimal.specs.declared.Decimal.TheVariants.{Value, TooManyDigits}
+use Rattle.std.specs.Prelude.{Ok, Err}
+use Rattle.decimal.specs.Decimal as D
 use Rattle.decimal.specs.Decimal.{decimal_of}
 use Rattle.draft.specs.declared.Row as R
 use Rattle.draft.specs.declared.Content as C
@@ -21,9 +21,8 @@ use Rattle.draft.specs.declared.Item.TheVariants as item
 use Rattle.draft.specs.Bytes.{part}
 use Rattle.draft.specs.Rows.{item_of}
 use Rattle.lookup_answer.specs.declared.Refusal.TheVariants as why
-use Rattle.lookup_answer.specs.declared.Answer.{Answer}
-use Rattle.lookup_answer.specs.declared.Answer.TheVariants.{Whole, Decimal, Truth, Text, Row, Refused}
-use Rattle.lookup_answer.specs.Answers.{signed, decimal_answer, content_answer, item_answer, answer_at}
+use Rattle.lookup_answer.specs.Answers.{Answer, signed, decimal_answer, content_answer, item_answer, answer_at}
+use Rattle.lookup_answer.specs.declared.Value.TheVariants.{Whole, Decimal, Truth, Text, Row}
 
 -- ---- 32 bits as a signed number
 
@@ -52,54 +51,54 @@ pub ruleset signing = (difference_fits, signed_low, signed_high)
 
 -- ---- by the item
 
-pub value_answer : {d : D.Decimal} {x : _} → d ≡ Value x → Decimal x ≡ decimal_answer d
+pub value_answer : {d : D.Decimal} {x : _} → d ≡ Ok x → Ok (Decimal x) ≡ decimal_answer d
 value_answer e = rw e
 
-pub long_answer : {d : D.Decimal} → d ≡ TooManyDigits → Refused why.TooManyDigits ≡ decimal_answer d
+pub long_answer : {d : D.Decimal} → d ≡ D.too_many → Err why.TooManyDigits ≡ decimal_answer d
 long_answer e = rw e
 
 module _ {c : C.Content} (s : List ℕ) (x : R.Row) (r : ℕ) where
   pub double_answer : {t : List ℕ} {d : D.Decimal} {a : Answer} → c ≡ content.Double → t ≡ part s x.a x.b → d ≡ decimal_of t → a ≡ decimal_answer d → a ≡ content_answer c s x r
   double_answer e i j k = rw (k, j, i, e)
 
-  pub date_answer : c ≡ content.DateTime → Row r ≡ content_answer c s x r
+  pub date_answer : c ≡ content.DateTime → Ok (Row r) ≡ content_answer c s x r
   date_answer e = rw e
 
-  pub binary_answer : c ≡ content.Binary → Row r ≡ content_answer c s x r
+  pub binary_answer : c ≡ content.Binary → Ok (Row r) ≡ content_answer c s x r
   binary_answer e = rw e
 
-  pub text_answer : c ≡ content.Text → Text x.a x.b ≡ content_answer c s x r
+  pub text_answer : c ≡ content.Text → Ok (Text x.a x.b) ≡ content_answer c s x r
   text_answer e = rw e
 
 module _ {i : Item} (s : List ℕ) (x : R.Row) (r : ℕ) where
-  pub whole_answer : {z : ℤ} → i ≡ item.Integer → z ≡ signed x.a → SFits w64 z → Whole (to_z w64 (of_z w64 z)) ≡ item_answer i s x r
-  whole_answer e g f = rw (e, ← g) (ap Whole (to_z-of_z f))
+  pub whole_answer : {z : ℤ} → i ≡ item.Integer → z ≡ signed x.a → SFits w64 z → Ok (Whole (to_z w64 (of_z w64 z))) ≡ item_answer i s x r
+  whole_answer e g f = rw (e, ← g) (ap (λ (y : ℤ). Ok (Whole y)) (to_z-of_z f))
 
-  pub truth_answer : i ≡ item.Boolean → Truth (eqb x.a 1) ≡ item_answer i s x r
+  pub truth_answer : i ≡ item.Boolean → Ok (Truth (eqb x.a 1)) ≡ item_answer i s x r
   truth_answer e = rw e
 
   pub content_answer_lem : {c : C.Content} {a : Answer} → i ≡ item.Content c → a ≡ content_answer c s x r → a ≡ item_answer i s x r
   content_answer_lem e g = rw (g, e)
 
-  pub array_answer : i ≡ item.Array → Row r ≡ item_answer i s x r
+  pub array_answer : i ≡ item.Array → Ok (Row r) ≡ item_answer i s x r
   array_answer e = rw e
 
-  pub struct_answer : i ≡ item.Struct → Row r ≡ item_answer i s x r
+  pub struct_answer : i ≡ item.Struct → Ok (Row r) ≡ item_answer i s x r
   struct_answer e = rw e
 
-  pub other_answer : i ≡ item.Other → Row r ≡ item_answer i s x r
+  pub other_answer : i ≡ item.Other → Ok (Row r) ≡ item_answer i s x r
   other_answer e = rw e
 
-  pub call_answer : i ≡ item.Call → Refused why.NoMember ≡ item_answer i s x r
+  pub call_answer : i ≡ item.Call → Err why.NoMember ≡ item_answer i s x r
   call_answer e = rw e
 
-  pub response_answer : i ≡ item.Response → Refused why.NoMember ≡ item_answer i s x r
+  pub response_answer : i ≡ item.Response → Err why.NoMember ≡ item_answer i s x r
   response_answer e = rw e
 
-  pub fault_answer : i ≡ item.Fault → Refused why.NoMember ≡ item_answer i s x r
+  pub fault_answer : i ≡ item.Fault → Err why.NoMember ≡ item_answer i s x r
   fault_answer e = rw e
 
-  pub unknown_answer : i ≡ item.Unknown → Refused why.NoMember ≡ item_answer i s x r
+  pub unknown_answer : i ≡ item.Unknown → Err why.NoMember ≡ item_answer i s x r
   unknown_answer e = rw e
 
 pub ruleset answering = (

@@ -1,7 +1,6 @@
 -- What looking up a member answers, and document 02's numbers of its refusals. Defined for any table. Assumes nothing.
-use Rattle.std.specs.Prelude.{cond, List, ℕ, ltb, eqb, ℤ, pos, ◌-ℤ◌, length}
-use Rattle.decimal.specs.declared.Decimal as D
-use Rattle.decimal.specs.declared.Decimal.TheVariants.{Value, TooManyDigits}
+use Rattle.std.specs.Prelude.{cond, List, ℕ, ltb, eqb, ℤ, pos, ◌-ℤ◌, length, Option, Some, None, Result, Ok, Err}
+use Rattle.decimal.specs.Decimal as D
 use Rattle.decimal.specs.Decimal.{decimal_of}
 use Rattle.draft.specs.declared.Row as R
 use Rattle.draft.specs.declared.Content as C
@@ -12,13 +11,16 @@ use Rattle.draft.specs.Rows.{item_of}
 use Rattle.draft.specs.Read.{text_of}
 use Rattle.draft.specs.Table.{room_of, row_at}
 use Rattle.draft.specs.Writable.{writable}
-use Rattle.member.specs.declared.Found.{Found}
-use Rattle.member.specs.declared.Found.TheVariants.{At, Absent}
+use Rattle.member.specs.declared.Member.{Member}
 use Rattle.member.specs.Members.{members, find}
 use Rattle.lookup_answer.specs.declared.Refusal as Why
 use Rattle.lookup_answer.specs.declared.Refusal.TheVariants as why
-use Rattle.lookup_answer.specs.declared.Answer.{Answer}
-use Rattle.lookup_answer.specs.declared.Answer.TheVariants.{Whole, Decimal, Truth, Text, Row, Refused}
+use Rattle.lookup_answer.specs.declared.Value as V
+use Rattle.lookup_answer.specs.declared.Value.TheVariants.{Whole, Decimal, Truth, Text, Row}
+
+-- what is answered, or why nothing is
+abbrev pub Answer : Type 0
+Answer = Result V.Value Why.Refusal
 
 abbrev pub number_of : Why.Refusal → ℕ
 -- 'for an unwritable table'
@@ -33,28 +35,28 @@ unfoldable pub signed : ℕ → ℤ
 signed n = cond (ltb n 2147483648) (pos n) (pos n -ℤ pos 4294967296)
 
 abbrev pub decimal_answer : D.Decimal → Answer
-decimal_answer (Value x) = Decimal x
-decimal_answer TooManyDigits = Refused why.TooManyDigits
+decimal_answer (Ok x) = Ok (Decimal x)
+decimal_answer (Err e) = Err why.TooManyDigits
 
 -- 'a text is a String's offset and length'; a DateTime and a Binary answer with their row
 abbrev pub content_answer : C.Content → List ℕ → R.Row → ℕ → Answer
 content_answer content.Double s x r = decimal_answer (decimal_of (text_of s x))
-content_answer content.DateTime s x r = Row r
-content_answer content.Binary s x r = Row r
-content_answer content.Text s x r = Text x.a x.b
+content_answer content.DateTime s x r = Ok (Row r)
+content_answer content.Binary s x r = Ok (Row r)
+content_answer content.Text s x r = Ok (Text x.a x.b)
 
 -- 'a whole number, a decimal, a yes or no, a text, or another item's row', by the item of row r; what is no Value is of the wrong sort
 abbrev pub item_answer : Item → List ℕ → R.Row → ℕ → Answer
-item_answer item.Integer s x r = Whole (signed x.a)
-item_answer item.Boolean s x r = Truth (eqb x.a 1)
+item_answer item.Integer s x r = Ok (Whole (signed x.a))
+item_answer item.Boolean s x r = Ok (Truth (eqb x.a 1))
 item_answer (item.Content c) s x r = content_answer c s x r
-item_answer item.Array s x r = Row r
-item_answer item.Struct s x r = Row r
-item_answer item.Other s x r = Row r
-item_answer item.Call s x r = Refused why.NoMember
-item_answer item.Response s x r = Refused why.NoMember
-item_answer item.Fault s x r = Refused why.NoMember
-item_answer item.Unknown s x r = Refused why.NoMember
+item_answer item.Array s x r = Ok (Row r)
+item_answer item.Struct s x r = Ok (Row r)
+item_answer item.Other s x r = Ok (Row r)
+item_answer item.Call s x r = Err why.NoMember
+item_answer item.Response s x r = Err why.NoMember
+item_answer item.Fault s x r = Err why.NoMember
+item_answer item.Unknown s x r = Err why.NoMember
 
 -- the rows by their numbers, and the text bytes
 module _ (row : ℕ → R.Row) where
@@ -62,9 +64,9 @@ module _ (row : ℕ → R.Row) where
   unfoldable pub answer_at : List ℕ → ℕ → Answer
   answer_at s r = item_answer (item_of (row r).kind) s (row r) r
 
-  abbrev pub found_answer : List ℕ → Found → Answer
-  found_answer s (At m) = answer_at s m.value
-  found_answer s Absent = Refused why.NoMember
+  abbrev pub found_answer : List ℕ → Option Member → Answer
+  found_answer s (Some m) = answer_at s m.value
+  found_answer s None = Err why.NoMember
 
   -- what the member with a key answers in the Struct of row r, among so many rows
   unfoldable pub look : ℕ → List ℕ → ℕ → List ℕ → Answer
@@ -72,4 +74,4 @@ module _ (row : ℕ → R.Row) where
 
 -- '11 first, for an unwritable table'
 unfoldable pub lookup : List ℕ → ℕ → List ℕ → ℕ → List ℕ → Answer
-lookup T rows s r key = cond (writable T rows s) (look (row_at (room_of 4096 (length T)) T) rows s r key) (Refused why.NotWritable)
+lookup T rows s r key = cond (writable T rows s) (look (row_at (room_of 4096 (length T)) T) rows s r key) (Err why.NotWritable)

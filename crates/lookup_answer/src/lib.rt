@@ -1,16 +1,16 @@
 // What a member of a Struct answers, by its row: a whole number, a decimal, a yes or no, a text, or another item's row; and that in numbers.
-#![tactic(auto)]
+#![tactic(auto, using(crate::proofs::Answering::signing, crate::proofs::Answering::answering, crate::proofs::Reporting::reporting))]
 
 ghost use Rattle.std.specs.Prelude.{◌≡◌, ◌*◌, ◌≤◌, ◌<◌, length};
 ghost use Rattle.draft.specs.Table.{row_at};
-ghost use Rattle.lookup_answer.specs.Reports.{plus_zero, reported, report_of};
+ghost use Rattle.lookup_answer.specs.Reports.{report_of};
 ghost use Rattle.lookup_answer.specs.Answers.{number_of, signed as signed_of, decimal_answer, content_answer, item_answer, answer_at};
 
-use decimal::Decimal;
+use decimal::TooManyDigits;
 use draft::{Content, Item, Row};
 
 // Why nothing is answered: the table is not writable; the row is no Struct, or has no such member, or it is of the wrong sort; too many digits.
-#[derive(Clone, Copy)]
+#[derive(Clone, Copy, PartialEq, Eq, Debug)]
 pub enum Refusal {
     NotWritable,
     NoMember,
@@ -19,13 +19,12 @@ pub enum Refusal {
 
 // What a member answers. Any item that is no number, yes or no, or text answers with its row.
 #[derive(Clone, Copy)]
-pub enum Answer {
+pub enum Value {
     Whole(i64),
     Decimal(f64),
     Truth(bool),
     Text { offset: u32, length: u32 },
     Row(u32),
-    Refused(Refusal),
 }
 
 // An answer in numbers, for programs in C and Rust. The sort is 1 for a whole number, 2 for a decimal, 3 for a yes or no, 4 for a text, 5 for another
@@ -42,13 +41,15 @@ pub struct Report {
 }
 
 // The papers' number of a refusal.
-pub fn number(refusal: Refusal) -> u8
-    ensures { result ≡ number_of refusal }
-{
-    match refusal {
-        Refusal::NotWritable => 11,
-        Refusal::NoMember => 18,
-        Refusal::TooManyDigits => 19,
+impl From<Refusal> for u8 {
+    ghost from_gives = { λ r n. n ≡ number_of r };
+
+    fn from(refusal: Refusal) -> u8 {
+        match refusal {
+            Refusal::NotWritable => 11,
+            Refusal::NoMember => 18,
+            Refusal::TooManyDigits => 19,
+        }
     }
 }
 
@@ -63,17 +64,17 @@ fn signed(bits: u32) -> i64
     }
 }
 
-fn decimal_answer(value: Decimal) -> Answer
+fn decimal_answer(value: Result<f64, TooManyDigits>) -> Result<Value, Refusal>
     ensures { result ≡ decimal_answer value }
 {
     match value {
-        Decimal::Value(x) => Answer::Decimal(x),
-        Decimal::TooManyDigits => Answer::Refused(Refusal::TooManyDigits),
+        Ok(x) => Ok(Value::Decimal(x)),
+        Err(TooManyDigits) => Err(Refusal::TooManyDigits),
     }
 }
 
 // What an item with content answers, whose row is number r.
-fn content_answer(text: &[u8], content: Content, row: Row, r: u32) -> Answer
+fn content_answer(text: &[u8], content: Content, row: Row, r: u32) -> Result<Value, Refusal>
     ensures { result ≡ content_answer content text.now row r }
 {
     match content {
@@ -82,35 +83,30 @@ fn content_answer(text: &[u8], content: Content, row: Row, r: u32) -> Answer
             row.a as usize,
             row.b as usize,
         ))),
-        Content::DateTime => Answer::Row(r),
-        Content::Binary => Answer::Row(r),
-        Content::Text => Answer::Text {
+        Content::DateTime | Content::Binary => Ok(Value::Row(r)),
+        Content::Text => Ok(Value::Text {
             offset: row.a,
             length: row.b,
-        },
+        }),
     }
 }
 
 // What an item answers, whose row is number r. A Call and a Response are no member's value.
-fn item_answer(text: &[u8], item: Item, row: Row, r: u32) -> Answer
+fn item_answer(text: &[u8], item: Item, row: Row, r: u32) -> Result<Value, Refusal>
     ensures { result ≡ item_answer item text.now row r }
 {
     match item {
-        Item::Integer => Answer::Whole(signed(row.a)),
-        Item::Boolean => Answer::Truth(row.a == 1),
+        Item::Integer => Ok(Value::Whole(signed(row.a))),
+        Item::Boolean => Ok(Value::Truth(row.a == 1)),
         Item::Content(content) => content_answer(text, content, row, r),
-        Item::Array => Answer::Row(r),
-        Item::Struct => Answer::Row(r),
-        Item::Other => Answer::Row(r),
-        Item::Call => Answer::Refused(Refusal::NoMember),
-        Item::Response => Answer::Refused(Refusal::NoMember),
-        Item::Fault => Answer::Refused(Refusal::NoMember),
-        Item::Unknown => Answer::Refused(Refusal::NoMember),
+        Item::Array | Item::Struct | Item::Other => Ok(Value::Row(r)),
+        Item::Call | Item::Response | Item::Fault | Item::Unknown => Err(Refusal::NoMember),
     }
 }
 
 // What row r answers, in a table that was judged before.
-pub fn row_answer(table: &[u32], room: usize, text: &[u8], r: u32) -> Answer
+#[tactic(auto, unfolding(crate::specs::Answers::answer_at))]
+pub fn row_answer(table: &[u32], room: usize, text: &[u8], r: u32) -> Result<Value, Refusal>
     requires { (r < room) × (room ≤ 4096) × (room * 4 ≤ length table.now) }
     ensures { result ≡ answer_at (row_at room table.now) text.now r }
 {
@@ -118,56 +114,48 @@ pub fn row_answer(table: &[u32], room: usize, text: &[u8], r: u32) -> Answer
     item_answer(text, draft::item_of(row.kind), row, r)
 }
 
-fn with_whole(sort: u8, whole: i64) -> Report
-    ensures { result ≡ reported 0 sort whole plus_zero 0 0 }
+// An answer in numbers.
+pub fn report_of(answer: Result<Value, Refusal>) -> Report
+    ensures { result ≡ report_of answer }
 {
-    Report {
+    let zeros = Report {
         number: 0,
-        sort,
-        whole,
+        sort: 0,
+        whole: 0,
         decimal: 0.0,
         offset: 0,
         length: 0,
-    }
-}
-
-// An answer in numbers.
-pub fn report_of(answer: Answer) -> Report
-    ensures { result ≡ report_of answer }
-{
+    };
     match answer {
-        Answer::Whole(n) => with_whole(1, n),
-        Answer::Decimal(x) => Report {
-            number: 0,
-            sort: 2,
-            whole: 0,
-            decimal: x,
-            offset: 0,
-            length: 0,
+        Ok(Value::Whole(n)) => Report {
+            sort: 1,
+            whole: n,
+            ..zeros
         },
-        Answer::Truth(b) => {
-            if b {
-                with_whole(3, 1)
-            } else {
-                with_whole(3, 0)
-            }
-        }
-        Answer::Text { offset, length } => Report {
-            number: 0,
+        Ok(Value::Decimal(x)) => Report {
+            sort: 2,
+            decimal: x,
+            ..zeros
+        },
+        Ok(Value::Truth(b)) => Report {
+            sort: 3,
+            whole: b as i64,
+            ..zeros
+        },
+        Ok(Value::Text { offset, length }) => Report {
             sort: 4,
-            whole: 0,
-            decimal: 0.0,
             offset: offset as u64,
             length: length as u64,
+            ..zeros
         },
-        Answer::Row(r) => with_whole(5, r as i64),
-        Answer::Refused(refusal) => Report {
-            number: number(refusal),
-            sort: 0,
-            whole: 0,
-            decimal: 0.0,
-            offset: 0,
-            length: 0,
+        Ok(Value::Row(r)) => Report {
+            sort: 5,
+            whole: r as i64,
+            ..zeros
+        },
+        Err(refusal) => Report {
+            number: refusal.into(),
+            ..zeros
         },
     }
 }

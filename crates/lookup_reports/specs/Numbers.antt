@@ -1,12 +1,10 @@
 -- What is reported of a position: document 02's number of its outcome, and the three values. And of a text asked for by key: the number, which of the
 -- two has it, and where it lies there. Assumes nothing.
-use Rattle.std.specs.Prelude.{◌≡◌, ℕ}
+use Rattle.std.specs.Prelude.{◌≡◌, ℕ, Ok, Err}
 use Rattle.placing.specs.declared.Position.{Position}
 use Rattle.placing.specs.declared.Placed.{Placed}
 use Rattle.placing.specs.Placing.{outcome_number}
-use Rattle.choice.specs.declared.Choice.{Choice}
-use Rattle.choice.specs.declared.Choice.TheVariants.{Card, Defaults, Refused}
-use Rattle.choice.specs.Choosing.{choice_number, source_of}
+use Rattle.choice.specs.Choosing.{Choice, choice_number, source_of}
 
 pub record PositionReported (p : Placed) (number : ℕ) (values : Position) : Type 0 where
   pub says : number ≡ outcome_number p.outcome
@@ -22,14 +20,12 @@ abbrev pub text_report : ℕ → ℕ → ℕ → ℕ → TextReport
 text_report number source offset size = record { number = number; source = source; offset = offset; length = size }
 
 abbrev pub offset_of : Choice → ℕ
-offset_of (Card o n) = o
-offset_of (Defaults o n) = o
-offset_of (Refused why) = 0
+offset_of (Ok text) = text.offset
+offset_of (Err why) = 0
 
 abbrev pub length_of : Choice → ℕ
-length_of (Card o n) = n
-length_of (Defaults o n) = n
-length_of (Refused why) = 0
+length_of (Ok text) = text.length
+length_of (Err why) = 0
 
 -- refused: no text, and the card is named
 abbrev pub text_report_of : Choice → TextReport

@@ -9,6 +9,7 @@ use native.Mathlib.Numerals.{add-one}
 use lib.Dec.{ltb, eqb}
 use lib.ListN.{length, get_or, length-append}
 use borrow.Author.Tests.{lt-ltb, ltb-true, eqb-true}
+use Rattle.std.specs.Prelude.{Some}
 use Rattle.text.proofs.Comparing.{clash, same_is}
 use Rattle.draft.specs.declared.Row.{Row}
 use Rattle.draft.specs.declared.Content.TheVariants as content
@@ -17,7 +18,6 @@ use Rattle.draft.specs.Grammar.{Cell, Sent, content_cell, struct_cell, Value, in
 use Rattle.draft.specs.Meaning.{says_holding, means}
 use Rattle.exact.proofs.Keys.{Distinct, Fresh, no_key, new_key, fresh_distinct}
 use Rattle.member.specs.declared.Member.{Member}
-use Rattle.member.specs.declared.Found.TheVariants.{At}
 use Rattle.member.specs.Members.{member_of, members_from, is_struct, members, keys_of, has_key, find, same_member, is_among}
 use Rattle.member.proofs.Apart.{Apart, none_apart, and_apart, apart_from}
 use Rattle.meant.specs.Meant.{StructAt}
@@ -178,12 +178,12 @@ module _ (row : ℕ → Row) (s : List ℕ) where
 
     pub found_only :
         (ms : List Member) (m : Member) (ns : List Member) → Distinct (keys_of row s (ms ++ (m ∷ ns))) → has_key row s key m.key ≡ true
-        → find row s key (ms ++ (m ∷ ns)) ≡ At m
+        → find row s key (ms ++ (m ∷ ns)) ≡ Some m
     unfolding find keys_of
     found_only [] m ns d e = rw e
     found_only (x ∷ ms) m ns d e = go (has_key row s key x.key) refl (found_only ms m ns (λ i j h k. d (suc i) (suc j) (omega arith) (omega arith)) e)
       where
-        go : (b : Bool) → has_key row s key x.key ≡ b → find row s key (ms ++ (m ∷ ns)) ≡ At m → cond b (At x) (find row s key (ms ++ (m ∷ ns))) ≡ At m
+        go : (b : Bool) → has_key row s key x.key ≡ b → find row s key (ms ++ (m ∷ ns)) ≡ Some m → cond b (Some x) (find row s key (ms ++ (m ∷ ns))) ≡ Some m
         go true f g =
             let k = key_in ms m ns in
             absurd (d 0 (suc (length ms)) (omega arith) (omega arith) (has_text x f ∙ sym (has_text m e) ∙ sym (key_at_lem ms m ns)))

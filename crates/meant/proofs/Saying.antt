@@ -8,6 +8,7 @@ use native.Mathlib.Numerals.{add-one}
 use lib.Dec.{ltb, eqb}
 use lib.ListN.{length, length-append}
 use borrow.Author.Tests.{lt-ltb, ne_eqb, ltb-true, eqb-true, eqb-false}
+use Rattle.std.specs.Prelude.{Some, Err}
 use Rattle.text.specs.Texts.{same}
 use Rattle.text.proofs.Comparing.{clash, same_is, same_self}
 use Rattle.draft.specs.declared.Row.{Row}
@@ -18,12 +19,9 @@ use Rattle.draft.specs.Table.{from}
 use Rattle.draft.specs.Read.{Texts}
 use Rattle.draft.specs.Grammar.{Payload, holding, Cell, cell, Sent, content_cell, struct_cell, Value, integer_value, boolean_value, double_value, datetime_value, binary_value, array_value, struct_value, string_value, other_value, array, struct, Pairs, no_pairs, more_pairs, pair, other, Derives}
 use Rattle.draft.specs.Meaning.{says_holding, says_number, says_contents, Means, means, Realises, no_more, and_then}
-use Rattle.member.specs.declared.Found.TheVariants.{At}
 use Rattle.member.specs.Members.{member_of, members_from, is_struct, members, has_key, find}
 use Rattle.lookup_answer.specs.declared.Refusal.TheVariants as why
-use Rattle.lookup_answer.specs.declared.Answer.{Answer}
-use Rattle.lookup_answer.specs.declared.Answer.TheVariants.{Refused}
-use Rattle.lookup_answer.specs.Answers.{answer_at, found_answer, look}
+use Rattle.lookup_answer.specs.Answers.{Answer, answer_at, found_answer, look}
 use Rattle.meant.specs.Meant.{Meaning, members_of, Answers, whole_number, yes_or_no, decimal, text, datetime, binary, array as array_answer, struct as struct_answer, other as other_answer, Said, no_member, this_member, later_member, StructAt, Answered, in_struct, no_struct}
 use Rattle.meant.proofs.Structs.{kind_at, derived_structs, struct_kind}
 
@@ -99,7 +97,7 @@ module _ (row : ℕ → Row) (s : List ℕ) where
     answer n r = found_answer row s (find row s key (members_from row rows n r))
 
     one_member : (n r : ℕ) → r + 1 < rows → (b : Bool) → has_key row s key r ≡ b
-        → answer (suc n) r ≡ found_answer row s (cond b (At (member_of r (r + 1))) (find row s key (members_from row rows n (row (r + 1)).end)))
+        → answer (suc n) r ≡ found_answer row s (cond b (Some (member_of r (r + 1))) (find row s key (members_from row rows n (row (r + 1)).end)))
     unfolding members_from find
     one_member n r h b e = rw (lt-ltb (r + 1) rows h, e)
 
@@ -163,11 +161,11 @@ module _ (row : ℕ → Row) (s : List ℕ) where
             rw (lt-ltb r rows (omega (arith, total)), k, b)
             (members_said rows key st.pairs (first_part st.ws st.after (rw add-one u)) (omega (arith, total)))
 
-    pub no_struct_said : (r : ℕ) → (kind_at cells r ≡ 10 → ⊥) → look row rows s r key ≡ Refused why.NoMember
+    pub no_struct_said : (r : ℕ) → (kind_at cells r ≡ 10 → ⊥) → look row rows s r key ≡ Err why.NoMember
     unfolding look members is_struct find
     no_struct_said r n = go (ltb r rows) refl
       where
-        go : (b : Bool) → ltb r rows ≡ b → look row rows s r key ≡ Refused why.NoMember
+        go : (b : Bool) → ltb r rows ≡ b → look row rows s r key ≡ Err why.NoMember
         go false h = rw h
         go true h =
             let f : r < length cells = omega (arith, ltb-true r rows h) in

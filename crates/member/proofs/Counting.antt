@@ -1,14 +1,11 @@
 -- What answers the returns and turns of the functions that count members, and that look for one by its rows. Assumes nothing.
-use mathlib.Core.Path.{◌≡◌, refl, sym, ap, ◌∙◌}
+use mathlib.Core.Path.{◌≡◌, refl, ap, ◌∙◌}
 use mathlib.Core.Bool.{Bool, true, false}
 use mathlib.Core.List.{[], ◌∷◌}
 use Prim.Native.Nat.{ℕ, zero, suc, ◌+◌, ◌-◌, ◌≤◌, ◌<◌}
 use native.Mathlib.Omega.{arith}
-use lib.Dec.{eqb}
 use lib.ListN.{length}
-use mir.Syntax.{w64}
-use mir.Val.{Fits}
-use borrow.Author.Tests.{le-ltb, lt-ltb, eq-eqb, ne_eqb}
+use borrow.Author.Tests.{le-ltb, lt-ltb}
 use Rattle.draft.specs.declared.Row.{Row}
 use Rattle.member.specs.declared.Member.{Member}
 use Rattle.member.specs.Members.{member_of, members_from, is_struct, members, same_member, is_among}
@@ -36,29 +33,25 @@ from_past row rows (suc left) here h = rw (le-ltb (here + 1) rows h)
 -- ---- counting
 
 module _ (row : ℕ → Row) (rows : ℕ) where
-  -- c members were passed
-  pub record Counting (n first left here c : ℕ) : Type 0 where
-    pub few : c + left ≡ n
-    pub rest : c + length (members_from row rows left here) ≡ length (members_from row rows n first)
+  -- as many members were passed as there were turns
+  pub record Counting (n first i here : ℕ) : Type 0 where
+    pub rest : i + length (members_from row rows (n - i) here) ≡ length (members_from row rows n first)
 
-  pub count_all : {n first : ℕ} → Counting n first n first 0
-  count_all = record { few = omega arith; rest = omega arith }
+  pub count_all : {n first : ℕ} → Counting n first 0 first
+  count_all {n} = let z : n - 0 ≡ n = omega arith in record { rest = rw z (omega arith) }
 
-  module _ {n first left here c : ℕ} (l : Counting n first left here c) where
-    pub count_none : left ≤ 0 → c ≡ length (members_from row rows n first)
-    count_none h = omega (arith, l.rest, ap length (from_none row rows left here h))
+  module _ {n first i here : ℕ} (l : Counting n first i here) where
+    pub count_none : n ≤ i → i ≡ length (members_from row rows n first)
+    count_none h = omega (arith, l.rest, ap length (from_none row rows (n - i) here (omega arith)))
 
-    pub count_past : rows ≤ here + 1 → c ≡ length (members_from row rows n first)
-    count_past h = omega (arith, l.rest, ap length (from_past row rows left here h))
+    pub count_past : rows ≤ here + 1 → i ≡ length (members_from row rows n first)
+    count_past h = omega (arith, l.rest, ap length (from_past row rows (n - i) here h))
 
-    pub count_past_key : rows ≤ here → c ≡ length (members_from row rows n first)
-    count_past_key h = count_past (omega arith)
-
-    pub count_more : {next : ℕ} → 0 < left → here + 1 < rows → next ≡ (row (here + 1)).end → Counting n first (left - 1) next (c + 1)
-    count_more p h i = record { few = omega (arith, l.few); rest = rw i (omega (arith, l.rest, ap length (from_more row rows left here p h))) }
-
-    pub count_fits : Fits w64 n → 0 < left → Fits w64 (c + 1)
-    count_fits f p = record { fits = omega (arith, l.few, f.fits) }
+    pub count_more : {m : Member} {next : ℕ} → i < n → (here + 1 < rows) × (m ≡ member_of here (here + 1)) → next ≡ (row m.value).end → Counting n first (i + 1) next
+    count_more {m} {next} p h g =
+        let z : n - i - 1 ≡ n - (i + 1) = omega arith in
+        let q : next ≡ (row (here + 1)).end = rw h.1 at g in
+        record { rest = rw (q, ← z) (omega (arith, l.rest, ap length (from_more row rows (n - i) here (omega arith) h.0))) }
 
 module _ (row : ℕ → Row) (rows : ℕ) (r : ℕ) {b : Bool} (e : b ≡ is_struct row rows r) where
   pub none_counted : b ≡ false → 0 ≡ length (members row rows r)
@@ -77,45 +70,41 @@ module _ (row : ℕ → Row) (rows : ℕ) (r : ℕ) {b : Bool} (e : b ≡ is_str
   unfolding members
   struct_among m g i j = j ∙ rw (← e, g, i)
 
-pub ruleset counting = (count_all, count_none, count_past, count_past_key, count_more, count_fits, none_counted, struct_counted)
+pub ruleset counting = (none_counted, struct_counted)
 
 -- ---- looking for one by its rows
 
-pub same_both : (m n : Member) → m.key ≡ n.key → eqb m.value n.value ≡ same_member m n
-unfolding same_member
-same_both m n e = rw (eq-eqb m.key n.key e)
-
-pub same_not : (m n : Member) → (m.key ≡ n.key → ⊥) → false ≡ same_member m n
-unfolding same_member
-same_not m n e = rw (ne_eqb m.key n.key e)
-
 module _ (row : ℕ → Row) (rows : ℕ) (m : Member) where
-  -- whether it is among the members that are left is whether it is among all
-  pub record Seeking (n first left here : ℕ) : Type 0 where
-    pub rest : is_among m (members_from row rows left here) ≡ is_among m (members_from row rows n first)
+  -- after i members, whether it is among those that are left is whether it is among all
+  pub record Seeking (n first i here : ℕ) : Type 0 where
+    pub rest : is_among m (members_from row rows (n - i) here) ≡ is_among m (members_from row rows n first)
 
-  pub seek_all : {n first : ℕ} → Seeking n first n first
-  seek_all = record { rest = refl }
+  pub seek_all : {n first : ℕ} → Seeking n first 0 first
+  seek_all {n} = let z : n - 0 ≡ n = omega arith in record { rest = rw z }
 
-  module _ {n first left here : ℕ} (l : Seeking n first left here) where
-    pub seek_none : left ≤ 0 → false ≡ is_among m (members_from row rows n first)
+  module _ {n first i here : ℕ} (l : Seeking n first i here) where
+    pub seek_none : n ≤ i → false ≡ is_among m (members_from row rows n first)
     unfolding is_among
-    seek_none h = rw (from_none row rows left here h) at l.rest
+    seek_none h = rw (from_none row rows (n - i) here (omega arith)) at l.rest
 
     pub seek_past : rows ≤ here + 1 → false ≡ is_among m (members_from row rows n first)
     unfolding is_among
-    seek_past h = rw (from_past row rows left here h) at l.rest
+    seek_past h = rw (from_past row rows (n - i) here h) at l.rest
 
-    pub seek_past_key : rows ≤ here → false ≡ is_among m (members_from row rows n first)
-    seek_past_key h = seek_past (omega arith)
+    module _ {x : Member} (p : i < n) (h : (here + 1 < rows) × (x ≡ member_of here (here + 1))) where
+      more : 0 < n - i
+      more = omega arith
 
-    module _ {b : Bool} {x : Member} (p : 0 < left) (h : here + 1 < rows) (i : x ≡ member_of here (here + 1)) (e : b ≡ same_member x m) where
-      pub seek_found : b ≡ true → true ≡ is_among m (members_from row rows n first)
+      pub seek_found : same_member x m ≡ true → true ≡ is_among m (members_from row rows n first)
       unfolding is_among
-      seek_found f = let g : same_member (member_of here (here + 1)) m ≡ true = rw i at (sym e ∙ f) in rw (from_more row rows left here p h, g) at l.rest
+      seek_found f = let g : same_member (member_of here (here + 1)) m ≡ true = rw h.1 at f in rw (from_more row rows (n - i) here more h.0, g) at l.rest
 
-      pub seek_more : {next : ℕ} → b ≡ false → next ≡ (row (here + 1)).end → Seeking n first (left - 1) next
+      pub seek_more : {next : ℕ} → same_member x m ≡ false → next ≡ (row x.value).end → Seeking n first (i + 1) next
       unfolding is_among
-      seek_more f j = let g : same_member (member_of here (here + 1)) m ≡ false = rw i at (sym e ∙ f) in record { rest = rw j (rw (from_more row rows left here p h, g) at l.rest) }
+      seek_more {next} f j =
+          let g : same_member (member_of here (here + 1)) m ≡ false = rw h.1 at f in
+          let z : n - i - 1 ≡ n - (i + 1) = omega arith in
+          let q : next ≡ (row (here + 1)).end = rw h.1 at j in
+          record { rest = rw (q, ← z) (rw (from_more row rows (n - i) here more h.0, g) at l.rest) }
 
-pub ruleset seeking = (same_both, same_not, seek_all, seek_none, seek_past, seek_past_key, seek_found, seek_more, none_among, struct_among)
+pub ruleset seeking = (none_among, struct_among)

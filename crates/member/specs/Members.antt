@@ -1,15 +1,17 @@
 -- The members of a Struct, by rows, and the one that has a key. Defined for any rows: a row past the stated ones ends the members, and a row
 -- that is no Struct has none. Assumes nothing.
-use Rattle.std.specs.Prelude.{Bool, false, cond, ◌&&◌, ◌||◌, List, [], ◌∷◌, ℕ, zero, suc, ◌+◌, ltb, eqb}
+use Rattle.std.specs.Prelude.{Bool, false, cond, ◌&&◌, ◌||◌, List, [], ◌∷◌, ℕ, zero, suc, ◌+◌, ltb, eqb, Option, Some, None}
 use Rattle.text.specs.Texts.{same}
 use Rattle.draft.specs.declared.Row.{Row}
 use Rattle.draft.specs.Read.{text_of}
 use Rattle.member.specs.declared.Member.{Member}
-use Rattle.member.specs.declared.Found.{Found}
-use Rattle.member.specs.declared.Found.TheVariants.{At, Absent}
 
 abbrev pub member_of : ℕ → ℕ → Member
 member_of key value = record { key = key; value = value }
+
+-- the member whose key is row r, among so many rows
+abbrev pub member_in : ℕ → ℕ → Option Member
+member_in rows r = cond (ltb (r + 1) rows) (Some (member_of r (r + 1))) None
 
 -- the rows by their numbers, and how many there are
 module _ (row : ℕ → Row) (rows : ℕ) where
@@ -46,6 +48,6 @@ module _ (row : ℕ → Row) (s : List ℕ) where
   keys_of (m ∷ ms) = text_of s (row m.key) ∷ keys_of ms
 
   -- the first with a key; in a writable table it is the only one
-  unfoldable pub find : List ℕ → List Member → Found
-  find key [] = Absent
-  find key (m ∷ ms) = cond (has_key key m.key) (At m) (find key ms)
+  unfoldable pub find : List ℕ → List Member → Option Member
+  find key [] = None
+  find key (m ∷ ms) = cond (has_key key m.key) (Some m) (find key ms)

@@ -5,36 +5,26 @@
 
 ghost use Rattle.std.specs.Prelude.{◌≡◌, ◌+◌, ◌*◌, ◌≤◌, ◌<◌, length};
 ghost use Rattle.draft.specs.Table.{row_at};
-ghost use Rattle.member.specs.Members.{member_of, is_struct, has_key, members_from, members, find as findIn, same_member, is_among};
+ghost use Rattle.member.specs.Members.{member_of, is_struct, has_key, member_in, members_from, members, find as findIn, is_among};
 
 // A member: the row of its key and the row of its value.
 #[repr(C)]
-#[derive(Clone, Copy)]
+#[derive(Clone, Copy, PartialEq, Eq, Debug)]
 pub struct Member {
     pub key: u32,
     pub value: u32,
-}
-
-// The member with a key, or that there is none.
-#[derive(Drop)]
-pub enum Found {
-    At(Member),
-    Absent,
 }
 
 // The kind of a Struct's row.
 const STRUCT: u32 = 10;
 
 // Whether row r is one of the stated rows, and a Struct's.
+#[tactic(auto, unfolding(crate::specs::Members::is_struct))]
 pub fn is_struct(table: &[u32], room: usize, rows: usize, r: usize) -> bool
     requires { (rows ≤ room) × (room ≤ 4096) × (room * 4 ≤ length table.now) }
     ensures { result ≡ is_struct (row_at room table.now) rows r }
 {
-    if rows <= r {
-        return false;
-    }
-    let row = table::get_row(table, room, r);
-    row.kind == STRUCT
+    r < rows && table::get_row(table, room, r).kind == STRUCT
 }
 
 // Whether the text of row r has the bytes of a key.
@@ -51,8 +41,7 @@ pub fn end_of(table: &[u32], room: usize, r: usize) -> usize
     requires { (r < room) × (room ≤ 4096) × (room * 4 ≤ length table.now) }
     ensures { result ≡ (row_at room table.now r).end }
 {
-    let row = table::get_row(table, room, r);
-    row.end as usize
+    table::get_row(table, room, r).end as usize
 }
 
 // The member whose key is row r.
@@ -66,6 +55,17 @@ fn member_at(r: usize) -> Member
     }
 }
 
+// The member whose key would be row r, if both of its rows are stated ones.
+pub fn member_among(rows: usize, r: usize) -> Option<Member>
+    requires { rows ≤ 4096 }
+    ensures { result ≡ member_in rows r }
+{
+    if rows <= r || rows <= r + 1 {
+        return None;
+    }
+    Some(member_at(r))
+}
+
 // The one with a key among n members, whose first key is row `first`.
 fn find_from(
     table: &[u32],
@@ -75,31 +75,30 @@ fn find_from(
     key: &[u8],
     n: usize,
     first: usize,
-) -> Found
+) -> Option<Member>
     requires { (rows ≤ room) × (room ≤ 4096) × (room * 4 ≤ length table.now) }
     ensures { result ≡ findIn (row_at room table.now) text.now key.now (members_from (row_at room table.now) rows n first) }
 {
-    let mut left = n;
     let mut here = first;
-    while 0 < left {
-        if rows <= here {
-            return Found::Absent;
-        }
-        let value = here + 1;
-        if rows <= value {
-            return Found::Absent;
-        }
+    for _ in 0..n {
+        let member = member_among(rows, here)?;
         if has_key(table, room, text, here, key) {
-            return Found::At(member_at(here));
+            return Some(member);
         }
-        here = end_of(table, room, value);
-        left -= 1;
+        here = end_of(table, room, member.value as usize);
     }
-    Found::Absent
+    None
 }
 
 // The member with a key in the Struct of row r; a row that is no Struct has no members.
-pub fn find(table: &[u32], room: usize, rows: usize, text: &[u8], r: usize, key: &[u8]) -> Found
+pub fn find(
+    table: &[u32],
+    room: usize,
+    rows: usize,
+    text: &[u8],
+    r: usize,
+    key: &[u8],
+) -> Option<Member>
     requires { (rows ≤ room) × (room ≤ 4096) × (room * 4 ≤ length table.now) }
     ensures { result ≡ findIn (row_at room table.now) text.now key.now (members (row_at room table.now) rows r) }
 {
@@ -107,7 +106,7 @@ pub fn find(table: &[u32], room: usize, rows: usize, text: &[u8], r: usize, key:
         let row = table::get_row(table, room, r);
         find_from(table, room, rows, text, key, row.b as usize, r + 1)
     } else {
-        Found::Absent
+        None
     }
 }
 
@@ -116,19 +115,13 @@ fn count_from(table: &[u32], room: usize, rows: usize, n: usize, first: usize) -
     requires { (rows ≤ room) × (room ≤ 4096) × (room * 4 ≤ length table.now) }
     ensures { result ≡ length (members_from (row_at room table.now) rows n first) }
 {
-    let mut left = n;
     let mut here = first;
     let mut c = 0;
-    while 0 < left {
-        if rows <= here {
+    for _ in 0..n {
+        let Some(counted) = member_among(rows, here) else {
             return c;
-        }
-        let behind = here + 1;
-        if rows <= behind {
-            return c;
-        }
-        here = end_of(table, room, behind);
-        left -= 1;
+        };
+        here = end_of(table, room, counted.value as usize);
         c += 1;
     }
     c
@@ -147,35 +140,20 @@ pub fn count(table: &[u32], room: usize, rows: usize, r: usize) -> usize
     }
 }
 
-fn same(a: Member, b: Member) -> bool
-    ensures { result ≡ same_member a b }
-{
-    if a.key == b.key {
-        return a.value == b.value;
-    }
-    false
-}
-
 // Whether m is among n members, whose first key is row `first`.
 fn is_among(table: &[u32], room: usize, rows: usize, m: Member, n: usize, first: usize) -> bool
     requires { (rows ≤ room) × (room ≤ 4096) × (room * 4 ≤ length table.now) }
     ensures { result ≡ is_among m (members_from (row_at room table.now) rows n first) }
 {
-    let mut left = n;
     let mut here = first;
-    while 0 < left {
-        if rows <= here {
+    for _ in 0..n {
+        let Some(other) = member_among(rows, here) else {
             return false;
-        }
-        let its_value = here + 1;
-        if rows <= its_value {
-            return false;
-        }
-        if same(member_at(here), m) {
+        };
+        if other == m {
             return true;
         }
-        here = end_of(table, room, its_value);
-        left -= 1;
+        here = end_of(table, room, other.value as usize);
     }
     false
 }

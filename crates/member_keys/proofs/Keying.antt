@@ -16,10 +16,14 @@ use Rattle.draft.specs.Read.{Reading, Texts, string, recalled_item, text_of, key
 use Rattle.draft.proofs.Naming.{number_some}
 use Rattle.codebook.specs.Words.{book_of}
 use Rattle.table.proofs.Stored.{rows_kept}
-use Rattle.item.specs.declared.Step.{Step}
+use Rattle.std.specs.Prelude.{Ok, Err}
+use Rattle.item.specs.declared.Reached.{Reached}
+use Rattle.item.proofs.Readings.{did_next as new_next}
+use Rattle.item.proofs.Items.{the_row as string_one_row}
+use Rattle.item.proofs.Stepping.{Got, did_next, name_refused, name_judged, the_row, string_row}
+use Rattle.item.specs.Contract.{Step, step_number, step_at, step_row}
 use Rattle.item.specs.Contract.{refused_at, read_to, judged_at, Ready, Did}
-use Rattle.item.proofs.Readings.{Got, did_next}
-use Rattle.item.proofs.Items.{name_refused, name_judged, the_row, string_row, string_recalled}
+use Rattle.item.proofs.Items.{string_recalled}
 use Rattle.keys.specs.Notes.{head_of, owner_of, named, keys_of, joined, Noted, Rows, Entry, Placed, Added, Noting, Joins}
 use Rattle.keys.proofs.Chaining.{keys_move, note_alone}
 use Rattle.keys.proofs.Keeping.{noted_move, noted_blank, key_below}
@@ -60,15 +64,15 @@ not_recalled s at e f i = go (ltb at (length s)) refl
     go false l = let z = sym (get_or-eq_default s 0 (ltb-false at (length s) l)) ∙ i in omega arith
 
 -- nothing is kept of what was refused
-joined_not : {t t' : ℕ → Text} {N N' : List ℕ} {owner first : ℕ} {step : Step} → (step.number ≡ 0 → ⊥) → Joined t t' N N' owner first step
+joined_not : {t t' : ℕ → Text} {N N' : List ℕ} {owner first : ℕ} {step : Step} → (step_number step ≡ 0 → ⊥) → Joined t t' N N' owner first step
 joined_not n = record { joins = λ e. absurd (n e); behind = λ e. absurd (n e) }
 
-pub key_refused : (s : List ℕ) (owner at : ℕ) {room r : ℕ} {T T₁ T' W W₁ W' N N' : List ℕ} {step : Step} → Did (string s room at r (book_of W)) (length s) room (at + 1) r T T₁ W₁ step → (step.number ≡ 0 → ⊥) → KeyDone s room owner at r T T' W W' N N' step
+pub key_refused : (s : List ℕ) (owner at : ℕ) {room r : ℕ} {T T₁ T' W W₁ W' N N' : List ℕ} {step : Step} → Did (string s room at r (book_of W)) (length s) room (at + 1) r T T₁ W₁ step → (step_number step ≡ 0 → ⊥) → KeyDone s room owner at r T T' W W' N N' step
 unfolding key
 key_refused s owner at {W = W} d n = record { did = name_refused s (key_rule _) at at (book_of W) d n; joined = joined_not n }
 
 -- a key that was read as a String
-module _ (s : List ℕ) (at : ℕ) {room r : ℕ} {T T₁ W W₁ N : List ℕ} {step : Step} (d : Did (string s room at r (book_of W)) (length s) room (at + 1) r T T₁ W₁ step) (e : step.number ≡ 0) (p : Prepared s at r room T W N) where
+module _ (s : List ℕ) (at : ℕ) {room r : ℕ} {T T₁ W W₁ N : List ℕ} {step : Step} (d : Did (string s room at r (book_of W)) (length s) room (at + 1) r T T₁ W₁ step) (e : step_number step ≡ 0) (p : Prepared s at r room T W N) where
   old : (k : ℕ) → 0 < owner_of N k → named s room T₁ k ≡ named s room T k
   old k h = named_kept s (did_next d e) k (key_below p.noted k h)
 
@@ -101,10 +105,10 @@ module _ (s : List ℕ) (at : ℕ) {room r : ℕ} {T T₁ W W₁ N : List ℕ} {
       judged v q f = name_judged s at (book_of W) d e (key_rule seen) at p.ready.fitting.table refl (ap (λ (x : Bool). bad_if x RepeatedKey) (sym q) ∙ rule_is) f
 
       pub key_again : {answer : Step} → b ≡ true → answer ≡ refused_at RepeatedKey at → KeyDone s room owner at r T T₁ W W₁ N N' answer
-      key_again q f = record { did = judged true q f; joined = joined_not (λ i. number_some RepeatedKey (sym (ap (λ (x : Step). x.number) f) ∙ i)) }
+      key_again q f = record { did = judged true q f; joined = joined_not (λ i. number_some RepeatedKey (sym (ap (λ (x : Step). step_number x) f) ∙ i)) }
 
       module _ (q : b ≡ false) where
-        next_row : step.row ≡ r + 1
+        next_row : (step_row step) ≡ r + 1
         next_row = let n : length (did_next d e).rows ≡ 1 = rw (the_row s at (book_of W) d e).1 in (did_next d e).next ∙ rw n
 
         joins : Added (named s room T₁) N N' owner r → Joins (named s room T) (named s room T₁) N N' owner r (r + 1)
@@ -147,10 +151,10 @@ prepared_blank a b z = record { ready = a; entries = b; noted = noted_blank z }
 pub done_did : {o : Reading} {s : List ℕ} {room from r : ℕ} {T T' W' N N' : List ℕ} {step : Step} → Done o s room from r T T' W' N N' step → Did o (length s) room from r T T' W' step
 done_did d = d.did
 
-pub string_entries : (s : List ℕ) (at : ℕ) (book : Book) {bytes room r : ℕ} {T T₁ W₁ : List ℕ} {step : Step} → Did (string s room at r book) bytes room (at + 1) r T T₁ W₁ step → step.number ≡ 0 → {words : ℕ} → Entries at r room bytes words → Entries step.at step.row room bytes words
+pub string_entries : (s : List ℕ) (at : ℕ) (book : Book) {bytes room r : ℕ} {T T₁ W₁ : List ℕ} {x : Reached} {step : Step} → Did (string s room at r book) bytes room (at + 1) r T T₁ W₁ step → step ≡ Ok x → {words : ℕ} → Entries at r room bytes words → Entries x.at x.row room bytes words
 string_entries s at book d e n =
-    let g = did_next d e in
-    let l : length g.rows ≡ 1 = rw (the_row s at book d e).1 in
+    let g = new_next d e in
+    let l : length g.rows ≡ 1 = rw (string_one_row s at book d e).1 in
     record { behind = omega (arith, g.next, g.ahead, n.behind); enough = n.enough; most = n.most }
 
 pub ruleset keying = (recalled_not, recalled_is, recalled_there, recalled_string, not_recalled, string_row, key_refused, key_noted, key_entry, key_again, key_owner, key_some, key_none)

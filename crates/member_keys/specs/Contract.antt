@@ -3,7 +3,7 @@ use Rattle.std.specs.Prelude.{◌≡◌, Bool, true, false, List, ℕ, ◌+◌, 
 use Rattle.draft.specs.Strings.{Text}
 use Rattle.draft.specs.Read.{Reading, key}
 use Rattle.codebook.specs.Words.{book_of}
-use Rattle.item.specs.declared.Step.{Step}
+use Rattle.item.specs.Contract.{Step, step_number, step_at, step_row}
 use Rattle.item.specs.Contract.{Ready, Did, read_to}
 use Rattle.keys.specs.Notes.{named, keys_of, Noted, Keeps, Joins}
 
@@ -21,13 +21,13 @@ pub record Prepared (s : List ℕ) (at row room : ℕ) (T W N : List ℕ) : Type
 
 -- the notes after a call that read from row `first` on, if it was accepted
 pub record After (t t' : ℕ → Text) (N N' : List ℕ) (first : ℕ) (step : Step) : Type 0 where
-  pub keeps : step.number ≡ 0 → Keeps t t' N N' first step.row
-  pub behind : step.number ≡ 0 → step.row ≤ step.at
+  pub keeps : step_number step ≡ 0 → Keeps t t' N N' first (step_row step)
+  pub behind : step_number step ≡ 0 → (step_row step) ≤ (step_at step)
 
 -- the same of a call that read an owner's key first
 pub record Joined (t t' : ℕ → Text) (N N' : List ℕ) (owner first : ℕ) (step : Step) : Type 0 where
-  pub joins : step.number ≡ 0 → Joins t t' N N' owner first step.row
-  pub behind : step.number ≡ 0 → step.row ≤ step.at
+  pub joins : step_number step ≡ 0 → Joins t t' N N' owner first (step_row step)
+  pub behind : step_number step ≡ 0 → (step_row step) ≤ (step_at step)
 
 -- what a call did that was to give this reading, and what it did to the notes
 pub record Done (o : Reading) (s : List ℕ) (room from row : ℕ) (T T' W' N N' : List ℕ) (step : Step) : Type 0 where

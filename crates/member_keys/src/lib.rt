@@ -53,17 +53,14 @@ pub fn read_key(
     requires { (0 < owner) × (owner ≤ row) × Prepared s.now at row room table.old book.old notes.old }
     ensures { KeyDone s.now room owner at row table.old table.new book.old book.new notes.old notes.new result }
 {
-    let step = read_name(s, at, row, room, table, book);
-    if step.number != 0 {
-        return step;
-    }
+    let key = read_name(s, at, row, room, table, book)?;
     let h = keys::place(s, table, room, notes, owner, row);
     if keys::crowded(notes, owner, h) {
         if keys::note_in(s, table, room, notes, owner, row, h) {
             return item::refuse(Refusal::RepeatedKey, at);
         }
-        return step;
+        return Ok(key);
     }
     keys::join(notes, owner, row, h);
-    step
+    Ok(key)
 }

@@ -1,6 +1,6 @@
 -- What answers the turns and returns of the functions that merge runs of words. Assumes nothing.
 use mathlib.Core.Path.{◌≡◌, refl, sym, ap, ◌∙◌}
-use mathlib.Core.Bool.{Bool, true, false, cond}
+use mathlib.Core.Bool.{Bool, true, false, cond, not}
 use mathlib.Core.List.{List, [], ◌∷◌, ◌++◌, append_assoc, append-nil}
 use Prim.Native.Nat.{ℕ, zero, suc, ◌+◌, ◌-◌, ◌/◌, ◌≤◌, ◌<◌}
 use native.Mathlib.Omega.{arith}
@@ -10,6 +10,7 @@ use lib.ListN.{length, get_or, set, take, drop, length-set, length-append, lengt
 use lib.Seq.{take_all, take-nil, take-suc, drop-cons, drop-drop, take-add, take-take, set_at, take_at, drop_at, get_or-take, get_or-drop, length-take-le, take-append-add, take-suc-set, drop-set-lt, take-set-lt}
 use lib.Dec.{ltb}
 use borrow.Author.Tests.{lt-ltb, le-ltb, ltb-true, ltb-false}
+use Rattle.std.specs.List.{copy_within}
 use Rattle.text.proofs.Comparing.{clash}
 use Rattle.sorting.specs.Sorting.{before, sorted, Rising}
 use Rattle.sorting.proofs.Inserting.{sorted_length, sorted_rising}
@@ -18,65 +19,26 @@ use Rattle.merging.proofs.Merging.{merged_none, merged_first, merged_second, mer
 
 -- ---- the first words copied
 
-pub record Copying (o : List ℕ) (n z i : ℕ) (w : List ℕ) : Type 0 where
-  pub is : w ≡ copied i z o
-  pub within : i ≤ n
-  pub long : length w ≡ length o
-
-copied_none : (z : ℕ) (o : List ℕ) → o ≡ copied 0 z o
+within_copied : (n z : ℕ) (o : List ℕ) → copy_within o 0 n z ≡ copied n z o
 unfolding copied
-copied_none z o = sym (rw (add-zero) (take-append-drop z o))
-
-module _ (n z : ℕ) (o : List ℕ) (h : n ≤ z) (l : z + n ≤ length o) where
-  pub copy_first : Copying o n z 0 o
-  copy_first = record { is = copied_none z o; within = omega arith; long = refl }
-
-  module _ {i : ℕ} {w : List ℕ} (c : Copying o n z i w) where
-    pub copy_again : i < n → Copying o n z (i + 1) (set w (z + i) (get_or w i 0))
-    unfolding copied
-    copy_again k =
-        let a : length (take z o) ≡ z = length-take-le z o (omega arith) in
-        let b : length (take i o) ≡ i = length-take-le i o (omega arith) in
-        let p : List ℕ = take z o ++ take i o in
-        let q : w ≡ (take z o ++ take i o) ++ (get_or o (z + i) 0 ∷ drop (suc (z + i)) o) = c.is ∙ sym (append_assoc (take z o) (take i o) (drop (z + i) o)) ∙ ap (λ (v : List ℕ). (take z o ++ take i o) ++ v) (drop-cons o (z + i) 0 (omega arith)) in
-        let e : length (take z o ++ take i o) ≡ z + i = length-append (take z o) (take i o) ∙ rw (a, b) in
-        let f : get_or w i 0 ≡ get_or o i 0 = sym (get_or-take z w i 0 (omega arith)) ∙ ap (λ (v : List ℕ). get_or v i 0) (ap (take z) c.is ∙ take_at (take z o) (take i o ++ drop (z + i) o) z a) ∙ get_or-take z o i 0 (omega arith) in
-        let g : take (i + 1) o ≡ take i o ++ (get_or o i 0 ∷ []) = rw add-one (take-suc o i 0 (omega arith)) in
-        let d : z + (i + 1) ≡ suc (z + i) = omega arith in
-        record {
-          is = ap (λ (v : List ℕ). set v (z + i) (get_or w i 0)) q ∙ rw f (set_at (take z o ++ take i o) (get_or o (z + i) 0) (drop (suc (z + i)) o) (get_or o i 0) (z + i) e ∙ append_assoc (take z o) (take i o) (get_or o i 0 ∷ drop (suc (z + i)) o) ∙ sym (rw (g, d, append_assoc)));
-          within = omega arith;
-          long = length-set w (z + i) (get_or w i 0) ∙ c.long;
-        }
-
-    pub copy_in : i < n → z + i < length w
-    copy_in k = omega (arith, c.long)
-
-    pub copy_from : i < n → i < length w
-    copy_from k = omega (arith, c.long)
-
-    pub copy_done : n ≤ i → w ≡ copied n z o
-    copy_done k = let e : i ≡ n = omega (arith, c.within) in rw e at c.is
-
-pub ruleset copying = (copy_first, copy_again, copy_in, copy_from, copy_done)
+within_copied n z o = let e : n - 0 ≡ n = omega arith in append_assoc (take z o) (take (n - 0) o) (drop (z + (n - 0)) o) ∙ ap (λ (m : ℕ). take z o ++ (take m o ++ drop (z + m) o)) e
 
 -- ---- which of two comes first
 
+negated : (b : Bool) → not b ≡ cond b false true
+negated true = refl
+negated false = refl
+
 module _ (text : ℕ → List ℕ) (x : ℕ) (w : List ℕ) (j n : ℕ) where
-  pub waits_past : n ≤ j → false ≡ second_first text x w j n
+  pub waits_past : n ≤ j → ltb j n ≡ second_first text x w j n
   unfolding second_first
   waits_past h = rw (le-ltb j n h)
 
-  module _ (h : j < n) {b : Bool} (e : b ≡ before text x (get_or w j 0)) where
-    pub waits_not : b ≡ true → false ≡ second_first text x w j n
-    unfolding second_first
-    waits_not f = rw (lt-ltb j n h, ← e, f)
+  pub waits_there : j < n → {b : Bool} → b ≡ before text x (get_or w j 0) → not b ≡ second_first text x w j n
+  unfolding second_first
+  waits_there h {b} e = rw (lt-ltb j n h, ← e) (negated b)
 
-    pub waits_so : b ≡ false → true ≡ second_first text x w j n
-    unfolding second_first
-    waits_so f = rw (lt-ltb j n h, ← e, f)
-
-pub ruleset waiting = (waits_past, waits_not, waits_so)
+pub ruleset waiting = (waits_past, waits_there)
 
 -- ---- two runs merged
 
@@ -230,7 +192,10 @@ module _ (text : ℕ → List ℕ) (half n z : ℕ) (o : List ℕ) where
 pub ruleset merging = (merge_first, merge_runs, merge_left, merge_right, merge_done)
 
 -- the first run copied before
-module _ (text : ℕ → List ℕ) (half n z : ℕ) (o : List ℕ) {w : List ℕ} (c : w ≡ copied half z o) (r : Runs half n z 0 half (length o)) where
+module _ (text : ℕ → List ℕ) (half n z : ℕ) (o : List ℕ) {w : List ℕ} (moved : w ≡ copy_within o 0 half z) (r : Runs half n z 0 half (length o)) where
+  c : w ≡ copied half z o
+  c = moved ∙ within_copied half z o
+
   pub copied_long : length w ≡ length o
   unfolding copied
   copied_long =

@@ -1,23 +1,11 @@
 // Many rows put in byte order of their texts: those of each half, and then both merged. `sort_front` sorts the first words of a lent slice, and
 // uses half as many behind them. n rows take n log n comparisons; where the second half belongs behind the first, one is enough.
-#![tactic(auto)]
+#![tactic(auto, using(crate::proofs::Words::waiting, crate::proofs::Words::taking, crate::proofs::Words::merging, crate::proofs::Words::joining, crate::proofs::Words::halving, crate::proofs::Words::front_sorted))]
 
 ghost use Rattle.std.specs.Prelude.{◌≡◌, ◌+◌, ◌*◌, ◌/◌, ◌≤◌, ◌<◌, length, take, drop};
 ghost use Rattle.draft.specs.Table.{row_at};
 ghost use Rattle.sorting.specs.Sorting.{key_text, sorted};
-ghost use Rattle.merging.specs.Merging.{copied, second_first, Runs, Taken, Merged, Joined, Sorted};
-
-// The first n words copied to place z.
-fn copy_up(words: &mut [u32], n: usize, z: usize)
-    requires { (n ≤ z) × (z + n ≤ length words.old) }
-    ensures { words.new ≡ copied n z words.old }
-{
-    let mut i = 0;
-    while i < n {
-        words[z + i] = words[i];
-        i += 1;
-    }
-}
+ghost use Rattle.merging.specs.Merging.{second_first, Runs, Taken, Merged, Joined, Sorted};
 
 // Whether row x is to wait for the row at place j, if that is before place n.
 fn waits(
@@ -32,13 +20,7 @@ fn waits(
     requires { (room ≤ 4096) × (room * 4 ≤ length table.now) × (n ≤ length words.now) }
     ensures { result ≡ second_first (key_text room (row_at room table.now) text.now) x words.now j n }
 {
-    if n <= j {
-        return false;
-    }
-    if sorting::precedes_at(table, room, text, x, words, j) {
-        return false;
-    }
-    true
+    j < n && !sorting::precedes_at(table, room, text, x, words, j)
 }
 
 // The next row of two runs put behind those that are merged: the first run's from place z + i, unless it waits for that of the second run at
@@ -59,7 +41,7 @@ fn take_next(
 {
     let x = words[z + i];
     let place = i + (j - half);
-    if waits(table, room, text, sorting::wide(x), words, j, n) {
+    if waits(table, room, text, x as usize, words, j, n) {
         words[place] = words[j];
         return true;
     }
@@ -80,6 +62,7 @@ fn merge_runs(
     requires { (room ≤ 4096) × (room * 4 ≤ length table.now) × Runs half n z 0 half (length words.old) }
     ensures { Merged (key_text room (row_at room table.now) text.now) (take half (drop z words.old)) half n z words.old words.new }
 {
+    // Stays: at each turn either of two places goes on, and a `for` would count one of them
     let mut i = 0;
     let mut j = half;
     while i < half {
@@ -96,11 +79,11 @@ fn join(table: &[u32], room: usize, text: &[u8], words: &mut [u32], half: usize,
     requires { (room ≤ 4096) × (room * 4 ≤ length table.now) × Runs half n z 0 half (length words.old) × (0 < half) × (half < n) }
     ensures { Joined (key_text room (row_at room table.now) text.now) half n z words.old words.new }
 {
-    let last = sorting::wide(words[half - 1]);
+    let last = words[half - 1] as usize;
     if sorting::precedes_at(table, room, text, last, words, half) {
         return;
     }
-    copy_up(words, half, z);
+    words.copy_within(..half, z);
     merge_runs(table, room, text, words, half, n, z);
 }
 
@@ -110,7 +93,7 @@ fn sort(table: &[u32], room: usize, text: &[u8], words: &mut [u32], n: usize, z:
     ensures { Sorted (key_text room (row_at room table.now) text.now) n z words.old words.new }
 {
     if n <= 8 {
-        sorting::sort_few(table, room, text, &mut words[0..n]);
+        sorting::sort_few(table, room, text, &mut words[..n]);
         return;
     }
     let half = n / 2;

@@ -1,27 +1,25 @@
 -- What answers the returns of the function that fills an output with a message. Assumes nothing.
-use Prim.Native.Nat.{ℕ, ◌-◌, ◌≤◌, ◌<◌}
+use Prim.Native.Nat.{ℕ, ◌-◌, ◌≤◌, ◌<◌, min}
 use mathlib.Core.Path.{◌≡◌, refl, sym, ◌∙◌}
 use mathlib.Core.Bool.{Bool, true, false, cond}
 use mathlib.Core.List.{List, [], ◌++◌, append-nil}
 use native.Mathlib.Omega.{arith}
 use lib.ListN.{length, take, drop, replicate, length-take, length-drop, drop_of_length-le}
 use lib.Dec.{leb}
-use borrow.Author.Tests.{leb-true, lt-leb, le-leb}
+use borrow.Author.Tests.{leb-true, leb-false, lt-leb, le-leb}
 use Rattle.output.proofs.Putting.{front_take}
 use Rattle.message.specs.Contract.{Fitted}
 use Rattle.message.specs.Filled.{needed_for, needed, filled, Most, Filled}
 
-pub most_all : {n : ℕ} → n < 65536 → Most n n
-most_all h = record { within = omega arith; few = omega arith; all = λ k. refl }
+pub most_min : (n : ℕ) {m : ℕ} → m ≡ min n 65536 → Most n m
+most_min n e = record { within = omega arith; few = omega arith; all = λ k. omega arith }
 
-pub most_few : {n : ℕ} → 65536 ≤ n → Most n 65536
-most_few h = record { within = h; few = omega arith; all = λ k. absurd (omega arith) }
-
-pub told_more : {n : ℕ} → 65536 < n → 65537 ≡ needed_for n
-told_more {n} h = rw (lt-leb n 65536 h)
-
-pub told_same : {n : ℕ} → n ≤ 65536 → n ≡ needed_for n
-told_same {n} h = rw (le-leb n 65536 h)
+pub told_min : (n : ℕ) {m : ℕ} → m ≡ min n 65537 → m ≡ needed_for n
+told_min n {m} e = go (leb n 65536) refl
+  where
+    go : (b : Bool) → leb n 65536 ≡ b → m ≡ cond b n 65537
+    go true d = omega (arith, leb-true n 65536 d)
+    go false d = omega (arith, leb-false n 65536 d)
 
 -- the written form, by whether it was put
 module _ (form : List ℕ) {o : List ℕ} {m : ℕ} (k : Most (length o) m) where
@@ -47,7 +45,7 @@ module _ (form : List ℕ) {o : List ℕ} {m : ℕ} (k : Most (length o) m) wher
       let b : leb (length form) (length o) ≡ true = le-leb (length form) (length o) (omega (arith, p.long, k.within)) in
       record { tells = p.long ∙ rw a; leaves = rw (a, b, front_take p.front n (sym p.long) (omega (arith, k.within)), d, append-nil, y, z) }
 
-pub ruleset filling = (most_all, most_few, told_more, told_same, not_put, sent)
+pub ruleset filling = (most_min, told_min, not_put, sent)
 
 -- a form that is known to be too long
 pub too_long : (form : List ℕ) {o o' : List ℕ} → 65536 < length form → o' ≡ replicate (length o) 0 → Filled form o o' 65537

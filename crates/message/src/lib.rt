@@ -7,7 +7,7 @@ ghost use Rattle.draft.specs.Table.{row_at, from};
 ghost use Rattle.draft.specs.Written.{written};
 ghost use Rattle.extents.specs.Asked.{Ready};
 ghost use Rattle.message.specs.Contract.{planned, Known, row_bytes, next_string, Asked, Long, Fitted};
-ghost use Rattle.message.specs.Filled.{needed_for, Most, Filled};
+ghost use Rattle.message.specs.Filled.{Most, Filled};
 
 use draft::Row;
 
@@ -60,18 +60,17 @@ fn measure(
 {
     let mut sum: usize = 12;
     let mut j = 0;
-    let mut r = 0;
-    while r < rows {
+    for r in 0..rows {
         let row = table::get_row(table, room, r);
         sum += row_length(table, room, text, strings, firsts, spots, j, row);
         j = next_string(j, row);
-        r += 1;
     }
     sum
 }
 
 // The items, each behind what is there, from the first 12 bytes on, if all has at most so many bytes: strings one by one, and the rows between
 // them in runs. Stops at an item that goes over, and tells where it would end.
+// Stays: a `while`: a run ends where `encoding::put_run` says, so the number of the next row is no count that `for` has.
 fn put_items(
     table: &[u32],
     room: usize,
@@ -146,20 +145,6 @@ fn put_message(
     )
 }
 
-// How many bytes a message may have in an output of so many.
-fn most_of(n: usize) -> usize
-    ensures { Most n result }
-{
-    if n < MOST_BYTES { n } else { MOST_BYTES }
-}
-
-// What is told of a form of n bytes.
-fn told(n: usize) -> usize
-    ensures { result ≡ needed_for n }
-{
-    if MOST_BYTES < n { TOO_LONG } else { n }
-}
-
 // The written form of rows whose strings are known, where it is short enough and there is room for it, and zeros behind it; else zeros.
 // It is measured only where it was not put.
 pub fn fill_known(
@@ -175,7 +160,7 @@ pub fn fill_known(
     requires { Ready rows room (length table.now) × Known (row_at room table.now) rows text.now strings.now firsts.now spots.now }
     ensures { Filled (written text.now (from (row_at room table.now) 0 rows)) output.old output.new result }
 {
-    let most = most_of(output.len());
+    let most = output.len().min(MOST_BYTES);
     let n = put_message(
         table, room, rows, text, strings, firsts, spots, most, output,
     );
@@ -184,5 +169,5 @@ pub fn fill_known(
         return n;
     }
     copying::clear(output);
-    told(measure(table, room, rows, text, strings, firsts, spots))
+    measure(table, room, rows, text, strings, firsts, spots).min(TOO_LONG)
 }

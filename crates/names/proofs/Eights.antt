@@ -1,7 +1,9 @@
 -- What answers the returns and turns of the function that compares eight bytes at a time. Assumes nothing.
 use mathlib.Core.Path.{◌≡◌, refl, sym, ap, ◌∙◌}
-use mathlib.Core.Bool.{Bool, true, false}
-use mathlib.Core.List.{List}
+use Rattle.std.proofs.Common.{nat_eq}
+use lib.Pointwise.{pointwise}
+use mathlib.Core.Bool.{Bool, true, false, ◌&&◌}
+use mathlib.Core.List.{List, [], ◌∷◌}
 use Prim.Native.Nat.{ℕ, zero, suc, ◌+◌, ◌*◌, ◌-◌, ◌≤◌, ◌<◌}
 use native.Mathlib.Omega.{arith}
 use native.Mathlib.Numerals.{add-one}
@@ -69,3 +71,11 @@ pub eight_no : (u t : List ℕ) (k : ℕ) {x y : ℕ} → x ≡ number (take 8 (
 eight_no u t k f g n = sym (same_ne u t (λ q. n (f ∙ ap (λ s. number (take 8 (drop k s))) q ∙ sym g)))
 
 pub ruleset eights = (eight_again, eight_last, eight_no)
+
+-- std's equality of texts
+pub bytes_same : (u t : List ℕ) → pointwise nat_eq u t ≡ same u t
+unfolding same
+bytes_same [] [] = refl
+bytes_same [] (y ∷ t) = refl
+bytes_same (x ∷ u) [] = refl
+bytes_same (x ∷ u) (y ∷ t) = ap (λ b. nat_eq x y && b) (bytes_same u t)

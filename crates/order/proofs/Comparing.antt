@@ -2,7 +2,7 @@
 use mathlib.Core.Path.{◌≡◌, refl, sym, ap, ◌∙◌}
 use mathlib.Core.Bool.{Bool, true, false, cond}
 use mathlib.Core.List.{List, [], ◌∷◌}
-use Prim.Native.Nat.{ℕ, zero, suc, ◌+◌, ◌*◌, ◌-◌, ◌≤◌, ◌<◌}
+use Prim.Native.Nat.{ℕ, zero, suc, ◌+◌, ◌*◌, ◌≤◌, ◌<◌}
 use native.Mathlib.Omega.{arith}
 use native.Mathlib.Numerals.{add-one}
 use lib.ListN.{length, get_or, take, drop, length-drop, drop_of_length-le}
@@ -10,7 +10,10 @@ use lib.Seq.{drop-cons, take-suc, take-take, get_or-drop, take-add}
 use lib.Dec.{ltb}
 use borrow.Author.Tests.{lt-ltb, le-ltb, ltb-true, ltb-false}
 use Rattle.text.proofs.Walking.{Bytes, byte}
-use Rattle.order.specs.declared.Relation.TheVariants.{Before, Equal, After}
+use Rattle.std.proofs.Common.{Ordering, Less, Equal, Greater, nat_cmp}
+use Rattle.std.specs.Ordering.{MatchOrdering}
+use Rattle.std.specs.Cmp.{ranks}
+use Rattle.std.specs.Int.{w64, from_be_bytes}
 use Rattle.order.specs.ByteOrder.{compared}
 use Rattle.order.specs.Alike.{Least, Alike, Ranked, rank_from, rank}
 use Rattle.order.proofs.Ordering.{turned, compared_turned}
@@ -41,8 +44,8 @@ rank_is s at {a} {b} {c} {d} {e} {f} {g} {h} l ea eb ec ed ee ef eg eh =
     ∙ omega arith
     )
 
-pub rank_of : (s : List ℕ) (at : ℕ) {a b c d e f g h : ℕ} → at + 8 ≤ length s → a ≡ get_or s at 0 → b ≡ get_or s (at + 1) 0 → c ≡ get_or s (at + 2) 0 → d ≡ get_or s (at + 3) 0 → e ≡ get_or s (at + 4) 0 → f ≡ get_or s (at + 5) 0 → g ≡ get_or s (at + 6) 0 → h ≡ get_or s (at + 7) 0 → Bytes s → Ranked s at (h + g * 0x100 + f * 0x10000 + e * 0x1000000 + d * 0x100000000 + c * 0x10000000000 + b * 0x1000000000000 + a * 0x100000000000000)
-rank_of s at l ea eb ec ed ee ef eg eh bytes = record { is = rank_is s at l ea eb ec ed ee ef eg eh; bytes = byte s bytes }
+pub rank_of : (s : List ℕ) (at : ℕ) {a b c d e f g h : ℕ} → at + 8 ≤ length s → a ≡ get_or s at 0 → b ≡ get_or s (at + 1) 0 → c ≡ get_or s (at + 2) 0 → d ≡ get_or s (at + 3) 0 → e ≡ get_or s (at + 4) 0 → f ≡ get_or s (at + 5) 0 → g ≡ get_or s (at + 6) 0 → h ≡ get_or s (at + 7) 0 → {x : ℕ} → x ≡ from_be_bytes w64 (a ∷ b ∷ c ∷ d ∷ e ∷ f ∷ g ∷ h ∷ []) → Bytes s → Ranked s at x
+rank_of s at l ea eb ec ed ee ef eg eh i bytes = record { is = i ∙ omega arith ∙ rank_is s at l ea eb ec ed ee ef eg eh; bytes = byte s bytes }
 
 -- what a slice of bytes holds
 abbrev Octets : List ℕ → Type 0
@@ -57,14 +60,14 @@ lower (suc m) p q (x ∷ a) [] f g h k l = absurd (omega arith)
 lower (suc m) p q (x ∷ a) (y ∷ b) f g h k l = lower m (p * 256 + x) (q * 256 + y) a b (λ i. f (suc i)) (λ i. g (suc i)) (omega arith) (omega arith) (omega (arith, f 0))
 
 -- of as many bytes, those with the lesser number come first
-rank_before : (m n : ℕ) (a b : List ℕ) → Octets a → Octets b → m ≤ length a → m ≤ length b → rank_from n (take m a) < rank_from n (take m b) → compared a b ≡ Before
+rank_before : (m n : ℕ) (a b : List ℕ) → Octets a → Octets b → m ≤ length a → m ≤ length b → rank_from n (take m a) < rank_from n (take m b) → compared a b ≡ Less
 unfolding compared rank_from
 rank_before zero n a b f g h k l = absurd (omega arith)
 rank_before (suc m) n [] b f g h k l = absurd (omega arith)
 rank_before (suc m) n (x ∷ a) [] f g h k l = absurd (omega arith)
 rank_before (suc m) n (x ∷ a) (y ∷ b) f g h k l = go (rank_before m (n * 256 + x) a b (λ i. f (suc i)) (λ i. g (suc i)) (omega arith) (omega arith)) (ltb x y) refl (ltb y x) refl
   where
-    go : (rank_from (n * 256 + x) (take m a) < rank_from (n * 256 + x) (take m b) → compared a b ≡ Before) → (c : Bool) → ltb x y ≡ c → (d : Bool) → ltb y x ≡ d → cond c Before (cond d After (compared a b)) ≡ Before
+    go : (rank_from (n * 256 + x) (take m a) < rank_from (n * 256 + x) (take m b) → compared a b ≡ Less) → (c : Bool) → ltb x y ≡ c → (d : Bool) → ltb y x ≡ d → cond c Less (cond d Greater (compared a b)) ≡ Less
     go ih true t d u = refl
     go ih false t true u =
         let z = lower m (n * 256 + y) (n * 256 + x) b a (λ i. g (suc i)) (λ i. f (suc i)) (omega arith) (omega arith) (omega (arith, ltb-true y x u)) in
@@ -106,6 +109,15 @@ dropped k s f i = rw get_or-drop (f (k + i))
 
 -- ---- turns and returns
 
+-- what `cmp` answers at numbers
+ordered : (x y : ℕ) {r : Ordering} → (x < y → Less ≡ r) → (x ≡ y → Equal ≡ r) → (y < x → Greater ≡ r) → nat_cmp x y ≡ r
+ordered x y {r} less equal greater = go (nat_cmp x y) (ranks x y)
+  where
+    go : (o : Ordering) → MatchOrdering o (x < y) (x ≡ y) (y < x) → o ≡ r
+    go Less h = less h
+    go Equal h = equal h
+    go Greater h = greater h
+
 -- those before a place that was passed are the same too
 shorter : {a b : List ℕ} {k : ℕ} (at : ℕ) → at ≤ k → Alike a b k → Alike a b at
 shorter {a} {b} {k} at h c =
@@ -116,22 +128,23 @@ decides {a} {b} {k} c = rest k a b c.first c.second c.same
 
 -- one begins the other
 module _ {a b : List ℕ} {least : ℕ} (l : Least a b least) (c : Alike a b least) where
-  pub length_before : length a < length b → Before ≡ compared a b
+  length_before : length a < length b → Less ≡ compared a b
   unfolding compared
   length_before h = let e : length a ≤ least = omega (arith, l.is) in rw (drop_of_length-le a e, drop-cons b least 0 (omega (arith, l.is))) at (decides c)
 
-  pub length_after : length b < length a → After ≡ compared a b
+  length_after : length b < length a → Greater ≡ compared a b
   unfolding compared
   length_after h = let e : length b ≤ least = omega (arith, l.is) in rw (drop-cons a least 0 (omega (arith, l.is)), drop_of_length-le b e) at (decides c)
 
-  pub length_equal : length b ≤ length a → length a ≤ length b → Equal ≡ compared a b
+  length_equal : length a ≡ length b → Equal ≡ compared a b
   unfolding compared
-  length_equal h i =
+  length_equal h =
       let e : length a ≤ least = omega (arith, l.is) in
       let f : length b ≤ least = omega (arith, l.is) in
       rw (drop_of_length-le a e, drop_of_length-le b f) at (decides c)
 
-pub ruleset by_length = (length_before, length_after, length_equal)
+  pub by_length : nat_cmp (length a) (length b) ≡ compared a b
+  by_length = ordered (length a) (length b) length_before length_equal length_after
 
 -- k bytes were passed, one by one
 pub record Bytewise (a b : List ℕ) (least k : ℕ) : Type 0 where
@@ -139,13 +152,7 @@ pub record Bytewise (a b : List ℕ) (least k : ℕ) : Type 0 where
   pub alike : Alike a b k
   pub within : k ≤ least
 
-pub bytes_first : {a b : List ℕ} {least : ℕ} → Least a b least → Bytewise a b least 0
-bytes_first l = record { least_is = l; alike = record { first = omega arith; second = omega arith; same = refl }; within = omega arith }
-
 module _ {a b : List ℕ} {least k : ℕ} (c : Bytewise a b least k) where
-  pub bytes_least : Least a b least
-  bytes_least = c.least_is
-
   pub bytes_all : least ≤ k → Alike a b least
   bytes_all h = let e : k ≡ least = omega (arith, c.within) in rw e at c.alike
 
@@ -159,17 +166,19 @@ module _ {a b : List ℕ} {least k : ℕ} (c : Bytewise a b least k) where
     here : compared (get_or a k 0 ∷ drop (suc k) a) (get_or b k 0 ∷ drop (suc k) b) ≡ compared a b
     here = rw (← drop-cons a k 0 byte_first, ← drop-cons b k 0 byte_second) (decides c.alike)
 
-    pub byte_before : get_or a k 0 < get_or b k 0 → Before ≡ compared a b
+    byte_before : get_or a k 0 < get_or b k 0 → Less ≡ compared a b
     unfolding compared
     byte_before t = simp (lt-ltb _ _ t) at here
 
-    pub byte_after : get_or b k 0 < get_or a k 0 → After ≡ compared a b
+    byte_after : get_or b k 0 < get_or a k 0 → Greater ≡ compared a b
     unfolding compared
     byte_after t = let m : get_or b k 0 ≤ get_or a k 0 = omega arith in simp (le-ltb _ _ m, lt-ltb _ _ t) at here
 
-    pub byte_again : get_or b k 0 ≤ get_or a k 0 → get_or a k 0 ≤ get_or b k 0 → Bytewise a b least (k + 1)
-    byte_again t u =
-        let e : get_or a k 0 ≡ get_or b k 0 = omega arith in
+    pub byte_differs : (get_or a k 0 ≡ get_or b k 0 → ⊥) → nat_cmp (get_or a k 0) (get_or b k 0) ≡ compared a b
+    byte_differs n = ordered (get_or a k 0) (get_or b k 0) byte_before (λ e. absurd (n e)) byte_after
+
+    pub byte_again : get_or a k 0 ≡ get_or b k 0 → Bytewise a b least (k + 1)
+    byte_again e =
         let same : take (suc k) a ≡ take (suc k) b = rw (take-suc a k 0 byte_first, take-suc b k 0 byte_second, c.alike.same, e) in
         record {
           least_is = c.least_is;
@@ -177,21 +186,13 @@ module _ {a b : List ℕ} {least k : ℕ} (c : Bytewise a b least k) where
           within = omega arith;
         }
 
-pub ruleset bytewise = (bytes_first, bytes_least, bytes_all, byte_first, byte_second, byte_before, byte_after, byte_again)
-
 -- k bytes were passed, eight by eight, and the last eight begin at `last`
 pub record ByEights (a b : List ℕ) (least last k : ℕ) : Type 0 where
   pub least_is : Least a b least
   pub alike : Alike a b k
   pub ends : last + 8 ≡ least
 
-pub eights_first : {a b : List ℕ} {least : ℕ} → Least a b least → 8 ≤ least → ByEights a b least (least - 8) 0
-eights_first l h = record { least_is = l; alike = record { first = omega arith; second = omega arith; same = refl }; ends = omega arith }
-
 module _ {a b : List ℕ} {least last k : ℕ} (c : ByEights a b least last k) where
-  pub eights_least : Least a b least
-  eights_least = c.least_is
-
   -- the eight bytes at a place that was reached
   pub eight_first : (at : ℕ) → at ≤ last → at + 8 ≤ length a
   eight_first at m = omega (arith, c.least_is.is, c.ends)
@@ -206,17 +207,19 @@ module _ {a b : List ℕ} {least last k : ℕ} (c : ByEights a b least last k) w
     left_second : 8 ≤ length (drop at b)
     left_second = rw length-drop (omega (arith, eight_second at m))
 
-    eight_before : x < y → Before ≡ compared a b
+    eight_before : x < y → Less ≡ compared a b
     eight_before t = sym (rank_before 8 0 (drop at a) (drop at b) (dropped at a p.bytes) (dropped at b q.bytes) left_first left_second (rw (← p.is, ← q.is) t)) ∙ decides (shorter at h c.alike)
 
-    eight_after : y < x → After ≡ compared a b
+    eight_after : y < x → Greater ≡ compared a b
     eight_after t =
         sym (compared_turned (drop at b) (drop at a) ∙ ap turned (rank_before 8 0 (drop at b) (drop at a) (dropped at b q.bytes) (dropped at a p.bytes) left_second left_first (rw (← p.is, ← q.is) t)))
         ∙ decides (shorter at h c.alike)
 
-    eight_same : y ≤ x → x ≤ y → Alike a b (at + 8)
-    eight_same t u =
-        let e : x ≡ y = omega arith in
+    eight_differs : (x ≡ y → ⊥) → nat_cmp x y ≡ compared a b
+    eight_differs n = ordered x y eight_before (λ e. absurd (n e)) eight_after
+
+    eight_same : x ≡ y → Alike a b (at + 8)
+    eight_same e =
         let r : take 8 (drop at a) ≡ take 8 (drop at b) = rank_same 8 0 (drop at a) (drop at b) (dropped at a p.bytes) (dropped at b q.bytes) left_first left_second (sym p.is ∙ e ∙ q.is) in
         record {
           first = eight_first at m;
@@ -226,24 +229,16 @@ module _ {a b : List ℕ} {least last k : ℕ} (c : ByEights a b least last k) w
 
   -- those of the turn
   module _ {x y : ℕ} (h : k < last) (p : Ranked a k x) (q : Ranked b k y) where
-    pub turn_before : x < y → Before ≡ compared a b
-    turn_before t = eight_before p q (omega arith) (omega arith) t
+    pub turn_differs : (x ≡ y → ⊥) → nat_cmp x y ≡ compared a b
+    turn_differs n = eight_differs p q (omega arith) (omega arith) n
 
-    pub turn_after : y < x → After ≡ compared a b
-    turn_after t = eight_after p q (omega arith) (omega arith) t
-
-    pub turn_again : y ≤ x → x ≤ y → ByEights a b least last (k + 8)
-    turn_again t u = record { least_is = c.least_is; alike = eight_same p q (omega arith) (omega arith) t u; ends = c.ends }
+    pub turn_again : x ≡ y → ByEights a b least last (k + 8)
+    turn_again e = record { least_is = c.least_is; alike = eight_same p q (omega arith) (omega arith) e; ends = c.ends }
 
   -- the last
   module _ {x y : ℕ} (h : last ≤ k) (p : Ranked a last x) (q : Ranked b last y) where
-    pub last_before : x < y → Before ≡ compared a b
-    last_before t = eight_before p q h (omega arith) t
+    pub last_differs : (x ≡ y → ⊥) → nat_cmp x y ≡ compared a b
+    last_differs n = eight_differs p q h (omega arith) n
 
-    pub last_after : y < x → After ≡ compared a b
-    last_after t = eight_after p q h (omega arith) t
-
-    pub last_same : y ≤ x → x ≤ y → Alike a b least
-    last_same t u = rw c.ends at (eight_same p q h (omega arith) t u)
-
-pub ruleset by_eights = (eights_first, eights_least, eight_first, eight_second, turn_before, turn_after, turn_again, last_before, last_after, last_same)
+    pub last_same : x ≡ y → Alike a b least
+    last_same e = rw c.ends at (eight_same p q h (omega arith) e)

@@ -69,12 +69,9 @@ fn read_name(
     requires { Ready at row room (length s.now) (length table.old) (length book.old) }
     ensures { Did (name s.now room o at row (book_of book.old)) (length s.now) room (at + 1) row table.old table.new book.new result }
 {
-    let step = read_type(s, at, row, room, table, book);
-    if step.number != 0 {
-        return step;
-    }
+    let reached = read_type(s, at, row, room, table, book)?;
     let verdict = content::judge_name(row_text(s, table, room, row));
-    item::judged(verdict, o, step)
+    item::judged(verdict, o, Ok(reached))
 }
 
 // The name of the Other at o, and its Binary.
@@ -90,11 +87,8 @@ fn read_name_and_binary(
     requires { Ready at row room (length s.now) (length table.old) (length book.old) }
     ensures { Did (pair (name s.now room o) (only s.now room 66 (long_item s.now room Content.Binary)) at row (book_of book.old)) (length s.now) room (at + 1) row table.old table.new book.new result }
 {
-    let step = read_name(s, at, row, o, room, table, book);
-    if step.number != 0 {
-        return step;
-    }
-    read_binary(s, step.at, step.row, room, table)
+    let name = read_name(s, at, row, o, room, table, book)?;
+    read_binary(s, name.at, name.row, room, table)
 }
 
 pub fn read_other(

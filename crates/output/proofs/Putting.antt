@@ -4,19 +4,21 @@ use mathlib.Core.Path.{◌≡◌, refl, ap, ◌∙◌}
 use mathlib.Core.List.{List, [], ◌∷◌, ◌++◌, append_assoc, append-nil}
 use native.Mathlib.Omega.{arith}
 use lib.ListN.{length, set, take, drop, length-append, length-drop, drop_of_length-le}
+use Rattle.std.specs.Int.{w64, to_le_bytes}
 use lib.Seq.{take_all, drop-drop, take_at, drop_at}
 use Rattle.draft.specs.Written.{lsb, counted}
 use Rattle.copying.specs.Contract.{Front}
 use Rattle.output.specs.Contract.{Put, Tried}
 
--- stores at the front
-pub front_four : (n : ℕ) (out : List ℕ) → 4 ≤ length out → Front (lsb n) out (set (set (set (set out 0 (n % 256)) 1 (n / 256 % 256)) 2 (n / 65536 % 256)) 3 (n / 16777216 % 256))
+-- a number's lowest four bytes
+low_four : (n : ℕ) → take 4 (to_le_bytes w64 n) ≡ lsb n
 unfolding lsb
-front_four n [] h = absurd (omega arith)
-front_four n (a ∷ []) h = absurd (omega arith)
-front_four n (a ∷ b ∷ []) h = absurd (omega arith)
-front_four n (a ∷ b ∷ c ∷ []) h = absurd (omega arith)
-front_four n (a ∷ b ∷ c ∷ d ∷ out) h = record { is = refl }
+low_four n = refl
+
+-- stores at the front
+pub front_four : (n : ℕ) (out : List ℕ) {bytes four : List ℕ} → bytes ≡ to_le_bytes w64 n → four ≡ take 4 bytes → Front (lsb n) out (four ++ drop 4 out)
+unfolding lsb
+front_four n out e f = record { is = ap (λ (l : List ℕ). l ++ drop 4 out) (f ∙ ap (take 4) e ∙ low_four n) }
 
 front_one : (b : ℕ) (out : List ℕ) → 1 ≤ length out → Front (b ∷ []) out (set out 0 b)
 front_one b [] h = absurd (omega arith)

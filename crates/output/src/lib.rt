@@ -12,10 +12,7 @@ fn put_four(out: &mut [u8], n: usize)
     requires { 4 ≤ length out.old }
     ensures { Front (lsb n) out.old out.new }
 {
-    out[0] = (n % 256) as u8;
-    out[1] = (n / 256 % 256) as u8;
-    out[2] = (n / 65536 % 256) as u8;
-    out[3] = (n / 16777216 % 256) as u8;
+    out[..4].copy_from_slice(&n.to_le_bytes()[..4]);
 }
 
 // Bytes with their number before them.
@@ -93,6 +90,7 @@ fn put_recorded(out: &mut [u8], p: u8, t: &[u8]) -> usize
     6 + t.len()
 }
 
+// Stays: one function over a closure that puts the bytes would ask each caller for the closure's contract over the output, and is no plainer.
 // A byte, tried.
 pub fn try_one(out: &mut [u8], most: usize, b: u8) -> usize
     requires { most ≤ length out.old }

@@ -7,13 +7,6 @@ ghost use Rattle.std.specs.Prelude.{◌≡◌, ◌+◌, ◌*◌, ◌%◌, ◌≤
 ghost use Rattle.text.specs.Utf8.{well_formed};
 ghost use Rattle.passages.specs.Notes.{noted as notedBy, Notes, Passed, Judged};
 
-// A word as a number: the caller has no fit of the element to show.
-fn word(x: u16) -> usize
-    ensures { result ≡ x }
-{
-    x as usize
-}
-
 // Whether the bytes are well-formed.
 fn is_utf8(s: &[u8]) -> bool
     ensures { result ≡ well_formed s.now }
@@ -26,7 +19,7 @@ fn noted(notes: &[u16], here: usize) -> usize
     requires { here < length notes.now * 256 }
     ensures { result ≡ notedBy notes.now here }
 {
-    let entry = word(notes[here / 256]);
+    let entry = usize::from(notes[here / 256]);
     if entry % 4 == here % 256 {
         return entry / 4;
     }
@@ -35,10 +28,7 @@ fn noted(notes: &[u16], here: usize) -> usize
 
 // Whether a byte continues no character.
 fn is_first(byte: u8) -> bool {
-    if byte < 128 {
-        return true;
-    }
-    192 <= byte
+    byte < 128 || 192 <= byte
 }
 
 // The first place from `at` on where a character may begin; three further at most.
@@ -46,14 +36,10 @@ fn first_from(s: &[u8], at: usize) -> usize
     requires { at + 3 ≤ length s.now }
     ensures { (at ≤ result) × (result ≤ at + 3) }
 {
-    if is_first(s[at]) {
-        return at;
-    }
-    if is_first(s[at + 1]) {
-        return at + 1;
-    }
-    if is_first(s[at + 2]) {
-        return at + 2;
+    for k in at..at + 3 {
+        if is_first(s[k]) {
+            return k;
+        }
     }
     at + 3
 }
@@ -66,15 +52,14 @@ fn check(s: &[u8], notes: &mut [u16], here: usize) -> usize
 {
     let block = here / 256;
     let next = first_from(s, block * 256 + 256);
-    if is_utf8(&s[here..next]) {
-        let place = here % 256;
-        if place < 4 {
-            notes[block] = (place + 4 * (next - here)) as u16;
-            return next;
-        }
-        return next;
+    if !is_utf8(&s[here..next]) {
+        return here;
     }
-    here
+    let place = here % 256;
+    if place < 4 {
+        notes[block] = (place + 4 * (next - here)) as u16;
+    }
+    next
 }
 
 // The bytes from `here` on that are noted, or else checked. Answers with where they end, or `here` if they are not well-formed.
@@ -89,6 +74,7 @@ fn pass(s: &[u8], notes: &mut [u16], here: usize) -> usize
     check(s, notes, here)
 }
 
+// Stays: a turn passes as many bytes as are noted or checked, so no iterator over the bytes fits.
 // Whether the bytes from `from` up to `to` are well-formed. Where some of them are not, all that are left are checked, once.
 pub fn is_passage(s: &[u8], from: usize, to: usize, notes: &mut [u16]) -> bool
     requires { (from ≤ to) × (to ≤ length s.now) × Notes s.now notes.old }

@@ -4,33 +4,34 @@ use mathlib.Core.Bool.{Bool, true, false}
 use Prim.Native.Nat.{ℕ}
 use lib.IntN.{ℤ}
 use lib.Ieee.{Float, binary64, of_bits, of_fields, odd}
+use Rattle.std.specs.Prelude.{Ok, Err}
 use Rattle.lookup_answer.specs.declared.Refusal as Why
 use Rattle.lookup_answer.specs.declared.Refusal.TheVariants.{NotWritable, NoMember, TooManyDigits}
-use Rattle.lookup_answer.specs.declared.Answer.{Answer}
-use Rattle.lookup_answer.specs.declared.Answer.TheVariants.{Whole, Truth, Text, Row, Refused}
+use Rattle.lookup_answer.specs.Answers.{Answer}
+use Rattle.lookup_answer.specs.declared.Value.TheVariants.{Whole, Truth, Text, Row}
 use Rattle.placing.specs.declared.Placed.{Placed}
 use Rattle.placing.specs.Placing.{coordinate_number, coordinate_value, at, accepted_at, refused_with, is_any, together, settled}
 
 -- ---- one answer
 
 module _ {a : Answer} where
-  pub whole_value : {n : ℤ} → a ≡ Whole n → of_bits binary64 0 ≡ coordinate_value a
+  pub whole_value : {n : ℤ} → a ≡ Ok (Whole n) → of_bits binary64 0 ≡ coordinate_value a
   unfolding of_bits of_fields odd
   whole_value e = rw e
 
-  pub truth_value : {b : Bool} → a ≡ Truth b → of_bits binary64 0 ≡ coordinate_value a
+  pub truth_value : {b : Bool} → a ≡ Ok (Truth b) → of_bits binary64 0 ≡ coordinate_value a
   unfolding of_bits of_fields odd
   truth_value e = rw e
 
-  pub text_value : {o n : ℕ} → a ≡ Text o n → of_bits binary64 0 ≡ coordinate_value a
+  pub text_value : {o n : ℕ} → a ≡ Ok (Text o n) → of_bits binary64 0 ≡ coordinate_value a
   unfolding of_bits of_fields odd
   text_value e = rw e
 
-  pub row_value : {r : ℕ} → a ≡ Row r → of_bits binary64 0 ≡ coordinate_value a
+  pub row_value : {r : ℕ} → a ≡ Ok (Row r) → of_bits binary64 0 ≡ coordinate_value a
   unfolding of_bits of_fields odd
   row_value e = rw e
 
-  pub refused_value : {why : Why.Refusal} → a ≡ Refused why → of_bits binary64 0 ≡ coordinate_value a
+  pub refused_value : {why : Why.Refusal} → a ≡ Err why → of_bits binary64 0 ≡ coordinate_value a
   unfolding of_bits of_fields odd
   refused_value e = rw e
 

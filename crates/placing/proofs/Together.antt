@@ -6,13 +6,13 @@ use native.Mathlib.Omega.{arith}
 use lib.Dec.{eqb}
 use lib.Ieee.{Float}
 use borrow.Author.Tests.{eqb-false}
+use Rattle.std.specs.Prelude.{Ok, Err}
 use Rattle.text.proofs.Comparing.{clash}
 use Rattle.lookup_answer.specs.declared.Refusal as Why
 use Rattle.lookup_answer.specs.declared.Refusal.TheVariants.{NotWritable, NoMember, TooManyDigits}
-use Rattle.lookup_answer.specs.declared.Answer.{Answer}
-use Rattle.lookup_answer.specs.declared.Answer.TheVariants.{Whole, Decimal, Truth, Text, Row, Refused}
+use Rattle.lookup_answer.specs.Answers.{Answer}
+use Rattle.lookup_answer.specs.declared.Value.TheVariants.{Whole, Decimal, Truth, Text, Row}
 use Rattle.lookup_answer.specs.Reports.{plus_zero}
-use Rattle.placing.specs.declared.Outcome.TheVariants as outcome
 use Rattle.placing.specs.declared.Position.{Position}
 use Rattle.placing.specs.declared.Placed.{Placed}
 use Rattle.placing.specs.Placing.{coordinate_number, coordinate_value, at, accepted_at, refused_with, is_any, together, settled}
@@ -23,7 +23,7 @@ abbrev picked : Bool → Bool → Bool → Position → Placed
 picked i j k p = cond i (refused_with NotWritable) (cond j (refused_with NoMember) (cond k (refused_with TooManyDigits) (accepted_at p)))
 
 not_both : {X : Type 0} (why : Why.Refusal) {q : Position} → refused_with why ≡ accepted_at q → X
-not_both why e = let f : outcome.Refused why ≡ outcome.Accepted = ap (λ (p : Placed). p.outcome) e in let z : ◌≡◌ {A = ℕ} 0 1 = cc in absurd (omega arith)
+not_both why e = let f : Err why ≡ Ok tt = ap (λ (p : Placed). p.outcome) e in absurd (cc)
 
 picked_accepted : (i j k : Bool) {p q : Position} → picked i j k p ≡ accepted_at q → (i ≡ false) × (j ≡ false) × (k ≡ false) × (p ≡ q)
 picked_accepted true j k e = not_both NotWritable e
@@ -31,7 +31,7 @@ picked_accepted false true k e = not_both NoMember e
 picked_accepted false false true e = not_both TooManyDigits e
 picked_accepted false false false e = (refl, refl, refl, ap (λ (q : Placed). q.position) e)
 
-picked_zeros : (i j k : Bool) (p : Position) {why : Why.Refusal} → (picked i j k p).outcome ≡ outcome.Refused why → (picked i j k p).position ≡ at plus_zero plus_zero plus_zero
+picked_zeros : (i j k : Bool) (p : Position) {why : Why.Refusal} → (picked i j k p).outcome ≡ Err why → (picked i j k p).position ≡ at plus_zero plus_zero plus_zero
 picked_zeros true j k p e = refl
 picked_zeros false true k p e = refl
 picked_zeros false false true p e = refl
@@ -50,23 +50,23 @@ none_is n a b c e =
 
 -- ---- one answer
 
-decimal_by : (a : Answer) → (coordinate_number a ≡ 11 → ⊥) → (coordinate_number a ≡ 18 → ⊥) → (coordinate_number a ≡ 19 → ⊥) → a ≡ Decimal (coordinate_value a)
-decimal_by (Decimal x) e f g = refl
-decimal_by (Whole n) e f g = absurd (f refl)
-decimal_by (Truth b) e f g = absurd (f refl)
-decimal_by (Text o n) e f g = absurd (f refl)
-decimal_by (Row r) e f g = absurd (f refl)
-decimal_by (Refused NotWritable) e f g = absurd (e refl)
-decimal_by (Refused NoMember) e f g = absurd (f refl)
-decimal_by (Refused TooManyDigits) e f g = absurd (g refl)
+decimal_by : (a : Answer) → (coordinate_number a ≡ 11 → ⊥) → (coordinate_number a ≡ 18 → ⊥) → (coordinate_number a ≡ 19 → ⊥) → a ≡ Ok (Decimal (coordinate_value a))
+decimal_by (Ok (Decimal x)) e f g = refl
+decimal_by (Ok (Whole n)) e f g = absurd (f refl)
+decimal_by (Ok (Truth b)) e f g = absurd (f refl)
+decimal_by (Ok (Text o n)) e f g = absurd (f refl)
+decimal_by (Ok (Row r)) e f g = absurd (f refl)
+decimal_by (Err NotWritable) e f g = absurd (e refl)
+decimal_by (Err NoMember) e f g = absurd (f refl)
+decimal_by (Err TooManyDigits) e f g = absurd (g refl)
 
 -- ---- together
 
-pub accepted_of : (x y turn : Float) → settled (Decimal x) (Decimal y) (Decimal turn) ≡ accepted_at (at x y turn)
+pub accepted_of : (x y turn : Float) → settled (Ok (Decimal x)) (Ok (Decimal y)) (Ok (Decimal turn)) ≡ accepted_at (at x y turn)
 unfolding settled together is_any
 accepted_of x y turn = refl
 
-pub unwritable_of : (b c : Answer) → settled (Refused NotWritable) b c ≡ refused_with NotWritable
+pub unwritable_of : (b c : Answer) → settled (Err NotWritable) b c ≡ refused_with NotWritable
 unfolding settled together is_any
 unwritable_of b c = refl
 
@@ -80,7 +80,7 @@ module _ (a b c : Answer) where
   none : (n : ℕ) → any n ≡ false → (coordinate_number a ≡ n → ⊥) × (coordinate_number b ≡ n → ⊥) × (coordinate_number c ≡ n → ⊥)
   none n e = none_is n (coordinate_number a) (coordinate_number b) (coordinate_number c) e
 
-  pub accepted_by : {x y turn : Float} → settled a b c ≡ accepted_at (at x y turn) → (a ≡ Decimal x) × (b ≡ Decimal y) × (c ≡ Decimal turn)
+  pub accepted_by : {x y turn : Float} → settled a b c ≡ accepted_at (at x y turn) → (a ≡ Ok (Decimal x)) × (b ≡ Ok (Decimal y)) × (c ≡ Ok (Decimal turn))
   unfolding settled together
   accepted_by {x} {y} {turn} e =
       let h = picked_accepted (any 11) (any 18) (any 19) e in
@@ -88,11 +88,11 @@ module _ (a b c : Answer) where
       let v = none 18 h.1 in
       let w = none 19 h.2 in
       let p : values ≡ at x y turn = h.3 in (
-        decimal_by a u.0 v.0 w.0 ∙ ap (λ (q : Position). Decimal q.x) p,
-        decimal_by b u.1 v.1 w.1 ∙ ap (λ (q : Position). Decimal q.y) p,
-        decimal_by c u.2 v.2 w.2 ∙ ap (λ (q : Position). Decimal q.turn) p,
+        decimal_by a u.0 v.0 w.0 ∙ ap (λ (q : Position). Ok (Decimal q.x)) p,
+        decimal_by b u.1 v.1 w.1 ∙ ap (λ (q : Position). Ok (Decimal q.y)) p,
+        decimal_by c u.2 v.2 w.2 ∙ ap (λ (q : Position). Ok (Decimal q.turn)) p,
       )
 
-  pub zeros_of : {why : Why.Refusal} → (settled a b c).outcome ≡ outcome.Refused why → (settled a b c).position ≡ at plus_zero plus_zero plus_zero
+  pub zeros_of : {why : Why.Refusal} → (settled a b c).outcome ≡ Err why → (settled a b c).position ≡ at plus_zero plus_zero plus_zero
   unfolding settled together
   zeros_of e = picked_zeros (any 11) (any 18) (any 19) values e

@@ -1,10 +1,10 @@
 // What three answers are as a position for the laser station: x, y and turn, each from a Double, or why there is none.
-#![tactic(auto)]
+#![tactic(auto, using(crate::proofs::Settling::coordinates, crate::proofs::Settling::settling))]
 
 ghost use Rattle.std.specs.Prelude.{◌≡◌};
 ghost use Rattle.placing.specs.Placing.{outcome_number, coordinate_number, coordinate_value, is_any, accepted_at, refused_with, settled};
 
-use lookup_answer::{Answer, Refusal};
+use lookup_answer::{Refusal, Value};
 
 // Where the laser goes.
 #[derive(Drop)]
@@ -14,76 +14,58 @@ pub struct Position {
     pub turn: f64,
 }
 
-// That there is a position, or why there is none.
-#[derive(Drop)]
-pub enum Outcome {
-    Accepted,
-    Refused(Refusal),
-}
-
 // A position with its outcome; a refused one is three plus zeros.
+// Stays: E5.refused_zeros speaks of the position of a refused one, and C is told it, so it lies beside the outcome.
 #[derive(Drop)]
 pub struct Placed {
-    pub outcome: Outcome,
+    pub outcome: Result<(), Refusal>,
     pub position: Position,
 }
 
 // The papers' number of an outcome: 0, or the refusal's.
-pub fn number(outcome: Outcome) -> u8
+pub fn number(outcome: Result<(), Refusal>) -> u8
     ensures { result ≡ outcome_number outcome }
 {
     match outcome {
-        Outcome::Accepted => 0,
-        Outcome::Refused(refusal) => lookup_answer::number(refusal),
+        Ok(()) => 0,
+        Err(refusal) => refusal.into(),
     }
 }
 
 // The number of the refusal of an answer as a coordinate, or 0: a coordinate comes from a Double.
-fn coordinate_number(answer: Answer) -> u8
+fn coordinate_number(answer: Result<Value, Refusal>) -> u8
     ensures { result ≡ coordinate_number answer }
 {
     match answer {
-        Answer::Decimal(_) => 0,
-        Answer::Whole(_) => 18,
-        Answer::Truth(_) => 18,
-        Answer::Text {
-            offset: _,
-            length: _,
-        } => 18,
-        Answer::Row(_) => 18,
-        Answer::Refused(refusal) => lookup_answer::number(refusal),
+        Ok(Value::Decimal(_)) => 0,
+        Ok(_) => 18,
+        Err(refusal) => refusal.into(),
     }
 }
 
 // The value of an answer as a coordinate; plus zero if it is none.
-fn coordinate_value(answer: Answer) -> f64
+fn coordinate_value(answer: Result<Value, Refusal>) -> f64
     ensures { result ≡ coordinate_value answer }
 {
     match answer {
-        Answer::Decimal(x) => x,
-        Answer::Whole(_) => 0.0,
-        Answer::Truth(_) => 0.0,
-        Answer::Text {
-            offset: _,
-            length: _,
-        } => 0.0,
-        Answer::Row(_) => 0.0,
-        Answer::Refused(_) => 0.0,
+        Ok(Value::Decimal(x)) => x,
+        _ => 0.0,
     }
 }
 
 // Whether one of three numbers is n.
+#[tactic(auto, unfolding(crate::specs::Placing::is_any))]
 fn is_any(n: u8, x: u8, y: u8, turn: u8) -> bool
     ensures { result ≡ is_any n x y turn }
 {
-    (x == n) | (y == n) | (turn == n)
+    x == n || y == n || turn == n
 }
 
 fn accepted(position: Position) -> Placed
     ensures { result ≡ accepted_at position }
 {
     Placed {
-        outcome: Outcome::Accepted,
+        outcome: Ok(()),
         position,
     }
 }
@@ -92,7 +74,7 @@ pub fn refused(refusal: Refusal) -> Placed
     ensures { result ≡ refused_with refusal }
 {
     Placed {
-        outcome: Outcome::Refused(refusal),
+        outcome: Err(refusal),
         position: Position {
             x: 0.0,
             y: 0.0,
@@ -102,7 +84,11 @@ pub fn refused(refusal: Refusal) -> Placed
 }
 
 // Three answers together: 11 before 18, 18 over all of them before 19.
-pub fn settle(x: Answer, y: Answer, turn: Answer) -> Placed
+pub fn settle(
+    x: Result<Value, Refusal>,
+    y: Result<Value, Refusal>,
+    turn: Result<Value, Refusal>,
+) -> Placed
     ensures { result ≡ settled x y turn }
 {
     let a = coordinate_number(x);

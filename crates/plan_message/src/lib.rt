@@ -12,6 +12,8 @@ ghost use Rattle.output.specs.Contract.{Put};
 ghost use Rattle.message.specs.Filled.{Filled};
 ghost use Rattle.plan_message.specs.Contract.{planned_items, Known};
 
+use plans::{Form, NoForm};
+
 // How many bytes the message has.
 pub fn measure(
     table: &[u32],
@@ -26,22 +28,20 @@ pub fn measure(
 {
     let mut sum: usize = 12;
     let mut j = 0;
-    let mut r = 0;
-    while r < rows {
+    for r in 0..rows {
         let row = table::get_row(table, room, r);
         if row.kind == 11 {
             sum += plans::string_length(table, room, strings, text, plan, j);
             j += 1;
-            r += 1;
         } else {
             sum += row_length::item_length(text, row);
-            r += 1;
         }
     }
     sum
 }
 
 // String j, to the front of the output.
+#[tactic(auto, using(sending::proofs::Sending::text_few))]
 fn put_string(
     out: &mut [u8],
     table: &[u32],
@@ -55,20 +55,19 @@ fn put_string(
     ensures { Put (string_bytes (sent_at plan.now j (numbered_text (row_at room table.now) strings.now text.now j))) out.old out.new result }
 {
     let t = buckets::text_of(table, room, strings, text, j);
-    let form = plans::byte(plan[j * 2]);
     let p = plan[j * 2 + 1];
     let most = out.len();
-    if form == 0 {
-        return output::try_long(out, most, b'U', t);
+    match Form::try_from(plan[j * 2]) {
+        Ok(Form::Regular) => output::try_long(out, most, b'U', t),
+        Ok(Form::Recorded) => output::try_recorded(out, most, p, t),
+        Ok(Form::Recalled) => output::try_two(out, most, b'<', p),
+        Err(NoForm) => output::try_two(out, most, b'<', p),
     }
-    if form == 1 {
-        return output::try_recorded(out, most, p, t);
-    }
-    output::try_two(out, most, b'<', p)
 }
 
 // The items, which have at most so many bytes: each goes into the part of the output after the items already there, strings one by one, and the
 // rows between them in runs.
+// Stays: a `while`: a run ends where `encoding::put_run` says, so the number of the next row is no count that `for` has.
 fn put_items(
     table: &[u32],
     room: usize,

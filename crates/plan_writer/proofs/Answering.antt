@@ -7,6 +7,7 @@ use native.Mathlib.Omega.{arith}
 use lib.ListN.{length, replicate}
 use lib.Dec.{leb}
 use borrow.Author.Tests.{lt-leb, le-leb, leb-true, leb-false}
+use Rattle.draft.specs.declared.Refusal.{Refusal}
 use Rattle.draft.specs.declared.Refusal.TheVariants.{TooLong, NotWritable, FormTooLong, OutputTooShort, NoLimit}
 use Rattle.draft.specs.declared.Row.{Row}
 use Rattle.draft.specs.Table.{room_of, row_at, from}
@@ -20,22 +21,24 @@ use Rattle.message.specs.Filled.{needed, filled, Filled}
 use Rattle.plans.specs.Plans.{planned, taken}
 use Rattle.plans.proofs.Judging.{taken_long}
 use Rattle.plan_message.specs.Contract.{Known}
-use Rattle.plan_writer.specs.declared.Answer.{Answer}
-use Rattle.plan_writer.specs.declared.Answer.TheVariants.{Written, Refused, NotTaken}
-use Rattle.plan_writer.specs.Answers.{given, shorter, chosen, message_for, answer_for, answer_by, answer_of, output_of, Did}
+use Rattle.std.specs.Prelude.{Ok, Err, IsErrAnd}
+use Rattle.write_answer.specs.Answers as written
+use Rattle.plan_writer.specs.declared.PlanRefusal.TheVariants.{Refused, NotTaken}
+use Rattle.plan_writer.specs.Answers.{Answer, given, shorter, chosen, message_for, answer_for, answer_by, answer_of, output_of, Did}
 use Rattle.plan_writer.specs.Contract.{RefusedWith, DidBy}
 
--- the answer, by how many bytes the message needs
-module _ (n room : ℕ) where
-  pub answer_long : 65536 < n → Refused FormTooLong ≡ answer_for n room
-  answer_long h = sym (rw (lt-leb n 65536 h))
+-- the answer is the one without a plan, whose refusal is one with a plan
+abbrev by_plan : written.Answer → Answer
+by_plan (Ok k) = Ok k
+by_plan (Err refusal) = Err (Refused refusal)
 
-  module _ (h : n ≤ 65536) where
-    pub answer_short : room < n → Refused OutputTooShort ≡ answer_for n room
-    answer_short l = sym (rw (le-leb n 65536 h, lt-leb n room l))
-
-    pub answer_written : n ≤ room → Written n ≡ answer_for n room
-    answer_written l = sym (rw (le-leb n 65536 h, le-leb n room l))
+answer_is : (n room : ℕ) → by_plan (written.answer_for n room) ≡ answer_for n room
+answer_is n room = go (leb n 65536) (leb n room)
+  where
+    go : (x y : Bool) → by_plan (written.given x FormTooLong (written.given y OutputTooShort (Ok n))) ≡ given x (Err (Refused FormTooLong)) (given y (Err (Refused OutputTooShort)) (Ok n))
+    go true true = refl
+    go true false = refl
+    go false y = refl
 
 -- which of two messages is the shorter, by what is told of the first and the length of the second
 module _ (form other : List ℕ) where
@@ -111,7 +114,7 @@ module _ (form : List ℕ) (room : ℕ) where
   unfolding filled
   output_filled = go (leb (length form) 65536) (leb (length form) room)
     where
-      go : (x y : Bool) → output_of (given x (Refused FormTooLong) (given y (Refused OutputTooShort) (Written (length form)))) form room ≡ cond x (cond y (form ++ replicate (room - length form) 0) (replicate room 0)) (replicate room 0)
+      go : (x y : Bool) → output_of (given x (Err (Refused FormTooLong)) (given y (Err (Refused OutputTooShort)) (Ok (length form)))) form room ≡ cond x (cond y (form ++ replicate (room - length form) 0) (replicate room 0)) (replicate room 0)
       go true true = refl
       go true false = refl
       go false y = refl
@@ -124,15 +127,24 @@ module _ {row : ℕ → Row} {rows : ℕ} (s plan : List ℕ) {W : List ℕ} {n 
   pub by_known : b ≡ true → length s ≤ 65536 → Known row rows s W plan
   by_known f h = record { count = n; strings = c; room = omega (arith, taken_long (numbered_text row W s) plan n (sym e ∙ f)); short = h }
 
-  pub by_written : {o o' : List ℕ} {a : Answer} {k : ℕ} → b ≡ true → Filled (chosen s (from row 0 rows) plan) o o' k → a ≡ answer_for k (length o) → DidBy s (from row 0 rows) plan o o' a
+  by_answered : {o o' : List ℕ} {a : Answer} {k : ℕ} → b ≡ true → Filled (chosen s (from row 0 rows) plan) o o' k → a ≡ answer_for k (length o) → DidBy s (from row 0 rows) plan o o' a
   unfolding answer_by
-  by_written {o} {a = a} f g h =
+  by_answered {o} {a = a} f g h =
       let m = chosen s (from row 0 rows) plan in
       let p : a ≡ answer_for (length m) (length o) = h ∙ ap (λ (x : ℕ). answer_for x (length o)) g.tells ∙ answer_needed m (length o) in
       record {
         says = p ∙ sym (rw (taken_is, f));
         leaves = g.leaves ∙ sym (ap (λ (x : Answer). output_of x m (length o)) p ∙ output_filled m (length o));
       }
+
+  -- the answer without a plan, whose length is told and whose refusal becomes one with a plan
+  module _ {o o' : List ℕ} {k : ℕ} (f : b ≡ true) (g : Filled (chosen s (from row 0 rows) plan) o o' k) where
+    pub by_written : {m : ℕ} → Ok m ≡ written.answer_for k (length o) → DidBy s (from row 0 rows) plan o o' (Ok m)
+    by_written h = by_answered f g (ap by_plan h ∙ answer_is k (length o))
+
+    pub by_unwritten : (a : Answer) {refusal : Refusal} → IsErrAnd a (λ e. e ≡ Refused refusal) → Err refusal ≡ written.answer_for k (length o) → DidBy s (from row 0 rows) plan o o' a
+    by_unwritten (Ok m) i h = absurd i
+    by_unwritten (Err e) i h = rw i (by_answered f g (ap by_plan h ∙ answer_is k (length o)))
 
   pub by_refused : {o o' : List ℕ} {a : Answer} → b ≡ false → RefusedWith NotTaken o o' a → DidBy s (from row 0 rows) plan o o' a
   unfolding answer_by

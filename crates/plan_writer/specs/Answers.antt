@@ -1,6 +1,6 @@
 -- What writing a table with a plan gives: its answer, and the output after it. Both depend on the limit of nesting, the table, its stated rows,
 -- the text bytes, the plan and the output's length alone. Assumes nothing.
-use Rattle.std.specs.Prelude.{ℕ, ◌-◌, ◌≡◌, Bool, true, false, cond, List, ◌++◌, length, replicate, leb}
+use Rattle.std.specs.Prelude.{ℕ, ◌-◌, ◌≡◌, Bool, true, false, cond, List, ◌++◌, length, replicate, leb, Result, Ok, Err}
 use Rattle.draft.specs.declared.Refusal.TheVariants.{TooLong, NotWritable, FormTooLong, OutputTooShort, NoLimit}
 use Rattle.draft.specs.Refusals.{number_of}
 use Rattle.draft.specs.declared.Row.{Row}
@@ -9,8 +9,12 @@ use Rattle.draft.specs.Limits.{allowed}
 use Rattle.draft.specs.Writable.{writable_to}
 use Rattle.draft.specs.Written.{written, rows_of}
 use Rattle.plans.specs.Plans.{planned, taken}
-use Rattle.plan_writer.specs.declared.Answer.{Answer}
-use Rattle.plan_writer.specs.declared.Answer.TheVariants.{Written, Refused, NotTaken}
+use Rattle.plan_writer.specs.declared.PlanRefusal.{PlanRefusal}
+use Rattle.plan_writer.specs.declared.PlanRefusal.TheVariants.{Refused, NotTaken}
+
+-- how long the message is that is written, or why none is
+abbrev pub Answer : Type 0
+Answer = Result ℕ PlanRefusal
 
 -- where a test holds, and otherwise a refusal
 abbrev pub given : Bool → Answer → Answer → Answer
@@ -31,25 +35,25 @@ message_for T rows s plan = chosen s (rows_of 4096 T rows) plan
 
 -- the answer for a message of n bytes, with so much room: 12, 13, or its length
 abbrev pub answer_for : ℕ → ℕ → Answer
-answer_for n room = given (leb n 65536) (Refused FormTooLong) (given (leb n room) (Refused OutputTooShort) (Written n))
+answer_for n room = given (leb n 65536) (Err (Refused FormTooLong)) (given (leb n room) (Err (Refused OutputTooShort)) (Ok n))
 
 -- with text bytes and a table that are fit: '24 for a plan that isn't taken, after 11 and before 12 and 13, which speak of the message written'
 unfoldable pub answer_by : List ℕ → List Row → List ℕ → ℕ → Answer
-answer_by s rows plan room = given (taken plan (texts_of s rows)) NotTaken (answer_for (length (chosen s rows plan)) room)
+answer_by s rows plan room = given (taken plan (texts_of s rows)) (Err NotTaken) (answer_for (length (chosen s rows plan)) room)
 
 -- the answer to a call that states a limit of nesting: 23, 10, 11, 24, then as the message has it
 unfoldable pub answer_of : ℕ → List ℕ → ℕ → List ℕ → List ℕ → ℕ → Answer
 answer_of limit T rows s plan room =
-    given (allowed limit) (Refused NoLimit)
-    (given (leb (length s) 65536) (Refused TooLong)
-    (given (writable_to limit T rows s) (Refused NotWritable)
+    given (allowed limit) (Err (Refused NoLimit))
+    (given (leb (length s) 65536) (Err (Refused TooLong))
+    (given (writable_to limit T rows s) (Err (Refused NotWritable))
     (answer_by s (rows_of 4096 T rows) plan room)))
 
 -- the output after an answer: the message and zeros behind it; on a refusal all zeros
 abbrev pub output_of : Answer → List ℕ → ℕ → List ℕ
-output_of (Written n) form room = form ++ replicate (room - n) 0
-output_of (Refused refusal) form room = replicate room 0
-output_of NotTaken form room = replicate room 0
+output_of (Ok n) form room = form ++ replicate (room - n) 0
+output_of (Err (Refused refusal)) form room = replicate room 0
+output_of (Err NotTaken) form room = replicate room 0
 
 -- what a call did
 pub record Did (limit : ℕ) (T : List ℕ) (rows : ℕ) (s plan out out' : List ℕ) (answer : Answer) : Type 0 where
@@ -63,6 +67,6 @@ pub record Report : Type 0 where
   pub place : ℕ
 
 abbrev pub report_of : Answer → Report
-report_of (Written n) = record { number = 0; length = n; place = 0 }
-report_of (Refused refusal) = record { number = number_of refusal; length = 0; place = 0 }
-report_of NotTaken = record { number = 24; length = 0; place = 0 }
+report_of (Ok n) = record { number = 0; length = n; place = 0 }
+report_of (Err (Refused refusal)) = record { number = number_of refusal; length = 0; place = 0 }
+report_of (Err NotTaken) = record { number = 24; length = 0; place = 0 }

@@ -1,12 +1,12 @@
 -- What the functions do that refuse, or that write rows which were judged before. Assumes nothing.
-use Rattle.std.specs.Prelude.{ℕ, ◌≡◌, List, length, replicate}
+use Rattle.std.specs.Prelude.{ℕ, ◌≡◌, List, length, replicate, Err}
 use Rattle.draft.specs.declared.Row.{Row}
-use Rattle.plan_writer.specs.declared.Answer.{Answer}
-use Rattle.plan_writer.specs.Answers.{chosen, answer_by, output_of}
+use Rattle.plan_writer.specs.declared.PlanRefusal.{PlanRefusal}
+use Rattle.plan_writer.specs.Answers.{Answer, chosen, answer_by, output_of}
 
 -- a refusal leaves zeros
-pub record RefusedWith (refusal : Answer) (out out' : List ℕ) (answer : Answer) : Type 0 where
-  pub says : answer ≡ refusal
+pub record RefusedWith (refusal : PlanRefusal) (out out' : List ℕ) (answer : Answer) : Type 0 where
+  pub says : answer ≡ Err refusal
   pub leaves : out' ≡ replicate (length out) 0
 
 -- rows written by a plan

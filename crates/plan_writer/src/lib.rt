@@ -8,40 +8,36 @@ ghost use Rattle.draft.specs.Table.{row_at, from};
 ghost use Rattle.extents.specs.Asked.{Ready};
 ghost use Rattle.message.specs.Filled.{Filled};
 ghost use Rattle.plan_message.specs.Contract.{Known};
+ghost use Rattle.plan_writer.specs.declared.PlanRefusal.TheVariants.{Refused};
 ghost use Rattle.plan_writer.specs.Contract.{RefusedWith, DidBy};
-ghost use Rattle.plan_writer.specs.Answers.{chosen, answer_for, Did};
+ghost use Rattle.plan_writer.specs.Answers.{chosen, Did};
 
 use draft::Refusal;
 
-// The most bytes that a message may have.
-pub const MOST_BYTES: usize = 65536;
-
-#[derive(Drop)]
-pub enum Answer {
-    Written { length: usize },
+// Why nothing is written: as without a plan, or because the plan isn't taken.
+#[derive(Clone, Copy)]
+pub enum PlanRefusal {
     Refused(Refusal),
     NotTaken,
 }
 
+impl From<Refusal> for PlanRefusal {
+    ghost from_gives = { λ refusal e. e ≡ Refused refusal };
+
+    fn from(refusal: Refusal) -> PlanRefusal {
+        PlanRefusal::Refused(refusal)
+    }
+}
+
+// How long the message is that is written, or why none is.
+pub type Answer = Result<usize, PlanRefusal>;
+
 // A refusal leaves zeros.
-fn refuse(output: &mut [u8], refusal: Answer) -> Answer
+fn refuse(output: &mut [u8], refusal: PlanRefusal) -> Answer
     ensures { RefusedWith refusal output.old output.new result }
 {
     copying::clear(output);
-    refusal
-}
-
-// The answer for a message that needs n bytes of an output that has so much room.
-fn answer_for(n: usize, room: usize) -> Answer
-    ensures { result ≡ answer_for n room }
-{
-    if MOST_BYTES < n {
-        return Answer::Refused(Refusal::FormTooLong);
-    }
-    if room < n {
-        return Answer::Refused(Refusal::OutputTooShort);
-    }
-    Answer::Written { length: n }
+    Err(refusal)
 }
 
 // The shorter of the two messages and zeros behind it, where it has at most 65,536 bytes and there is room for it; else zeros. Tells how
@@ -83,9 +79,9 @@ fn write_rows(
     if plans::taken(table, room, &strings[..], count, text, plan) {
         let size = output.len();
         let n = fill_shorter(table, room, rows, text, &strings[..], plan, output);
-        return answer_for(n, size);
+        return Ok(write_answer::answer_for(n, size)?);
     }
-    refuse(output, Answer::NotTaken)
+    refuse(output, PlanRefusal::NotTaken)
 }
 
 // The same, with words for the strings of as many rows as a table may have.
@@ -117,14 +113,14 @@ fn write_within(
     requires { allowed limit ≡ true }
     ensures { Did limit table.now rows text.now plan.now output.old output.new result }
 {
-    if MOST_BYTES < text.len() {
-        return refuse(output, Answer::Refused(Refusal::TooLong));
+    if write_answer::MOST_BYTES < text.len() {
+        return refuse(output, PlanRefusal::Refused(Refusal::TooLong));
     }
     if shape::writable_to(table, rows, text, limit) {
         let room = table::room_of(table.len());
         return write_judged(table, room, rows, text, plan, output);
     }
-    refuse(output, Answer::Refused(Refusal::NotWritable))
+    refuse(output, PlanRefusal::Refused(Refusal::NotWritable))
 }
 
 // Writes a table with a stated number of rows, whose texts lie in the text bytes, by a plan, nested to at most the limit that is stated. Every byte
@@ -142,5 +138,5 @@ pub fn write(
     if draft::allowed(limit) {
         return write_within(table, rows, text, plan, limit, output);
     }
-    refuse(output, Answer::Refused(Refusal::NoLimit))
+    refuse(output, PlanRefusal::Refused(Refusal::NoLimit))
 }

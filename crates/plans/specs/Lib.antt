@@ -1,2 +1,3 @@
 pub mod Plans
+pub mod Forms
 pub mod Contract

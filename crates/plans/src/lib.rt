@@ -7,13 +7,34 @@ ghost use Rattle.draft.specs.Table.{row_at, from};
 ghost use Rattle.draft.specs.Strings.{costs};
 ghost use Rattle.buckets.specs.Numbered.{numbered_text, Strings, Through};
 ghost use Rattle.plans.specs.Plans.{sents_from, taken as takenBy};
+ghost use Rattle.plans.specs.Forms.{byte_of, FormOf};
 ghost use Rattle.plans.specs.Contract.{Named, Sends, Takes};
 
-// A byte as a number: the caller has no fit of the element to show.
-pub fn byte(x: u8) -> usize
-    ensures { (result ≡ x) × (result < 256) }
-{
-    x as usize
+// How a plan sends a string. A form's byte is 0, 1 or 2.
+#[derive(Clone, Copy, PartialEq, Eq)]
+pub enum Form {
+    Regular,
+    Recorded,
+    Recalled,
+}
+
+// A byte that is no form's.
+#[derive(Clone, Copy, PartialEq, Eq)]
+pub struct NoForm;
+
+impl TryFrom<u8> for Form {
+    type Error = NoForm;
+
+    ghost try_from_gives = { FormOf };
+
+    fn try_from(byte: u8) -> Result<Form, NoForm> {
+        match byte {
+            0 => Ok(Form::Regular),
+            1 => Ok(Form::Recorded),
+            2 => Ok(Form::Recalled),
+            _ => Err(NoForm),
+        }
+    }
 }
 
 // Whether string j may be sent in this form at position p. The book has for each position one more than the number of the string that was
@@ -24,28 +45,24 @@ fn send(
     strings: &[u16],
     text: &[u8],
     book: &mut [usize; 256],
-    form: usize,
+    form: Form,
     p: usize,
     j: usize,
 ) -> bool
     requires { (p < 256) × Through room (length table.now) j strings.now × Named j book.old }
-    ensures { Sends (numbered_text (row_at room table.now) strings.now text.now) j form p book.old book.new result }
+    ensures { Sends (numbered_text (row_at room table.now) strings.now text.now) j (byte_of form) p book.old book.new result }
 {
-    if form == 0 {
-        return p == 0;
-    }
-    if form == 1 {
-        book[p] = j + 1;
-        return true;
-    }
-    if form == 2 {
-        let k = book[p];
-        if k == 0 {
-            return false;
+    match form {
+        Form::Regular => p == 0,
+        Form::Recorded => {
+            book[p] = j + 1;
+            true
         }
-        return buckets::equal_texts(table, room, strings, text, k - 1, j);
+        Form::Recalled => {
+            let k = book[p];
+            k != 0 && buckets::equal_texts(table, room, strings, text, k - 1, j)
+        }
     }
-    false
 }
 
 // Whether the plan is taken for the first `count` strings.
@@ -64,13 +81,12 @@ pub fn taken(
         return false;
     }
     let mut book = [0usize; 256];
-    let mut j = 0;
-    while j < count {
-        let form = byte(plan[j * 2]);
-        let p = byte(plan[j * 2 + 1]);
-        if send(table, room, strings, text, &mut book, form, p, j) {
-            j += 1;
-        } else {
+    for j in 0..count {
+        let Ok(form) = Form::try_from(plan[j * 2]) else {
+            return false;
+        };
+        let p = plan[j * 2 + 1] as usize;
+        if !send(table, room, strings, text, &mut book, form, p, j) {
             return false;
         }
     }
@@ -90,14 +106,12 @@ pub fn string_length(
     ensures { Takes plan.now j (numbered_text (row_at room table.now) strings.now text.now j) result }
 {
     let t = buckets::text_of(table, room, strings, text, j);
-    let form = byte(plan[j * 2]);
-    if form == 0 {
-        return 5 + t.len();
+    match Form::try_from(plan[j * 2]) {
+        Ok(Form::Regular) => 5 + t.len(),
+        Ok(Form::Recorded) => 6 + t.len(),
+        Ok(Form::Recalled) => 2,
+        Err(NoForm) => 2,
     }
-    if form == 1 {
-        return 6 + t.len();
-    }
-    2
 }
 
 // How many bytes the first `count` strings take, as the plan sends them.
@@ -113,10 +127,8 @@ pub fn cost(
     ensures { result ≡ costs (sents_from plan.now 0 (from (numbered_text (row_at room table.now) strings.now text.now) 0 count)) }
 {
     let mut sum: usize = 0;
-    let mut j = 0;
-    while j < count {
+    for j in 0..count {
         sum += string_length(table, room, strings, text, plan, j);
-        j += 1;
     }
     sum
 }

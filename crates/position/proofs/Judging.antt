@@ -8,8 +8,7 @@ use Rattle.draft.specs.Bytes.{bytes}
 use Rattle.draft.specs.Table.{room_of, row_at}
 use Rattle.draft.specs.Writable.{writable}
 use Rattle.lookup_answer.specs.declared.Refusal.TheVariants.{NotWritable}
-use Rattle.lookup_answer.specs.declared.Answer.{Answer}
-use Rattle.lookup_answer.specs.Answers.{look}
+use Rattle.lookup_answer.specs.Answers.{Answer, look}
 use Rattle.lookup.proofs.Looking.{writable_answer, unwritable_answer}
 use Rattle.placing.specs.declared.Placed.{Placed}
 use Rattle.placing.specs.Placing.{refused_with, is_any, together, settled, position}

@@ -6,18 +6,11 @@ ghost use Rattle.std.specs.Prelude.{◌≡◌, ◌≤◌, length};
 ghost use Rattle.positions.specs.Contract.{Marked, Numbered, Placed, Ready, SentBy};
 
 // How a string is sent, with its position if it has one.
-#[derive(Drop)]
+#[derive(Clone, Copy, PartialEq, Eq)]
 pub enum Sending {
     Regular,
     Recorded(u8),
     Recalled(u8),
-}
-
-// A word as a number: the caller has no fit of the element to show.
-fn wide(x: u16) -> usize
-    ensures { result ≡ x }
-{
-    x as usize
 }
 
 // Marks the first string of each text that comes again: it is how much later a string was that has the text, and 0 if none was. A first
@@ -26,14 +19,10 @@ fn mark(count: usize, firsts: &[u16], spots: &mut [u16])
     requires { (count ≤ 4096) × (count ≤ length firsts.now) × (count ≤ length spots.old) }
     ensures { Marked count firsts.now spots.new }
 {
-    let mut j = 0;
-    while j < count {
-        let f = wide(firsts[j]);
+    for j in 0..count {
+        let f = firsts[j] as usize;
         if f <= j {
             spots[f] = (j - f) as u16;
-            j += 1;
-        } else {
-            j += 1;
         }
     }
 }
@@ -43,20 +32,15 @@ fn number(count: usize, firsts: &[u16], spots: &mut [u16])
     requires { (count ≤ 4096) × (count ≤ length firsts.now) × (count ≤ length spots.old) }
     ensures { Numbered count firsts.now spots.old spots.new }
 {
-    let mut j = 0;
     let mut next: u16 = 0;
-    while j < count {
-        if wide(firsts[j]) == j {
+    for j in 0..count {
+        if firsts[j] as usize == j {
             if 0 < spots[j] {
                 spots[j] = next;
                 next += 1;
-                j += 1;
             } else {
                 spots[j] = 4096;
-                j += 1;
             }
-        } else {
-            j += 1;
         }
     }
 }
@@ -71,11 +55,12 @@ pub fn place(count: usize, firsts: &[u16], spots: &mut [u16])
 }
 
 // How string j is sent. A position of 256 or more is none.
+#[tactic(auto, using(crate::proofs::Choosing::choosing))]
 pub fn sending_of(firsts: &[u16], spots: &[u16], j: usize) -> Sending
     requires { Ready firsts.now spots.now j }
     ensures { SentBy firsts.now spots.now j result }
 {
-    let f = wide(firsts[j]);
+    let f = firsts[j] as usize;
     let p = spots[f];
     if p < 256 {
         if f < j {

@@ -8,16 +8,6 @@ ghost use Rattle.draft.specs.Read.{prefix, agree};
 pub fn agrees(s: &[u8]) -> bool
     ensures { result ≡ agree s.now prefix }
 {
-    let start = b"binmode-rpc:";
-    let mut i = 0;
-    while i < 12 {
-        if s.len() <= i {
-            return true;
-        }
-        if s[i] != start[i] {
-            return false;
-        }
-        i += 1;
-    }
-    true
+    let n = s.len().min(12);
+    &s[..n] == &b"binmode-rpc:"[..n]
 }

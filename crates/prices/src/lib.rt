@@ -9,24 +9,10 @@ ghost use Rattle.prices.specs.Prices.{share, left};
 ghost use Rattle.prices.specs.Contract.{Worth, Priced};
 
 // What prices prove that strings cost with so many positions: `least` less that many times `prices`, their sum.
-#[derive(Drop)]
+#[derive(Clone, Copy, PartialEq, Eq)]
 pub struct Bound {
     pub least: usize,
     pub prices: usize,
-}
-
-// A price as a number: the caller has no fit of the element to show.
-fn wide(x: u32) -> usize
-    ensures { (result ≡ x) × (result < 4294967296) }
-{
-    x as usize
-}
-
-// A string's number, likewise.
-fn number(x: u16) -> usize
-    ensures { result ≡ x }
-{
-    x as usize
 }
 
 // How many bytes the text of string j has.
@@ -34,8 +20,7 @@ fn size_of(table: &[u32], room: usize, strings: &[u16], text: &[u8], j: usize) -
     requires { Through room (length table.now) j strings.now × (length text.now ≤ 65536) }
     ensures { (result ≡ length (numbered_text (row_at room table.now) strings.now text.now j)) × (result ≤ 65536) }
 {
-    let t = buckets::text_of(table, room, strings, text, j);
-    t.len()
+    buckets::text_of(table, room, strings, text, j).len()
 }
 
 // What it is worth to have the text of string j, whose first string is f, where `paid` is paid so far.
@@ -46,11 +31,7 @@ fn worth_of(marks: &[usize], f: usize, j: usize, paid: usize, size: usize) -> us
     if f == j {
         return 4 + size;
     }
-    let m = marks[f];
-    if paid < m {
-        return 0;
-    }
-    paid - m
+    paid.saturating_sub(marks[f])
 }
 
 fn share_of(size: usize, worth: usize) -> usize
@@ -85,20 +66,18 @@ pub fn price(
     requires { Strings room (length table.now) count strings.now × (length text.now ≤ 65536) × (count ≤ length firsts.now) × (length prices.now ≡ count) × (count ≤ length marks.old) × Firsts (numbered_text (row_at room table.now) strings.now text.now) count firsts.now }
     ensures { Priced (numbered_text (row_at room table.now) strings.now text.now) prices.now count result.least result.prices }
 {
-    let mut j = 0;
     let mut least: usize = 0;
     let mut paid: usize = 1;
-    while j < count {
-        let f = number(firsts[j]);
+    for j in 0..count {
+        let f = firsts[j] as usize;
         let size = size_of(table, room, strings, text, j);
         let w = worth_of(marks, f, j, paid, size);
         least += share_of(size, w);
         marks[f] = paid - left_of(size, w);
-        paid += wide(prices[j]);
-        j += 1;
+        paid += prices[j] as usize;
     }
     Bound {
-        least: least,
+        least,
         prices: paid - 1,
     }
 }

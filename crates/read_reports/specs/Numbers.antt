@@ -1,9 +1,7 @@
 -- The numbers that reading reports, as one record: documents 01's and 02's numbers. Assumes nothing.
-use Rattle.std.specs.Prelude.{ℕ}
+use Rattle.std.specs.Prelude.{ℕ, Ok, Err}
 use Rattle.read_answer.specs.Answers as reader
-use Rattle.records.specs.declared.Found.{Found}
-use Rattle.records.specs.declared.Found.TheVariants.{Body, Missing}
-use Rattle.records.specs.Job.{refusal_number}
+use Rattle.records.specs.Job.{refusal_number, Found}
 use Rattle.job.specs.Cards as job
 
 abbrev pub report : ℕ → ℕ → ℕ → ℕ → reader.Report
@@ -20,8 +18,8 @@ pub record Finding : Type 0 where
   pub place : ℕ
 
 abbrev pub finding_of : Found → Finding
-finding_of (Body start size) = record { number = 0; start = start; size = size; place = 0 }
-finding_of (Missing refusal place) = record { number = refusal_number refusal; start = 0; size = 0; place = place }
+finding_of (Ok body) = record { number = 0; start = body.start; size = body.length; place = 0 }
+finding_of (Err none) = record { number = refusal_number none.refusal; start = 0; size = 0; place = none.place }
 
 abbrev pub finding : ℕ → ℕ → ℕ → ℕ → Finding
 finding number start size place = record { number = number; start = start; size = size; place = place }

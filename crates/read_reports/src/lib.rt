@@ -1,10 +1,13 @@
 // What reading answered, reported to programs in C and Rust: every number that they lend is set, and the result is 0 or the refusal's number.
-#![tactic(auto)]
+#![tactic(auto, using(crate::proofs::Telling::telling))]
 
 ghost use Rattle.std.specs.Prelude.{◌≡◌};
 ghost use Rattle.read_answer.specs.Answers as readers;
 ghost use Rattle.job.specs.Cards as jobs;
 ghost use Rattle.read_reports.specs.Numbers.{report, card_report, finding, finding_of};
+
+use job::{Accepted, JobFault};
+use records::{Body, Missing};
 
 // Of a message.
 pub fn message(answer: read_answer::Answer, rows: &mut u64, used: &mut u64, place: &mut u64) -> u8
@@ -28,7 +31,7 @@ pub fn message(answer: read_answer::Answer, rows: &mut u64, used: &mut u64, plac
 
 // Of a card of a job file.
 pub fn card(
-    answer: job::Answer,
+    answer: Result<Accepted, JobFault>,
     rows: &mut u64,
     used: &mut u64,
     place: &mut u64,
@@ -37,53 +40,47 @@ pub fn card(
     ensures { card_report result rows.new used.new place.new body.new ≡ jobs.report_of answer }
 {
     match answer {
-        job::Answer::Accepted {
-            rows: n,
-            used: m,
-            body: b,
-        } => {
-            *rows = n as u64;
-            *used = m as u64;
+        Ok(card) => {
+            *rows = card.rows as u64;
+            *used = card.used as u64;
             *place = 0;
-            *body = b as u64;
+            *body = card.body as u64;
             0
         }
-        job::Answer::Refused { refusal, place: p } => {
+        Err(fault) => {
             *rows = 0;
             *used = 0;
-            *place = p as u64;
             *body = 0;
-            draft::number(refusal)
-        }
-        job::Answer::Missing { refusal, place: p } => {
-            *rows = 0;
-            *used = 0;
-            *place = p as u64;
-            *body = 0;
-            records::number(refusal)
+            match fault {
+                JobFault::Refused { refusal, place: p } => {
+                    *place = p as u64;
+                    draft::number(refusal)
+                }
+                JobFault::Missing { refusal, place: p } => {
+                    *place = p as u64;
+                    refusal.into()
+                }
+            }
         }
     }
 }
 
 // Of finding a card: where its body lies.
-pub fn found(found: records::Found, start: &mut u64, size: &mut u64, place: &mut u64) -> u8
+pub fn found(found: Result<Body, Missing>, start: &mut u64, size: &mut u64, place: &mut u64) -> u8
     ensures { finding result start.new size.new place.new ≡ finding_of found }
 {
     match found {
-        records::Found::Body {
-            start: b,
-            length: n,
-        } => {
-            *start = b as u64;
-            *size = n as u64;
+        Ok(body) => {
+            *start = body.start as u64;
+            *size = body.length as u64;
             *place = 0;
             0
         }
-        records::Found::Missing { refusal, place: p } => {
+        Err(missing) => {
             *start = 0;
             *size = 0;
-            *place = p as u64;
-            records::number(refusal)
+            *place = missing.place as u64;
+            missing.refusal.into()
         }
     }
 }

@@ -7,7 +7,7 @@ ghost use Rattle.draft.specs.Read.{recalled_item};
 ghost use Rattle.codebook.specs.Words.{book_of};
 ghost use Rattle.item.specs.Contract.{Ready, Did};
 
-use draft::{Entry, Refusal};
+use draft::Refusal;
 use item::Step;
 
 // A String that is recalled.
@@ -28,17 +28,8 @@ pub fn read_recalled(
     if s.len() < at + 2 {
         return item::refuse(Refusal::Ended, at);
     }
-    let entry = codebook::recall(book, s[at + 1]);
-    match entry {
-        Entry::Unset => item::refuse(Refusal::UnsetPosition, at),
-        Entry::Text { offset, length } => item::put_leaf(
-            row,
-            at + 2,
-            11,
-            offset,
-            length,
-            room,
-            table,
-        ),
-    }
+    let Some(text) = codebook::recall(book, s[at + 1]) else {
+        return item::refuse(Refusal::UnsetPosition, at);
+    };
+    Ok(item::put_leaf(row, at + 2, 11, text.offset, text.length, room, table))
 }

@@ -30,10 +30,7 @@ pub fn read_recorded(
     }
     let n = item::unsigned(s, at + 2);
     let o = at + 6;
-    let step = leaves::put_contents(s, at, row, Content::Text, o, n, room, table);
-    if step.number != 0 {
-        return step;
-    }
+    let reached = leaves::put_contents(s, at, row, Content::Text, o, n, room, table)?;
     codebook::record(book, s[at + 1], o as u32, n as u32);
-    step
+    Ok(reached)
 }

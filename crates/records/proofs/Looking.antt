@@ -6,15 +6,13 @@ use Prim.Native.Nat.{ℕ, ◌+◌, ◌*◌, ◌-◌, ◌≤◌, ◌<◌}
 use native.Mathlib.Omega.{arith}
 use lib.ListN.{length, get_or}
 use borrow.Author.Tests.{le-leb, lt-leb, eq-eqb, ne_eqb}
+use Rattle.std.specs.declared.ops.ControlFlow.TheVariants.{Break}
 use Rattle.draft.specs.Bytes.{unsigned_at}
 use Rattle.records.specs.declared.Kind.{Kind}
 use Rattle.records.specs.declared.Kind.TheVariants.{Card, End, Other}
 use Rattle.records.specs.declared.JobRefusal.{JobRefusal}
 use Rattle.records.specs.declared.JobRefusal.TheVariants.{FileEnded, WrongEnd, NoCard}
-use Rattle.records.specs.declared.Found.TheVariants.{Body, Missing}
-use Rattle.records.specs.declared.Look.{Look}
-use Rattle.records.specs.declared.Look.TheVariants.{Settled, Onward}
-use Rattle.records.specs.Job.{kind_at, record_length, ends_with, look_at}
+use Rattle.records.specs.Job.{Look, body_at, missing_at, on_to, kind_at, record_length, ends_with, look_at}
 
 -- the kind, from its two bytes
 module _ (s : List ℕ) {a b : ℕ} (p : a ≡ get_or s 4 0) (q : b ≡ get_or s 5 0) where
@@ -43,12 +41,12 @@ pub ruleset records = (kind_card, kind_end, kind_other, end_of_wrong_length, end
 
 -- one record
 module _ (n cards at : ℕ) (s : List ℕ) where
-  pub look_short : {look : Look} → length s < 6 → look ≡ Settled (Missing FileEnded at) → look ≡ look_at n cards at s
+  pub look_short : {look : Look} → length s < 6 → look ≡ Break (missing_at FileEnded at) → look ≡ look_at n cards at s
   unfolding look_at
   look_short h e = e ∙ rw (lt-leb (record_length s) (length s) (omega arith))
 
   module _ {size : ℕ} (e : size ≡ unsigned_at s 0) (h : 6 ≤ length s) where
-    pub look_cut : {look : Look} → length s - 6 < size → look ≡ Settled (Missing FileEnded at) → look ≡ look_at n cards at s
+    pub look_cut : {look : Look} → length s - 6 < size → look ≡ Break (missing_at FileEnded at) → look ≡ look_at n cards at s
     unfolding look_at
     look_cut k f = f ∙ rw (lt-leb (record_length s) (length s) (omega arith))
 
@@ -56,19 +54,19 @@ module _ (n cards at : ℕ) (s : List ℕ) where
       there : (record_length s) ≤ length s
       there = omega arith
 
-      pub look_body : kind ≡ Card → cards ≡ n → Settled (Body (at + 6) size) ≡ look_at n cards at s
+      pub look_body : kind ≡ Card → cards ≡ n → Break (body_at (at + 6) size) ≡ look_at n cards at s
       unfolding look_at
       look_body c m = rw (le-leb _ _ there, ← i, c, eq-eqb _ _ m, ← e)
 
-      pub look_card : kind ≡ Card → (cards ≡ n → ⊥) → Onward (cards + 1) size ≡ look_at n cards at s
+      pub look_card : kind ≡ Card → (cards ≡ n → ⊥) → on_to (cards + 1) size ≡ look_at n cards at s
       unfolding look_at
       look_card c m = rw (le-leb _ _ there, ← i, c, ne_eqb _ _ m, ← e)
 
-      pub look_end : {look : Look} {m : JobRefusal} → kind ≡ End → look ≡ Settled (Missing m at) → m ≡ cond (ends_with s cards) NoCard WrongEnd → look ≡ look_at n cards at s
+      pub look_end : {look : Look} {m : JobRefusal} → kind ≡ End → look ≡ Break (missing_at m at) → m ≡ cond (ends_with s cards) NoCard WrongEnd → look ≡ look_at n cards at s
       unfolding look_at
       look_end c f m = f ∙ rw (le-leb _ _ there, ← i, c, m)
 
-      pub look_other : kind ≡ Other → Onward cards size ≡ look_at n cards at s
+      pub look_other : kind ≡ Other → on_to cards size ≡ look_at n cards at s
       unfolding look_at
       look_other c = rw (le-leb _ _ there, ← i, c, ← e)
 

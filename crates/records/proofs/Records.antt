@@ -10,14 +10,14 @@ use lib.ListN.{length, drop, length-append, length-drop, get_or-append}
 use lib.Seq.{drop-append-le, drop-drop}
 use lib.Dec.{leb, eqb}
 use borrow.Author.Tests.{leb-true, leb-false, eqb-true, eqb-false, eq-eqb, ne_eqb}
+use Rattle.std.specs.Prelude.{Ok, Err}
 use Rattle.draft.specs.Bytes.{byte_at, unsigned_at}
 use Rattle.records.specs.declared.Kind.{Kind}
 use Rattle.records.specs.declared.Kind.TheVariants.{Card, End, Other}
 use Rattle.records.specs.declared.JobRefusal.TheVariants.{FileEnded, WrongEnd, NoCard}
-use Rattle.records.specs.declared.Found.{Found}
-use Rattle.records.specs.declared.Found.TheVariants.{Body, Missing}
-use Rattle.records.specs.Job.{refusal_number, kind_at, body_length, record_length, ends_with, find, body_of}
+use Rattle.records.specs.Job.{Found, body_at, missing_at, refusal_number, kind_at, body_length, record_length, ends_with, find, body_of}
 use Rattle.records.specs.Records.{kind_number, Stands, Due, first, past_card, past_other, CardAt, EndAt, Counts}
+use Rattle.records.proofs.Finding.{same_body, same_missing}
 use Rattle.records.proofs.Trails.{Trail, cut, asked, ended, wrong, passed, other, trail, step_cut, step_asked, step_passed, step_other, step_ended, step_wrong}
 
 -- a record's kind by its number
@@ -85,33 +85,33 @@ not_counts : (r : List ℕ) (cards : ℕ) → ends_with r cards ≡ false → Co
 not_counts r cards e c = let z : true ≡ false = sym (counts_ends r cards c) ∙ e in let w : ◌≡◌ {A = ℕ} 0 1 = cc in omega arith
 
 abbrev found_number : Found → ℕ
-found_number (Body start size) = 0
-found_number (Missing m place) = refusal_number m
+found_number (Ok body) = 0
+found_number (Err none) = refusal_number none.refusal
 
 -- What is found of card n, by the records of the file s.
 pub data Told (s : List ℕ) (n : ℕ) : Found → Type 0 where
-  card : {start size : ℕ} → CardAt s n start size → Told s n (Body start size)
-  file_ends : {cards at : ℕ} → Due s cards at → cards ≤ n → length (drop at s) < record_length (drop at s) → Told s n (Missing FileEnded at)
-  wrong_end : {cards at : ℕ} → EndAt s cards at → cards ≤ n → (Counts (drop at s) cards → ⊥) → Told s n (Missing WrongEnd at)
-  no_card : {cards at : ℕ} → EndAt s cards at → cards ≤ n → Counts (drop at s) cards → Told s n (Missing NoCard at)
+  card : {start size : ℕ} → CardAt s n start size → Told s n (body_at start size)
+  file_ends : {cards at : ℕ} → Due s cards at → cards ≤ n → length (drop at s) < record_length (drop at s) → Told s n (missing_at FileEnded at)
+  wrong_end : {cards at : ℕ} → EndAt s cards at → cards ≤ n → (Counts (drop at s) cards → ⊥) → Told s n (missing_at WrongEnd at)
+  no_card : {cards at : ℕ} → EndAt s cards at → cards ≤ n → Counts (drop at s) cards → Told s n (missing_at NoCard at)
 
 -- the record that stands at `at`, as the bytes r
 module _ (s : List ℕ) {n cards at : ℕ} {r : List ℕ} (e : r ≡ drop at s) (d : Due s cards at) (l : cards ≤ n) where
-  tell_cut : length r < record_length r → Told s n (Missing FileEnded at)
+  tell_cut : length r < record_length r → Told s n (missing_at FileEnded at)
   tell_cut h = file_ends d l (rw e at h)
 
   module _ (w : record_length r ≤ length r) where
-    tell_card : kind_at r ≡ Card → cards ≡ n → Told s n (Body (at + 6) (body_length r))
+    tell_card : kind_at r ≡ Card → cards ≡ n → Told s n (body_at (at + 6) (body_length r))
     tell_card k i =
         card (record { at = at; due = rw (← i) d; stands = rw e at w; kind = rw e at (card_number r k); behind = refl; long = ap body_length e })
 
     end_here : kind_at r ≡ End → EndAt s cards at
     end_here k = record { due = d; stands = rw e at w; kind = rw e at (end_number r k) }
 
-    tell_wrong : kind_at r ≡ End → ends_with r cards ≡ false → Told s n (Missing WrongEnd at)
+    tell_wrong : kind_at r ≡ End → ends_with r cards ≡ false → Told s n (missing_at WrongEnd at)
     tell_wrong k i = wrong_end (end_here k) l (rw e at (not_counts r cards i))
 
-    tell_ended : kind_at r ≡ End → ends_with r cards ≡ true → Told s n (Missing NoCard at)
+    tell_ended : kind_at r ≡ End → ends_with r cards ≡ true → Told s n (missing_at NoCard at)
     tell_ended k i = no_card (end_here k) l (rw e at (ends_counts r cards i))
 
     past_a_card : kind_at r ≡ Card → Due s (cards + 1) (at + record_length r)
@@ -150,59 +150,57 @@ find_due s (past_other {cards} {at} d w i j) n l =
     ∙ ap (find n cards (at + record_length (drop at s)) 0) (drop-drop (record_length (drop at s)) at s)
 
 module _ (s : List ℕ) (n : ℕ) where
-  card_found : {start size : ℕ} → CardAt s n start size → body_of s n ≡ Body start size
+  card_found : {start size : ℕ} → CardAt s n start size → body_of s n ≡ body_at start size
   card_found c =
       find_due s c.due n (omega arith) ∙ step_asked n n c.at (drop c.at s) c.stands (card_kind (drop c.at s) c.kind) refl ∙ rw (c.behind, c.long)
 
   -- CARD EXACTLY: where its body lies.
-  pub card_exactly : (start size : ℕ) → (body_of s n ≡ Body start size) ↔ CardAt s n start size
+  pub card_exactly : (start size : ℕ) → (body_of s n ≡ body_at start size) ↔ CardAt s n start size
   card_exactly start size = (λ e. go (told s n) e, card_found)
     where
-      go : {f : Found} → Told s n f → f ≡ Body start size → CardAt s n start size
+      go : {f : Found} → Told s n f → f ≡ body_at start size → CardAt s n start size
       go (card {start = x} {size = y} c) e =
-          let p : x ≡ start = cc in
-          let q : y ≡ size = cc in
-          rw (p, q) at c
+          let i = same_body e in rw (i.0, i.1) at c
       go (file_ends d l h) e = let z : ◌≡◌ {A = ℕ} 0 1 = cc in absurd (omega arith)
       go (wrong_end d l h) e = let z : ◌≡◌ {A = ℕ} 0 1 = cc in absurd (omega arith)
       go (no_card d l h) e = let z : ◌≡◌ {A = ℕ} 0 1 = cc in absurd (omega arith)
 
   -- 15 EXACTLY: no whole record stands where one is due, and no kind 2 record, nor the card, before.
-  pub cut_exactly : (at : ℕ) → (body_of s n ≡ Missing FileEnded at) ↔ ((cards : ℕ) × Due s cards at × (cards ≤ n) × (length (drop at s) < record_length (drop at s)))
+  pub cut_exactly : (at : ℕ) → (body_of s n ≡ missing_at FileEnded at) ↔ ((cards : ℕ) × Due s cards at × (cards ≤ n) × (length (drop at s) < record_length (drop at s)))
   cut_exactly at = (λ e. go (told s n) e, λ h. find_due s h.1 n h.2 ∙ step_cut n h.0 at (drop at s) h.3)
     where
-      go : {f : Found} → Told s n f → f ≡ Missing FileEnded at → (cards : ℕ) × Due s cards at × (cards ≤ n) × (length (drop at s) < record_length (drop at s))
-      go (file_ends {cards} {at = x} d l h) e = let p : x ≡ at = cc in (cards, rw p at d, l, rw p at h)
+      go : {f : Found} → Told s n f → f ≡ missing_at FileEnded at → (cards : ℕ) × Due s cards at × (cards ≤ n) × (length (drop at s) < record_length (drop at s))
+      go (file_ends {cards} {at = x} d l h) e = let p : x ≡ at = (same_missing e).1 in (cards, rw p at d, l, rw p at h)
       go (card c) e = let z : ◌≡◌ {A = ℕ} 0 1 = cc in absurd (omega arith)
       go (wrong_end d l h) e = absurd (omega (arith, ap found_number e))
       go (no_card d l h) e = absurd (omega (arith, ap found_number e))
 
   -- 16 EXACTLY: a kind 2 record of wrong length or number, and the card not before.
-  pub wrong_exactly : (at : ℕ) → (body_of s n ≡ Missing WrongEnd at) ↔ ((cards : ℕ) × EndAt s cards at × (cards ≤ n) × (Counts (drop at s) cards → ⊥))
+  pub wrong_exactly : (at : ℕ) → (body_of s n ≡ missing_at WrongEnd at) ↔ ((cards : ℕ) × EndAt s cards at × (cards ≤ n) × (Counts (drop at s) cards → ⊥))
   wrong_exactly at = (λ e. go (told s n) e, back)
     where
-      go : {f : Found} → Told s n f → f ≡ Missing WrongEnd at → (cards : ℕ) × EndAt s cards at × (cards ≤ n) × (Counts (drop at s) cards → ⊥)
-      go (wrong_end {cards} {at = x} d l h) e = let p : x ≡ at = cc in (cards, rw p at d, l, rw p at h)
+      go : {f : Found} → Told s n f → f ≡ missing_at WrongEnd at → (cards : ℕ) × EndAt s cards at × (cards ≤ n) × (Counts (drop at s) cards → ⊥)
+      go (wrong_end {cards} {at = x} d l h) e = let p : x ≡ at = (same_missing e).1 in (cards, rw p at d, l, rw p at h)
       go (card c) e = let z : ◌≡◌ {A = ℕ} 0 1 = cc in absurd (omega arith)
       go (file_ends d l h) e = absurd (omega (arith, ap found_number e))
       go (no_card d l h) e = absurd (omega (arith, ap found_number e))
 
-      back : (cards : ℕ) × EndAt s cards at × (cards ≤ n) × (Counts (drop at s) cards → ⊥) → body_of s n ≡ Missing WrongEnd at
+      back : (cards : ℕ) × EndAt s cards at × (cards ≤ n) × (Counts (drop at s) cards → ⊥) → body_of s n ≡ missing_at WrongEnd at
       back h =
           find_due s h.1.due n h.2
           ∙ step_wrong n h.0 at (drop at s) h.1.stands (end_kind (drop at s) h.1.kind) (not_ends (drop at s) h.0 h.3)
 
   -- 26 EXACTLY: a sound kind 2 record, and the card not before.
-  pub none_exactly : (at : ℕ) → (body_of s n ≡ Missing NoCard at) ↔ ((cards : ℕ) × EndAt s cards at × (cards ≤ n) × Counts (drop at s) cards)
+  pub none_exactly : (at : ℕ) → (body_of s n ≡ missing_at NoCard at) ↔ ((cards : ℕ) × EndAt s cards at × (cards ≤ n) × Counts (drop at s) cards)
   none_exactly at = (λ e. go (told s n) e, back)
     where
-      go : {f : Found} → Told s n f → f ≡ Missing NoCard at → (cards : ℕ) × EndAt s cards at × (cards ≤ n) × Counts (drop at s) cards
-      go (no_card {cards} {at = x} d l h) e = let p : x ≡ at = cc in (cards, rw p at d, l, rw p at h)
+      go : {f : Found} → Told s n f → f ≡ missing_at NoCard at → (cards : ℕ) × EndAt s cards at × (cards ≤ n) × Counts (drop at s) cards
+      go (no_card {cards} {at = x} d l h) e = let p : x ≡ at = (same_missing e).1 in (cards, rw p at d, l, rw p at h)
       go (card c) e = let z : ◌≡◌ {A = ℕ} 0 1 = cc in absurd (omega arith)
       go (file_ends d l h) e = absurd (omega (arith, ap found_number e))
       go (wrong_end d l h) e = absurd (omega (arith, ap found_number e))
 
-      back : (cards : ℕ) × EndAt s cards at × (cards ≤ n) × Counts (drop at s) cards → body_of s n ≡ Missing NoCard at
+      back : (cards : ℕ) × EndAt s cards at × (cards ≤ n) × Counts (drop at s) cards → body_of s n ≡ missing_at NoCard at
       back h =
           find_due s h.1.due n h.2
           ∙ step_ended n h.0 at (drop at s) h.1.stands (end_kind (drop at s) h.1.kind) (counts_ends (drop at s) h.0 h.3)

@@ -6,9 +6,8 @@ use native.Mathlib.Omega.{arith}
 use lib.ListN.{length, take, drop, length-drop}
 use lib.Seq.{drop-append-le, take-append-le}
 use Rattle.draft.specs.Bytes.{part}
-use Rattle.records.specs.declared.Found.{Found}
-use Rattle.records.specs.declared.Found.TheVariants.{Body}
-use Rattle.records.specs.Job.{body_length, record_length, find, body_of}
+use Rattle.records.specs.Job.{Found, body_at, record_length, find, body_of}
+use Rattle.records.proofs.Finding.{same_body}
 use Rattle.records.proofs.Trails.{Trail, cut, asked, ended, wrong, passed, other, trail}
 
 -- a body lies behind its record's first six bytes, and in the file
@@ -19,21 +18,20 @@ pub record Lies (at start size : ℕ) (s : List ℕ) : Type 0 where
 further : {at start size : ℕ} {s : List ℕ} → record_length s ≤ length s → Lies (at + record_length s) start size (drop (record_length s) s) → Lies at start size s
 further {s = s} w l = record { after = omega (arith, l.after); within = omega (arith, l.within, length-drop (record_length s) s) }
 
-trail_lies : {n cards at start size : ℕ} {s : List ℕ} {f : Found} → Trail n cards at s f → f ≡ Body start size → Lies at start size s
+trail_lies : {n cards at start size : ℕ} {s : List ℕ} {f : Found} → Trail n cards at s f → f ≡ body_at start size → Lies at start size s
 trail_lies (cut h) e = let z : ◌≡◌ {A = ℕ} 0 1 = cc in absurd (omega arith)
 trail_lies (ended w k i) e = let z : ◌≡◌ {A = ℕ} 0 1 = cc in absurd (omega arith)
 trail_lies (wrong w k i) e = let z : ◌≡◌ {A = ℕ} 0 1 = cc in absurd (omega arith)
 trail_lies {at = at} {start = start} {size = size} {s = s} (asked w k i) e =
-    let p : at + 6 ≡ start = cc in
-    let q : body_length s ≡ size = cc in
-    record { after = omega arith; within = omega arith }
+    let i = same_body e in
+    record { after = omega (arith, i.0); within = omega (arith, i.0, i.1) }
 trail_lies (passed w k i t) e = further w (trail_lies t e)
 trail_lies (other w k t) e = further w (trail_lies t e)
 
-pub lies_from : (n cards at : ℕ) (s : List ℕ) {start size : ℕ} → find n cards at 0 s ≡ Body start size → Lies at start size s
+pub lies_from : (n cards at : ℕ) (s : List ℕ) {start size : ℕ} → find n cards at 0 s ≡ body_at start size → Lies at start size s
 lies_from n cards at s e = trail_lies (trail n cards at s) e
 
-pub lies : (s : List ℕ) (n : ℕ) {start size : ℕ} → body_of s n ≡ Body start size → start + size ≤ length s
+pub lies : (s : List ℕ) (n : ℕ) {start size : ℕ} → body_of s n ≡ body_at start size → start + size ≤ length s
 lies s n e = omega (arith, (lies_from n 0 0 s e).within)
 
 -- what lies in u has the bytes of u, whatever follows

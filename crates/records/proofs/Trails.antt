@@ -8,19 +8,16 @@ use lib.ListN.{length, drop, length-drop}
 use borrow.Author.Tests.{le-leb, lt-leb, eq-eqb, ne_eqb}
 use Rattle.records.specs.declared.Kind.TheVariants.{Card, End, Other}
 use Rattle.records.specs.declared.JobRefusal.TheVariants.{FileEnded, WrongEnd, NoCard}
-use Rattle.records.specs.declared.Found.{Found}
-use Rattle.records.specs.declared.Found.TheVariants.{Body, Missing}
-use Rattle.records.specs.declared.Look.{Look}
-use Rattle.records.specs.Job.{kind_at, body_length, record_length, ends_with, look_at, onward, find}
+use Rattle.records.specs.Job.{Found, Look, body_at, missing_at, kind_at, body_length, record_length, ends_with, look_at, onward, find}
 use Rattle.records.proofs.Finding.{Looked, looked, find_step}
 use Rattle.records.proofs.Finding as look
 
 -- asking for card n, from the record at a place on, with so many cards before it
 pub data Trail (n : ℕ) : ℕ → ℕ → List ℕ → Found → Type 0 where
-  cut : {cards at : ℕ} {s : List ℕ} → length s < record_length s → Trail n cards at s (Missing FileEnded at)
-  asked : {cards at : ℕ} {s : List ℕ} → record_length s ≤ length s → kind_at s ≡ Card → cards ≡ n → Trail n cards at s (Body (at + 6) (body_length s))
-  ended : {cards at : ℕ} {s : List ℕ} → record_length s ≤ length s → kind_at s ≡ End → ends_with s cards ≡ true → Trail n cards at s (Missing NoCard at)
-  wrong : {cards at : ℕ} {s : List ℕ} → record_length s ≤ length s → kind_at s ≡ End → ends_with s cards ≡ false → Trail n cards at s (Missing WrongEnd at)
+  cut : {cards at : ℕ} {s : List ℕ} → length s < record_length s → Trail n cards at s (missing_at FileEnded at)
+  asked : {cards at : ℕ} {s : List ℕ} → record_length s ≤ length s → kind_at s ≡ Card → cards ≡ n → Trail n cards at s (body_at (at + 6) (body_length s))
+  ended : {cards at : ℕ} {s : List ℕ} → record_length s ≤ length s → kind_at s ≡ End → ends_with s cards ≡ true → Trail n cards at s (missing_at NoCard at)
+  wrong : {cards at : ℕ} {s : List ℕ} → record_length s ≤ length s → kind_at s ≡ End → ends_with s cards ≡ false → Trail n cards at s (missing_at WrongEnd at)
   passed : {cards at : ℕ} {s : List ℕ} {f : Found} → record_length s ≤ length s → kind_at s ≡ Card → (cards ≡ n → ⊥) → Trail n (cards + 1) (at + record_length s) (drop (record_length s) s) f → Trail n cards at s f
   other : {cards at : ℕ} {s : List ℕ} {f : Found} → record_length s ≤ length s → kind_at s ≡ Other → Trail n cards (at + record_length s) (drop (record_length s) s) f → Trail n cards at s f
 
@@ -48,7 +45,7 @@ trail n cards at s = trail_within (length s) n cards at s (omega arith)
 
 -- and back: each record that is passed is a step of the definition
 module _ (n cards at : ℕ) (s : List ℕ) (w : record_length s ≤ length s) where
-  pub step_asked : kind_at s ≡ Card → cards ≡ n → find n cards at 0 s ≡ Body (at + 6) (body_length s)
+  pub step_asked : kind_at s ≡ Card → cards ≡ n → find n cards at 0 s ≡ body_at (at + 6) (body_length s)
   unfolding look_at
   step_asked k e = find_step n cards at s ∙ rw (le-leb _ _ w, k, eq-eqb _ _ e)
 
@@ -60,14 +57,14 @@ module _ (n cards at : ℕ) (s : List ℕ) (w : record_length s ≤ length s) wh
   unfolding look_at
   step_other k = find_step n cards at s ∙ rw (le-leb _ _ w, k)
 
-  pub step_ended : kind_at s ≡ End → ends_with s cards ≡ true → find n cards at 0 s ≡ Missing NoCard at
+  pub step_ended : kind_at s ≡ End → ends_with s cards ≡ true → find n cards at 0 s ≡ missing_at NoCard at
   unfolding look_at
   step_ended k e = find_step n cards at s ∙ rw (le-leb _ _ w, k, e)
 
-  pub step_wrong : kind_at s ≡ End → ends_with s cards ≡ false → find n cards at 0 s ≡ Missing WrongEnd at
+  pub step_wrong : kind_at s ≡ End → ends_with s cards ≡ false → find n cards at 0 s ≡ missing_at WrongEnd at
   unfolding look_at
   step_wrong k e = find_step n cards at s ∙ rw (le-leb _ _ w, k, e)
 
-pub step_cut : (n cards at : ℕ) (s : List ℕ) → length s < record_length s → find n cards at 0 s ≡ Missing FileEnded at
+pub step_cut : (n cards at : ℕ) (s : List ℕ) → length s < record_length s → find n cards at 0 s ≡ missing_at FileEnded at
 unfolding look_at
 step_cut n cards at s h = find_step n cards at s ∙ rw (lt-leb (record_length s) (length s) h)

@@ -8,8 +8,7 @@ use borrow.Author.Tests.{lt-ltb, le-ltb, eq-eqb, ne_eqb}
 use Rattle.draft.specs.declared.Refusal.TheVariants.{Ended}
 use Rattle.draft.specs.Codebook.{Book}
 use Rattle.draft.specs.Read.{over, value, fault_struct, response_item}
-use Rattle.item.specs.declared.Step.{Step}
-use Rattle.item.specs.Contract.{refused_at, Did}
+use Rattle.item.specs.Contract.{Step, refused_at, Did}
 use Rattle.item.proofs.Readings.{done, did_no, did_ends, opened_full, opened_on, over_closed}
 use Rattle.item.proofs.Items.{ahead_next, one_in}
 use Rattle.member_keys.proofs.Keying.{prepared_blank, done_did}

@@ -2,23 +2,20 @@
 // reader's or the writer's, is a line on standard error, and nothing is written then.
 #![tactic(auto)]
 
-use console::Input;
-
 fn complain(rt: &HostRuntime, number: u8, place: usize) {
     let mut space = [0u8; 160];
-    let line: &mut [u8] = &mut space;
-    let n = lines::put_refusal(line, 0, number, place);
-    console::complain(rt, content::part(line, 0, n));
+    let n = lines::put_refusal(&mut space, 0, number, place);
+    console::complain(rt, content::part(&space, 0, n));
 }
 
 // The written form of a table that was read, whose texts lie in its message.
 fn write_form(rt: &HostRuntime, table: &[u32], rows: usize, message: &[u8], output: &mut [u8]) {
     let answer = writer::write(table, rows, message, draft::MOST_NESTING, output);
     match answer {
-        write_answer::Answer::Written { length } => {
+        Ok(length) => {
             console::write(rt, content::part(output, 0, length));
         }
-        write_answer::Answer::Refused(refusal) => {
+        Err(refusal) => {
             complain(rt, draft::number(refusal), 0);
         }
     }
@@ -38,19 +35,10 @@ fn rewrite(rt: &HostRuntime, message: &[u8]) {
     }
 }
 
-fn rewrite_input(rt: &HostRuntime, room: &mut [u8]) {
-    let input = console::read_input(rt, b"usage: rewrite [FILE]\n", room);
-    match input {
-        Input::Bytes(n) => {
-            rewrite(rt, content::part(room, 0, n));
-        }
-        Input::Failed(_) => {}
-        Input::Told => {}
-    }
-}
-
 // A message over 65,536 bytes is refused, so no more than one byte past that is kept of it.
 fn main(rt: HostRuntime) {
     let mut room = [0u8; 65537];
-    rewrite_input(&rt, &mut room);
+    if let Ok(message) = console::read_input(&rt, b"usage: rewrite [FILE]\n", &mut room) {
+        rewrite(&rt, message);
+    }
 }

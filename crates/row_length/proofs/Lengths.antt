@@ -1,7 +1,8 @@
 -- What answers each return of the functions that say how long a row's item is. Assumes nothing.
 use Prim.Native.Nat.{ℕ, suc, ◌+◌, ◌≤◌}
-use mathlib.Core.Path.{◌≡◌, ◌∙◌}
+use mathlib.Core.Path.{◌≡◌, refl, ◌∙◌}
 use mathlib.Core.List.{List}
+use mathlib.Core.Logic.{◌⊎◌, inl, inr}
 use native.Mathlib.Omega.{arith}
 use lib.ListN.{length, length-take, length-drop}
 use Rattle.draft.specs.declared.Content.{Content}
@@ -31,11 +32,24 @@ pub item_content_long : (s : List ℕ) (x : Row) {i : Item} (c : Content) → i 
 item_content_long s x c e f g h = item_long s x (item.Content c) e f (h ∙ rw g)
 
 -- the lengths of what is put
-pub short_long : (t : List ℕ) → 2 + length t ≡ suc (suc (length t))
-short_long t = omega arith
-
 pub number_long : (n : ℕ) → 5 ≡ suc (length (lsb n))
 number_long n = omega (arith, lsb_four n)
+
+-- items of one length
+module _ (s : List ℕ) (x : Row) {i : Item} (e : i ≡ item_of x.kind) where
+  pub one_long : (i ≡ item.Call) ⊎ ((i ≡ item.Response) ⊎ ((i ≡ item.Boolean) ⊎ (i ≡ item.Other))) → 1 ≡ length (item_bytes s x)
+  one_long (inl f) = item_long s x item.Call e f refl
+  one_long (inr (inl f)) = item_long s x item.Response e f refl
+  one_long (inr (inr (inl f))) = item_long s x item.Boolean e f refl
+  one_long (inr (inr (inr f))) = item_long s x item.Other e f refl
+
+  pub five_long : (i ≡ item.Integer) ⊎ ((i ≡ item.Array) ⊎ (i ≡ item.Struct)) → 5 ≡ length (item_bytes s x)
+  five_long (inl f) = item_long s x item.Integer e f (number_long x.a)
+  five_long (inr (inl f)) = item_long s x item.Array e f (number_long x.b)
+  five_long (inr (inr f)) = item_long s x item.Struct e f (number_long x.b)
+
+pub short_long : (t : List ℕ) → 2 + length t ≡ suc (suc (length t))
+short_long t = omega arith
 
 pub counted_long : (t : List ℕ) → 5 + length t ≡ suc (length (counted t))
 counted_long t = omega (arith, counted_length t)

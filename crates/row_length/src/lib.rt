@@ -12,8 +12,7 @@ fn content_length(content: Content, t: &[u8]) -> usize
     ensures { result ≡ length (content_bytes content t.now) }
 {
     match content {
-        Content::Double => 2 + t.len(),
-        Content::DateTime => 2 + t.len(),
+        Content::Double | Content::DateTime => 2 + t.len(),
         Content::Binary => 5 + t.len(),
         Content::Text => 0,
     }
@@ -24,20 +23,14 @@ pub fn item_length(text: &[u8], row: Row) -> usize
     requires { length text.now ≤ 65536 }
     ensures { result ≡ length (item_bytes text.now row) }
 {
-    let item = draft::item_of(row.kind);
-    match item {
-        Item::Call => 1,
-        Item::Response => 1,
+    match draft::item_of(row.kind) {
+        Item::Call | Item::Response | Item::Boolean | Item::Other => 1,
         Item::Fault => 2,
-        Item::Integer => 5,
-        Item::Boolean => 1,
+        Item::Integer | Item::Array | Item::Struct => 5,
         Item::Content(content) => content_length(
             content,
             content::part(text, row.a as usize, row.b as usize),
         ),
-        Item::Array => 5,
-        Item::Struct => 5,
-        Item::Other => 1,
         Item::Unknown => 0,
     }
 }

@@ -33,18 +33,15 @@ fn most_below(s: &[u8], at: usize) -> bool
     many_below(s, at) & many_below(s, at + 64) & many_below(s, at + 128) & many_below(s, at + 192)
 }
 
+// Stays: the place moves by as many bytes as a turn looks at, and it is what is answered; chunks_exact gives chunks, and no place.
 // Past bytes below 128, 256 a turn.
 fn past_most(s: &[u8], from: usize) -> usize
     requires { from ≤ length s.now }
     ensures { Run s.now from result }
 {
     let mut at = from;
-    while 256 <= s.len() - at {
-        if most_below(s, at) {
-            at += 256;
-        } else {
-            return at;
-        }
+    while 256 <= s.len() - at && most_below(s, at) {
+        at += 256;
     }
     at
 }
@@ -55,12 +52,8 @@ fn past_many(s: &[u8], from: usize) -> usize
     ensures { Run s.now from result }
 {
     let mut at = from;
-    while 64 <= s.len() - at {
-        if many_below(s, at) {
-            at += 64;
-        } else {
-            return at;
-        }
+    while 64 <= s.len() - at && many_below(s, at) {
+        at += 64;
     }
     at
 }
@@ -71,12 +64,8 @@ fn past_eights(s: &[u8], from: usize) -> usize
     ensures { Run s.now from result }
 {
     let mut at = from;
-    while 8 <= s.len() - at {
-        if eight_below(s, at) {
-            at += 8;
-        } else {
-            return at;
-        }
+    while 8 <= s.len() - at && eight_below(s, at) {
+        at += 8;
     }
     at
 }
@@ -86,10 +75,8 @@ fn past_run(s: &[u8], from: usize) -> usize
     requires { from ≤ length s.now }
     ensures { Run s.now from result }
 {
-    if 8 <= s.len() - from {
-        if eight_below(s, from) {
-            return past_eights(s, past_many(s, past_most(s, from + 8)));
-        }
+    if 8 <= s.len() - from && eight_below(s, from) {
+        return past_eights(s, past_many(s, past_most(s, from + 8)));
     }
     from
 }
@@ -114,10 +101,8 @@ fn past_last(s: &[u8], from: usize) -> usize
     if end < 8 {
         return past_singles(s, from);
     }
-    if end - from < 8 {
-        if eight_below(s, end - 8) {
-            return end;
-        }
+    if end - from < 8 && eight_below(s, end - 8) {
+        return end;
     }
     from
 }

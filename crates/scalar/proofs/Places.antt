@@ -7,19 +7,18 @@ use lib.Dec.{leb, ltb, eqb}
 use lib.ListN.{length}
 use borrow.Author.Tests.{leb-true, ltb-true}
 use Rattle.draft.specs.declared.Refusal.TheVariants.{Ended, NoRow}
-use Rattle.draft.specs.declared.Verdict.{Verdict}
-use Rattle.draft.specs.declared.Verdict.TheVariants.{Fine, Bad}
+use Rattle.draft.specs.Verdict.{Verdict}
+use Rattle.std.specs.Prelude.{Ok, Err}
 use Rattle.draft.specs.declared.Content.{Content}
 use Rattle.draft.specs.declared.Content.TheVariants as content
-use Rattle.draft.specs.declared.Entry.{Entry}
-use Rattle.draft.specs.declared.Entry.TheVariants.{Unset, Text}
+use Rattle.std.specs.Prelude.{Some, None}
 use Rattle.draft.specs.declared.Tag.{Tag}
 use Rattle.draft.specs.declared.Tag.TheVariants.{Plain, String, Array, Struct, Unknown}
 use Rattle.draft.specs.declared.Plain.TheVariants.{Integer, True, False, Double, DateTime, Binary, Other}
 use Rattle.draft.specs.declared.Form.TheVariants.{Regular, Recorded, Recalled}
 use Rattle.draft.specs.declared.Row.{Row}
 use Rattle.draft.specs.Bytes.{byte_at}
-use Rattle.draft.specs.Codebook.{Book}
+use Rattle.draft.specs.Codebook.{Entry, Book}
 use Rattle.draft.specs.Content.{verdict, all_there, content_rule, name_rule}
 use Rattle.draft.specs.Read.{Reading, got, refused, Reader, then, judged, behind, pair, over, opened, present, contents, long_item, recalled, if_string, string, first_text, string_by, name, only, floor, item, tag_of}
 
@@ -41,8 +40,8 @@ behind_in s rows (refused m p) i = i
 behind_in s rows (got others to book) i = i
 
 judged_in : (s : List ℕ) (v : Verdict) (at : ℕ) (o : Reading) → at ≤ length s → In s o → In s (judged v at o)
-judged_in s Fine at o h i = i
-judged_in s (Bad m) at o h i = h
+judged_in s (Ok tt) at o h i = i
+judged_in s (Err m) at o h i = h
 
 then_in : (s : List ℕ) (o : Reading) (more : List Row → ℕ → Book → Reading) → In s o → ((rows : List Row) (to : ℕ) (book : Book) → to ≤ length s → In s (more rows to book)) → In s (then o more)
 then_in s (refused m p) more i f = i
@@ -65,8 +64,8 @@ module _ (s : List ℕ) (room : ℕ) where
   contents_in c o n at r book h = there_in s (leb (o + n) (length s)) (content_rule c _) at _ h (λ e. leb-true (o + n) (length s) e)
 
   recalled_in : (e : Entry) (at r : ℕ) (book : Book) → at ≤ length s → at + 2 ≤ length s → In s (recalled s room e at r book)
-  recalled_in Unset at r book h k = h
-  recalled_in (Text o n) at r book h k = k
+  recalled_in None at r book h k = h
+  recalled_in (Some x) at r book h k = k
 
   if_string_in : (t : Tag) (at r : ℕ) (book : Book) → at ≤ length s → In s (if_string s room t at r book)
   if_string_in (String Regular) at r book h = opened_in 5 at r _ h (λ _. contents_in content.Text _ _ at r book h)

@@ -17,8 +17,7 @@ use Rattle.draft.specs.Codebook.{Book}
 use Rattle.draft.specs.Read.{Nest, floor, tag_of, integer_item, boolean_item, short_item, long_item, recorded_item, recalled_item, other_item, item}
 use Rattle.codebook.specs.Words.{book_of}
 use Rattle.item.proofs.Tags.{tag_integer, tag_true, tag_false, tag_double, tag_date, tag_binary, tag_other, tag_regular, tag_recorded, tag_recalled, tag_unknown}
-use Rattle.item.specs.declared.Step.{Step}
-use Rattle.item.specs.Contract.{refused_at, Did, Stored}
+use Rattle.item.specs.Contract.{Step, refused_at, Did, Stored}
 use Rattle.item.proofs.Readings.{done, did_no}
 use Rattle.scalar.specs.Words.{fixed_size}
 

@@ -9,13 +9,12 @@ use lib.Dec.{ltb}
 use lib.ListN.{length, get_or}
 use borrow.Author.Tests.{lt-ltb, le-ltb, ltb-true, ltb-false}
 use Rattle.member.specs.declared.Member.{Member}
-use Rattle.order.specs.declared.Relation.{Relation}
-use Rattle.order.specs.declared.Relation.TheVariants.{Before, Equal, After}
+use Rattle.std.proofs.Common.{Ordering, Less, Equal, Greater}
 use Rattle.order.proofs.Ordering.{before_equal, equal_after}
 use Rattle.seeking.specs.declared.Search.{Search}
 use Rattle.seeking.specs.Seeking.{over, search as searchAt, middle, between, ended, begun, turned, unused, stepped, searched}
 
-module _ (relation : Member → Relation) (named : Member → Bool) (es : List Member) where
+module _ (relation : Member → Ordering) (named : Member → Bool) (es : List Member) where
   abbrev entry : ℕ → Member
   entry i = get_or es i unused
 
@@ -37,11 +36,11 @@ module _ (relation : Member → Relation) (named : Member → Bool) (es : List M
   any_step zero st o = o
   any_step (suc left) st o = go (λ s p. any_step left s p) (ltb st.at (length es)) refl
     where
-      turn : st.at < length es → (r : Relation) → relation (entry st.at) ≡ r → (b : Bool) → named (entry st.at) ≡ b → Outcome (turned r b st (entry st.at))
-      turn h Before e b f = nothing refl
+      turn : st.at < length es → (r : Ordering) → relation (entry st.at) ≡ r → (b : Bool) → named (entry st.at) ≡ b → Outcome (turned r b st (entry st.at))
+      turn h Less e b f = nothing refl
       turn h Equal e true f = found st.at h e f refl
       turn h Equal e false f = nothing refl
-      turn h After e b f = nothing refl
+      turn h Greater e b f = nothing refl
 
       go : ((s : Search) → Outcome s → Outcome (searched relation named es left s)) → (b : Bool) → ltb st.at (length es) ≡ b
           → Outcome (cond b (searched relation named es left (stepped relation named st (entry st.at))) st)
@@ -55,8 +54,8 @@ module _ (relation : Member → Relation) (named : Member → Bool) (es : List M
 
   -- ---- a list in order: what is before stands before the rest, and what is after behind it
   pub record InOrder : Type 0 where
-    pub down : (i j : ℕ) → i ≤ j → j < length es → relation (entry j) ≡ Before → relation (entry i) ≡ Before
-    pub up : (i j : ℕ) → i ≤ j → j < length es → relation (entry i) ≡ After → relation (entry j) ≡ After
+    pub down : (i j : ℕ) → i ≤ j → j < length es → relation (entry j) ≡ Less → relation (entry i) ≡ Less
+    pub up : (i j : ℕ) → i ≤ j → j < length es → relation (entry i) ≡ Greater → relation (entry j) ≡ Greater
     pub mine : (i : ℕ) → i < length es → relation (entry i) ≡ Equal → named (entry i) ≡ true
 
   -- an entry that stands equal was found; or there is none
@@ -69,8 +68,8 @@ module _ (relation : Member → Relation) (named : Member → Bool) (es : List M
     record Narrowed (low high : ℕ) : Type 0 where
       inside : low ≤ high
       most : high ≤ length es
-      below : (i : ℕ) → i < low → relation (entry i) ≡ Before
-      above : (i : ℕ) → high ≤ i → i < length es → relation (entry i) ≡ After
+      below : (i : ℕ) → i < low → relation (entry i) ≡ Less
+      above : (i : ℕ) → high ≤ i → i < length es → relation (entry i) ≡ Greater
 
     missing : {low high : ℕ} → Narrowed low high → high ≤ low → (i : ℕ) → i < length es → relation (entry i) ≡ Equal → ⊥
     missing {low} {high} w h i l e = go (ltb i low) refl
@@ -100,8 +99,8 @@ module _ (relation : Member → Relation) (named : Member → Bool) (es : List M
         unfolding searched
         looks = ap (searched relation named es (suc left)) (halves low high l) ∙ rw (lt-ltb m (length es) (omega (arith, w.most)))
 
-        turns : (r : Relation) → relation (entry m) ≡ r → (b : Bool) → named (entry m) ≡ b → Sought (searched relation named es left (turned r b (searchAt m low high 0) (entry m)))
-        turns Before f b g =
+        turns : (r : Ordering) → relation (entry m) ≡ r → (b : Bool) → named (entry m) ≡ b → Sought (searched relation named es left (turned r b (searchAt m low high 0) (entry m)))
+        turns Less f b g =
             ih (m + 1) high (omega arith) (record {
               inside = omega arith;
               most = w.most;
@@ -110,7 +109,7 @@ module _ (relation : Member → Relation) (named : Member → Bool) (es : List M
             })
         turns Equal f true g = rw (stays left (ended (entry m).value) fits) (hit m (omega (arith, w.most)) f refl)
         turns Equal f false g = absurd (let k = ord.mine m (omega (arith, w.most)) f in let z : ◌≡◌ {A = ℕ} 0 1 = cc in omega arith)
-        turns After f b g =
+        turns Greater f b g =
             ih low m (omega arith) (record {
               inside = omega arith;
               most = omega (arith, w.most);

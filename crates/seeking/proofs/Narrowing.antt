@@ -8,8 +8,7 @@ use lib.Dec.{ltb}
 use lib.ListN.{length, get_or}
 use borrow.Author.Tests.{lt-ltb, le-ltb, ltb-true}
 use Rattle.member.specs.declared.Member.{Member}
-use Rattle.order.specs.declared.Relation.{Relation}
-use Rattle.order.specs.declared.Relation.TheVariants.{Before, Equal, After}
+use Rattle.std.proofs.Common.{Ordering, Less, Equal, Greater}
 use Rattle.seeking.specs.declared.Search.{Search}
 use Rattle.seeking.specs.Seeking.{over, search as searchAt, middle, between, ended, begun, turned, unused, stepped, searched}
 
@@ -62,16 +61,16 @@ either P false p q = q
 abbrev Next : Search → Search → Type 0
 Next st r = Fine r × (span r < span st)
 
-module _ (relation : Member → Relation) (named : Member → Bool) where
+module _ (relation : Member → Ordering) (named : Member → Bool) where
   module _ (st : Search) (e : Member) (low : st.low ≤ st.at) (high : st.at < st.high) where
     pub narrows : Next st (stepped relation named st e)
     unfolding stepped
     narrows = go (relation e)
       where
-        go : (r : Relation) → Next st (turned r (named e) st e)
-        go Before = (fine_between (st.at + 1) st.high, omega arith)
+        go : (r : Ordering) → Next st (turned r (named e) st e)
+        go Less = (fine_between (st.at + 1) st.high, omega arith)
         go Equal = either (Next st) (named e) (fine_ended e.value, omega arith) (fine_ended 0, omega arith)
-        go After = (fine_between st.low st.at, omega arith)
+        go Greater = (fine_between st.low st.at, omega arith)
 
   -- where a search stands that is wanted or not: no more than `left` steps are left
   pub record Seeking (es : List Member) (wanted : Bool) (left : ℕ) (st : Search) : Type 0 where

@@ -3,8 +3,8 @@
 use Rattle.std.specs.Prelude.{Bool, cond, List, ℕ, zero, suc, ◌+◌, ◌-◌, ◌/◌, ltb, length, get_or}
 use Rattle.member.specs.declared.Member.{Member}
 use Rattle.member.specs.Members.{member_of}
-use Rattle.order.specs.declared.Relation.{Relation}
-use Rattle.order.specs.declared.Relation.TheVariants.{Before, Equal, After}
+use Rattle.std.specs.declared.cmp.Ordering.{Ordering}
+use Rattle.std.specs.declared.cmp.Ordering.TheVariants.{Less, Equal, Greater}
 use Rattle.seeking.specs.declared.Search.{Search}
 
 -- no entry's number: the search is over
@@ -30,16 +30,16 @@ unfoldable pub begun : Bool → ℕ → Search
 begun wanted n = cond wanted (between 0 n) (ended 0)
 
 -- an entry that stands so, with its rows a member's or not, leads on behind it, to the end, or on before it
-abbrev pub turned : Relation → Bool → Search → Member → Search
-turned Before named st e = between (st.at + 1) st.high
+abbrev pub turned : Ordering → Bool → Search → Member → Search
+turned Less named st e = between (st.at + 1) st.high
 turned Equal named st e = cond named (ended e.value) (ended 0)
-turned After named st e = between st.low st.at
+turned Greater named st e = between st.low st.at
 
 -- an entry that is not used
 abbrev pub unused : Member
 unused = member_of 0 0
 
-module _ (relation : Member → Relation) (named : Member → Bool) where
+module _ (relation : Member → Ordering) (named : Member → Bool) where
   -- one entry is looked at
   unfoldable pub stepped : Search → Member → Search
   stepped st e = turned (relation e) (named e) st e

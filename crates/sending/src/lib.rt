@@ -19,15 +19,11 @@ pub fn collect(table: &[u32], room: usize, rows: usize, strings: &mut [u16]) -> 
     ensures { Collected (row_at room table.now) rows strings.new result }
 {
     let mut n = 0;
-    let mut r = 0;
-    while r < rows {
+    for r in 0..rows {
         let row = table::get_row(table, room, r);
         if row.kind == 11 {
             strings[n] = r as u16;
             n += 1;
-            r += 1;
-        } else {
-            r += 1;
         }
     }
     n
@@ -47,8 +43,7 @@ pub fn string_length(
     ensures { Takes (row_at room table.now) text.now strings.now firsts.now spots.now j result }
 {
     let t = buckets::text_of(table, room, strings, text, j);
-    let sending = positions::sending_of(firsts, spots, j);
-    match sending {
+    match positions::sending_of(firsts, spots, j) {
         Sending::Regular => 5 + t.len(),
         Sending::Recorded(_) => 6 + t.len(),
         Sending::Recalled(_) => 2,
@@ -71,8 +66,7 @@ pub fn put_string(
     ensures { Tried (string_bytes (told firsts.now spots.now j (numbered_text (row_at room table.now) strings.now text.now j))) most out.old out.new result }
 {
     let t = buckets::text_of(table, room, strings, text, j);
-    let sending = positions::sending_of(firsts, spots, j);
-    match sending {
+    match positions::sending_of(firsts, spots, j) {
         Sending::Regular => output::try_long(out, most, b'U', t),
         Sending::Recorded(p) => output::try_recorded(out, most, p, t),
         Sending::Recalled(p) => output::try_two(out, most, b'<', p),

@@ -1,9 +1,9 @@
 -- Request E10: a table split at a row number, a station's share of it, and what a call on that share leaves of the table. Assumes nothing.
-use Rattle.std.specs.Prelude.{Bool, ◌&&◌, ◌||◌, cond, List, ◌++◌, ℕ, ◌-◌, ◌*◌, ◌/◌, length, take, drop, ltb, eqb}
+use Rattle.std.specs.Prelude.{Bool, ◌&&◌, ◌||◌, cond, List, ◌++◌, ℕ, ◌-◌, ◌*◌, ◌/◌, length, take, drop, ltb, eqb, Result, Ok, Err}
+use Rattle.std.specs.declared.ops.Range.{Range}
 use Rattle.shares.specs.declared.Station.{Station}
 use Rattle.shares.specs.declared.Station.TheVariants.{Four, Five}
-use Rattle.shares.specs.declared.Share.{Share}
-use Rattle.shares.specs.declared.Share.TheVariants.{Words, NotSplit}
+use Rattle.shares.specs.declared.NotSplit.{NotSplit}
 
 abbrev pub other : Station → Station
 other Four = Five
@@ -37,8 +37,16 @@ end_word Five split words = whole_rows words * 4
 unfoldable pub size_of : Station → ℕ → ℕ → ℕ
 size_of station split words = end_word station split words - first_word station split
 
-unfoldable pub share_for : ℕ → ℕ → Station → Share
-share_for words split station = cond (splits split words) (Words (first_word station split) (end_word station split words)) NotSplit
+-- the words from `start` up to `end`, and that there are none, which is 22
+abbrev pub words_between : ℕ → ℕ → Range ℕ
+words_between start end = record { start = start; end = end }
+
+abbrev pub no_share : NotSplit
+no_share = record {}
+
+unfoldable pub share_for : ℕ → ℕ → Station → Result (Range ℕ) NotSplit
+share_for words split station =
+    cond (splits split words) (Ok (words_between (first_word station split) (end_word station split words))) (Err no_share)
 
 -- the share's words in a table
 unfoldable pub share_of : Station → ℕ → List ℕ → List ℕ

@@ -14,15 +14,12 @@ pub fn past_singles(s: &[u8], from: usize) -> usize
     requires { from ≤ length s.now }
     ensures { Run s.now from result }
 {
-    let mut at = from;
-    while at < s.len() {
-        if s[at] < 128 {
-            at += 1;
-        } else {
+    for at in from..s.len() {
+        if !s[at].is_ascii() {
             return at;
         }
     }
-    at
+    s.len()
 }
 
 // Whether the four bytes at `at` are below 128. No branch stands between them.

@@ -7,11 +7,12 @@ use native.Mathlib.Omega.{arith}
 use lib.ListN.{length, get_or}
 use lib.Dec.{eqb}
 use borrow.Author.Tests.{eq-eqb, eqb-true}
-use Rattle.order.specs.declared.Relation.{Relation}
-use Rattle.order.specs.declared.Relation.TheVariants as relation
+use Rattle.std.proofs.Common.{Ordering}
+use Rattle.std.specs.declared.cmp.Ordering.TheVariants as relation
+use Rattle.std.specs.Ordering.{is_lt}
 use Rattle.order.specs.ByteOrder.{compared}
-use Rattle.order.proofs.Ordering.{Less, compared_self, less_not, less_le, before_equal}
-use Rattle.sorting.specs.Sorting.{is_before, insert_at, before, spot, inserted, sorted, Rising}
+use Rattle.order.proofs.Ordering.{Earlier, compared_self, less_not, less_le, before_equal}
+use Rattle.sorting.specs.Sorting.{insert_at, before, spot, inserted, sorted, Rising}
 
 -- ---- what is where after an insertion
 
@@ -61,23 +62,23 @@ where_is (suc p) (suc i) = go (where_is p i)
 module _ (text : ℕ → List ℕ) where
   -- ---- before, as a test and as a fact
 
-  pub before_less : (k j : ℕ) → before text k j ≡ true → Less (text k) (text j)
+  pub before_less : (k j : ℕ) → before text k j ≡ true → Earlier (text k) (text j)
   unfolding before
   before_less k j e = go (compared (text k) (text j)) refl e
     where
-      go : (r : Relation) → compared (text k) (text j) ≡ r → is_before r ≡ true → compared (text k) (text j) ≡ relation.Before
-      go relation.Before f g = f
+      go : (r : Ordering) → compared (text k) (text j) ≡ r → is_lt r ≡ true → compared (text k) (text j) ≡ relation.Less
+      go relation.Less f g = f
       go relation.Equal f g = absurd (let z : ◌≡◌ {A = ℕ} 0 1 = cc in omega arith)
-      go relation.After f g = absurd (let z : ◌≡◌ {A = ℕ} 0 1 = cc in omega arith)
+      go relation.Greater f g = absurd (let z : ◌≡◌ {A = ℕ} 0 1 = cc in omega arith)
 
-  pub less_before : (k j : ℕ) → Less (text k) (text j) → before text k j ≡ true
+  pub less_before : (k j : ℕ) → Earlier (text k) (text j) → before text k j ≡ true
   unfolding before
   less_before k j e = rw e
 
-  pub before_not : (k j : ℕ) → before text k j ≡ false → Less (text k) (text j) → ⊥
+  pub before_not : (k j : ℕ) → before text k j ≡ false → Earlier (text k) (text j) → ⊥
   before_not k j e f = let g = less_before k j f in let z : ◌≡◌ {A = ℕ} 0 1 = cc in omega arith
 
-  pub not_before : (k j : ℕ) → (Less (text k) (text j) → ⊥) → before text k j ≡ false
+  pub not_before : (k j : ℕ) → (Earlier (text k) (text j) → ⊥) → before text k j ≡ false
   not_before k j f = go (before text k j) refl
     where
       go : (b : Bool) → before text k j ≡ b → b ≡ false

@@ -19,26 +19,25 @@ next_there (suc i) z [] h = absurd (omega arith)
 next_there (suc i) z (x ∷ xs) h = next_there i z xs (omega arith)
 
 module _ (text : ℕ → List ℕ) where
-  -- i of those behind the first, which is row k, have moved, none of which it is before
-  pub record Settling (o : List ℕ) (first k i : ℕ) (rows : List ℕ) : Type 0 where
+  -- i of those behind the first have moved, none of which it is before
+  pub record Settling (o : List ℕ) (first i : ℕ) (rows : List ℕ) : Type 0 where
     pub others : List ℕ
     pub whole : o ≡ first ∷ others
-    pub named : k ≡ first
     pub free : ℕ
     pub is : rows ≡ take i others ++ (free ∷ drop i others)
     pub goes : inserted text first others ≡ take i others ++ inserted text first (drop i others)
     pub inside : i < length rows
     pub long : length rows ≡ length o
 
-  pub settle_first : (o : List ℕ) {first k : ℕ} → 0 < length o → first ≡ get_or o 0 0 → k ≡ first → Settling o first k 0 o
-  settle_first [] h e f = absurd (omega arith)
-  settle_first (x ∷ o) {first} h e f = record { others = o; whole = rw e; named = f; free = x; is = refl; goes = refl; inside = omega arith; long = refl }
+  pub settle_first : (o : List ℕ) {first : ℕ} → 0 < length o → first ≡ get_or o 0 0 → Settling o first 0 o
+  settle_first [] h e = absurd (omega arith)
+  settle_first (x ∷ o) {first} h e = record { others = o; whole = rw e; free = x; is = refl; goes = refl; inside = omega arith; long = refl }
 
   settled_is : (k : ℕ) (ks : List ℕ) → settled text (k ∷ ks) ≡ inserted text k ks
   unfolding settled
   settled_is k ks = refl
 
-  module _ {o : List ℕ} {first k i : ℕ} {rows : List ℕ} (s : Settling o first k i rows) where
+  module _ {o : List ℕ} {first i : ℕ} {rows : List ℕ} (s : Settling o first i rows) where
     counts : length rows ≡ suc (length s.others)
     counts = s.long ∙ ap length s.whole
 
@@ -51,12 +50,12 @@ module _ (text : ℕ → List ℕ) where
     done : {ys : List ℕ} → inserted text first (drop i s.others) ≡ first ∷ ys → drop i s.others ≡ ys → set rows i first ≡ settled text o
     done e f = put first ∙ rw (f, s.whole, settled_is first s.others, s.goes, e)
 
-    module _ (h : i + 1 < length rows) {b : Bool} (g : b ≡ before text k (get_or rows (i + 1) 0)) where
+    module _ (h : i + 1 < length rows) {b : Bool} (g : b ≡ before text first (get_or rows (i + 1) 0)) where
       abbrev next : ℕ
       next = get_or rows (i + 1) 0
 
       before_it : before text first next ≡ b
-      before_it = rw (← s.named) (sym g)
+      before_it = sym g
 
       there : i < length s.others
       there = omega (arith, counts)
@@ -73,12 +72,11 @@ module _ (text : ℕ → List ℕ) where
       pub settle_here : b ≡ true → set rows i first ≡ settled text o
       settle_here t = done (rw from_next (inserted_front text first next (drop (i + 1) s.others) (before_it ∙ t))) from_next
 
-      pub settle_again : b ≡ false → Settling o first k (i + 1) (set rows i (get_or rows (i + 1) 0))
+      pub settle_again : b ≡ false → Settling o first (i + 1) (set rows i (get_or rows (i + 1) 0))
       settle_again t =
           record {
             others = s.others;
             whole = s.whole;
-            named = s.named;
             free = next;
             is = put next ∙ rw (up_to_next, append_assoc, from_next);
             goes = s.goes ∙ rw (from_next, inserted_behind text first next (drop (i + 1) s.others) (before_it ∙ t), up_to_next, append_assoc);
@@ -86,10 +84,10 @@ module _ (text : ℕ → List ℕ) where
             long = length-set rows i next ∙ s.long;
           }
 
-    pub settle_last : length rows ≤ i + 1 → set rows i first ≡ settled text o
-    settle_last h =
+    pub settle_last : {last : ℕ} → last ≡ i → length rows ≤ i + 1 → set rows last first ≡ settled text o
+    settle_last e h =
         let d : drop i s.others ≡ [] = drop_of_length-le s.others {i = i} (omega (arith, counts)) in
-        done (rw d (inserted_last text first)) d
+        rw e (done (rw d (inserted_last text first)) d)
 
 pub ruleset settling = (settle_first, settle_here, settle_again, settle_last)
 

@@ -1,7 +1,6 @@
 -- Rows in byte order of their texts, by insertion from the last to the first: each behind those that it is not before. Assumes nothing.
-use Rattle.std.specs.Prelude.{◌≡◌, Bool, true, false, cond, List, [], ◌∷◌, ℕ, zero, suc, ◌≤◌, ◌<◌, ltb, length, get_or}
-use Rattle.order.specs.declared.Relation.{Relation}
-use Rattle.order.specs.declared.Relation.TheVariants as relation
+use Rattle.std.specs.Prelude.{◌≡◌, Bool, false, cond, List, [], ◌∷◌, ℕ, zero, suc, ◌≤◌, ◌<◌, ltb, length, get_or}
+use Rattle.std.specs.Ordering.{is_lt}
 use Rattle.order.specs.ByteOrder.{compared}
 use Rattle.draft.specs.declared.Row.{Row}
 use Rattle.draft.specs.Read.{text_of}
@@ -9,11 +8,6 @@ use Rattle.draft.specs.Read.{text_of}
 -- the text of row r in a table with room for so many rows; behind them stands none
 unfoldable pub key_text : ℕ → (ℕ → Row) → List ℕ → ℕ → List ℕ
 key_text room row s r = cond (ltb r room) (text_of s (row r)) []
-
-abbrev pub is_before : Relation → Bool
-is_before relation.Before = true
-is_before relation.Equal = false
-is_before relation.After = false
 
 -- k put in front of the element at place p
 unfoldable pub insert_at : ℕ → ℕ → List ℕ → List ℕ
@@ -25,7 +19,7 @@ insert_at (suc p) k (x ∷ xs) = x ∷ insert_at p k xs
 module _ (text : ℕ → List ℕ) where
   -- the text of row k is before that of row j
   unfoldable pub before : ℕ → ℕ → Bool
-  before k j = is_before (compared (text k) (text j))
+  before k j = is_lt (compared (text k) (text j))
 
   -- the place of k: behind all rows up to the first that k is before
   unfoldable pub spot : ℕ → List ℕ → ℕ

@@ -1,39 +1,39 @@
 -- What answers each return and turn of reading a number from a word. Assumes nothing.
-use mathlib.Core.Path.{◌≡◌, refl, sym, ◌∙◌}
+use mathlib.Core.Path.{◌≡◌, refl, sym, ap, ◌∙◌}
 use mathlib.Core.List.{List, [], ◌∷◌}
-use Prim.Native.Nat.{ℕ, ◌+◌, ◌-◌, ◌*◌, ◌/◌, ◌≤◌, ◌<◌}
+use Prim.Native.Nat.{ℕ, ◌+◌, ◌-◌, ◌*◌, ◌≤◌, ◌<◌}
 use native.Mathlib.Omega.{arith}
 use native.Mathlib.Numerals.{add-one}
-use borrow.Author.Tests.{lt-ltb, le-ltb, le-leb, lt-leb}
+use borrow.Author.Tests.{lt-ltb, le-ltb}
 use lib.ListN.{length, get_or, drop, drop_of_length-le}
 use lib.Seq.{drop-cons}
-use Rattle.spelling.specs.declared.Number.{Number}
-use Rattle.spelling.specs.declared.Number.TheVariants.{Is, Bad}
-use Rattle.spelling.specs.Number.{with_digit, with_digits, number_of}
+use Rattle.std.proofs.Common.{Option, Some, None, true, false}
+use Rattle.std.specs.Prelude.{SomeIff}
+use Rattle.spelling.specs.Number.{digit, with_digit, with_digits, number_of}
 
 module _ (value b : ℕ) where
-  pub below_digits : b < 48 → Bad ≡ with_digit value b
+  pub no_digit : digit b ≡ false → None ≡ with_digit value b
   unfolding with_digit
-  below_digits h = rw (lt-leb 48 b h)
+  no_digit h = rw h
 
-  pub above_digits : 57 < b → Bad ≡ with_digit value b
-  unfolding with_digit
-  above_digits h = rw (le-leb 48 b (omega arith), lt-leb b 57 h)
-
-  module _ (l : 48 ≤ b) (h : b ≤ 57) where
-    pub digit_over : (18446744073709551615 - (b - 48)) / 10 < value → Bad ≡ with_digit value b
+  module _ (d : digit b ≡ true) where
+    pub digit_over : (value * 10 + (b - 48) < 18446744073709551616 → ⊥) → None ≡ with_digit value b
     unfolding with_digit
-    digit_over k = rw (le-leb 48 b l, le-leb b 57 h, le-ltb (value * 10 + (b - 48)) 18446744073709551616 (omega arith))
+    digit_over k = rw (d, le-ltb (value * 10 + (b - 48)) 18446744073709551616 (omega arith))
 
-    pub digit_in : value ≤ (18446744073709551615 - (b - 48)) / 10 → Is (value * 10 + (b - 48)) ≡ with_digit value b
+    pub digit_in : value * 10 + (b - 48) < 18446744073709551616 → Some (value * 10 + (b - 48)) ≡ with_digit value b
     unfolding with_digit
-    digit_in k = rw (le-leb 48 b l, le-leb b 57 h, lt-ltb (value * 10 + (b - 48)) 18446744073709551616 (omega arith))
+    digit_in k = rw (d, lt-ltb (value * 10 + (b - 48)) 18446744073709551616 k)
+
+    pub digit_added : (r : Option ℕ) {v : ℕ} → v ≡ value * 10 → SomeIff r (v + (b - 48) < 18446744073709551616) (v + (b - 48)) → r ≡ with_digit value b
+    digit_added (Some x) e f = ap Some (let w : x ≡ value * 10 + (b - 48) = omega (arith, f.1) in w) ∙ digit_in (omega (arith, f.0))
+    digit_added None e f = digit_over (λ h. f (omega arith))
 
 -- i bytes of a word are read
 pub record Parsing (word : List ℕ) (i value : ℕ) : Type 0 where
   pub left : number_of word ≡ with_digits value (drop i word)
 
-pub no_digits : (word : List ℕ) → length word ≡ 0 → Bad ≡ number_of word
+pub no_digits : (word : List ℕ) → length word ≡ 0 → None ≡ number_of word
 unfolding number_of
 no_digits [] h = refl
 no_digits (b ∷ s) h = absurd (omega arith)
@@ -44,16 +44,16 @@ parse_first [] h = absurd (h refl)
 parse_first (b ∷ s) h = record { left = refl }
 
 module _ (word : List ℕ) {i value : ℕ} (p : Parsing word i value) where
-  pub parse_bad : {n : Number} → i < length word → n ≡ with_digit value (get_or word i 0) → n ≡ Bad → Bad ≡ number_of word
+  pub parse_bad : {n : Option ℕ} → i < length word → n ≡ with_digit value (get_or word i 0) → n ≡ None → None ≡ number_of word
   unfolding with_digits
   parse_bad h e f = sym (p.left ∙ rw (drop-cons word i 0 h, ← e, f))
 
-  pub parse_again : {n : Number} {v : ℕ} → i < length word → n ≡ with_digit value (get_or word i 0) → n ≡ Is v → Parsing word (i + 1) v
+  pub parse_again : {n : Option ℕ} {v : ℕ} → i < length word → n ≡ with_digit value (get_or word i 0) → n ≡ Some v → Parsing word (i + 1) v
   unfolding with_digits
   parse_again h e f = record { left = p.left ∙ rw (drop-cons word i 0 h, ← e, f, add-one) }
 
-  pub parse_done : length word ≤ i → Is value ≡ number_of word
+  pub parse_done : length word ≤ i → Some value ≡ number_of word
   unfolding with_digits
   parse_done h = sym (p.left ∙ rw (drop_of_length-le word {i = i} h))
 
-pub ruleset parsing = (below_digits, above_digits, digit_over, digit_in, no_digits, parse_first, parse_bad, parse_again, parse_done)
+pub ruleset parsing = (no_digits, parse_first, parse_bad, parse_again, parse_done)

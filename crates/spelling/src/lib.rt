@@ -22,10 +22,8 @@ pub fn put_text(line: &mut [u8], at: usize, text: &[u8]) -> usize
     ensures { Puts text.now line.old at line.new result }
 {
     let mut end = at;
-    let mut i = 0;
-    while i < text.len() {
-        end = put_byte(line, end, text[i]);
-        i += 1;
+    for b in text {
+        end = put_byte(line, end, *b);
     }
     end
 }
@@ -38,10 +36,10 @@ pub fn put_digits(line: &mut [u8], at: usize, n: u64, most: usize) -> usize
         return at;
     }
     if n < 10 {
-        return put_byte(line, at, 48 + n as u8);
+        return put_byte(line, at, b'0' + n as u8);
     }
     let end = put_digits(line, at, n / 10, most - 1);
-    put_byte(line, end, 48 + (n % 10) as u8)
+    put_byte(line, end, b'0' + (n % 10) as u8)
 }
 
 // A word, and a number behind it; and two of these.
@@ -59,50 +57,27 @@ pub fn put_pairs(line: &mut [u8], at: usize, first: &[u8], x: u64, second: &[u8]
     put_pair(line, end, second, y)
 }
 
-// What a word of a command is: a number, or none.
-#[derive(Drop)]
-pub enum Number {
-    Is(usize),
-    Bad,
-}
-
 // A number with one digit more.
-fn with_digit(value: usize, b: u8) -> Number
+fn with_digit(value: usize, b: u8) -> Option<usize>
     ensures { result ≡ with_digit value b }
 {
-    if b < b'0' {
-        return Number::Bad;
-    }
-    if b'9' < b {
-        return Number::Bad;
+    if !b.is_ascii_digit() {
+        return None;
     }
     let digit = (b - b'0') as usize;
-    if (usize::MAX - digit) / 10 < value {
-        return Number::Bad;
-    }
-    Number::Is(value * 10 + digit)
+    value.checked_mul(10)?.checked_add(digit)
 }
 
-// The number that a word is: digits alone, and below 2^64.
-pub fn parse(word: &[u8]) -> Number
+// The number that a word of a command is: digits alone, and below 2^64.
+pub fn parse(word: &[u8]) -> Option<usize>
     ensures { result ≡ number_of word.now }
 {
-    if word.len() == 0 {
-        return Number::Bad;
+    if word.is_empty() {
+        return None;
     }
     let mut value = 0;
-    let mut i = 0;
-    while i < word.len() {
-        let next = with_digit(value, word[i]);
-        match next {
-            Number::Bad => {
-                return Number::Bad;
-            }
-            Number::Is(v) => {
-                value = v;
-            }
-        }
-        i += 1;
+    for b in word {
+        value = with_digit(value, *b)?;
     }
-    Number::Is(value)
+    Some(value)
 }

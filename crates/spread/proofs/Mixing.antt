@@ -1,7 +1,7 @@
 -- What answers the returns and turns of the functions that find a text's bucket. Assumes nothing.
 use Prim.Native.Nat.{ℕ, zero, suc, ◌+◌, ◌-◌, ◌*◌, ◌/◌, ◌%◌, ◌≤◌, ◌<◌, min}
 use mathlib.Core.Path.{◌≡◌, refl, sym, ◌∙◌}
-use mathlib.Core.Bool.{Bool, true, false, ◌&&◌}
+use mathlib.Core.Bool.{Bool, true, false, ◌&&◌, cond}
 use mathlib.Core.List.{List, [], ◌∷◌}
 use native.Mathlib.Omega.{arith}
 use native.Mathlib.Nat.{add-zero, mod-lt, mul-lt-mul_of_pos_right, mul-le-mul_left}
@@ -46,17 +46,9 @@ module _ (t : Text) where
   unfolding three
   three_is m ea eb ec = rw (ea, eb, ec)
 
-  pub mixed_three : {x : ℕ} {r : Bool} → r ≡ short (length t) → r ≡ true → x ≡ three t (length t - 4) → x ≡ mixed_of t
-  unfolding mixed_of
-  mixed_three q h e = e ∙ rw (sym q, h)
-
-  pub mixed_rest : {n x : ℕ} {r : Bool} → r ≡ short (length t) → r ≡ false → n ≡ min (length t / 16) 4 → x ≡ rest t n → x ≡ mixed_of t
-  unfolding mixed_of
-  mixed_rest q h p e = e ∙ rw (sym q, h, p)
-
-  pub bucket_is : (buckets salt : ℕ) {h x : ℕ} → h ≡ mixed_of t → x ≡ scaled_by buckets salt h → x ≡ bucket_of buckets salt t
-  unfolding bucket_of
-  bucket_is buckets salt e f = f ∙ rw e
+  pub bucket_is : (buckets salt : ℕ) {h x n : ℕ} → n ≡ min (length t / 16) 4 → h ≡ cond (short (length t)) (three t (length t - 4)) (rest t n) → x ≡ scaled_by buckets salt h → x ≡ bucket_of buckets salt t
+  unfolding bucket_of mixed_of
+  bucket_is buckets salt p e f = f ∙ rw (e, p)
 
 -- a text that is long, or any by all its bytes
 module _ (t : Text) where
@@ -120,16 +112,8 @@ module _ (t : Text) where
   unfolding long
   long_is n eh ea eb ec ed ex ey ez er = er ∙ rw (ez, ey, ex, eh, ea, eb, ec, ed)
 
-  pub whole_three : {x : ℕ} {r : Bool} → r ≡ short (length t) → r ≡ true → x ≡ three t (length t - 4) → x ≡ whole_of t
-  unfolding whole_of
-  whole_three q h e = e ∙ rw (sym q, h)
-
-  pub whole_rest : {x : ℕ} {r : Bool} → r ≡ short (length t) → r ≡ false → x ≡ rest t (length t / 16) → x ≡ whole_of t
-  unfolding whole_of
-  whole_rest q h e = e ∙ rw (sym q, h)
-
-  pub whole_bucket_is : (buckets salt : ℕ) {h x : ℕ} → h ≡ whole_of t → x ≡ scaled_by buckets salt h → x ≡ whole_bucket_of buckets salt t
-  unfolding whole_bucket_of
+  pub whole_bucket_is : (buckets salt : ℕ) {h x : ℕ} → h ≡ cond (short (length t)) (three t (length t - 4)) (rest t (length t / 16)) → x ≡ scaled_by buckets salt h → x ≡ whole_bucket_of buckets salt t
+  unfolding whole_bucket_of whole_of
   whole_bucket_is buckets salt e f = f ∙ rw e
 
 pub folded_is : (h w : ℕ) {p : ℕ} → p ≡ (h + w) * 625341585 → p % 4294967296 + p / 4294967296 ≡ folded h w
@@ -167,4 +151,4 @@ scaled_fits x buckets k =
 pub scaled : (h buckets : ℕ) → h < 4294967296 → 0 < buckets → h * buckets / 4294967296 < buckets
 scaled h buckets l k = let m : h * buckets < 4294967296 * buckets = mul-lt-mul_of_pos_right l k in omega arith
 
-pub ruleset mixing = (none_past, few_is, five_is, rest_few, rest_five, rest_long, short_is, short_least, three_is, mixed_three, mixed_rest, bucket_is, mixed_is, mixed_small, scaled_fits, scaled, scaled_is, lanes_first, lanes_done, long_is, whole_three, whole_rest, whole_bucket_is, folded_is, folded_small)
+pub ruleset mixing = (none_past, few_is, five_is, rest_few, rest_five, rest_long, short_is, short_least, three_is, bucket_is, mixed_is, mixed_small, scaled_fits, scaled, scaled_is, lanes_first, lanes_done, long_is, whole_bucket_is, folded_is, folded_small)

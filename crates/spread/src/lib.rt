@@ -1,33 +1,26 @@
 // A text's bucket: a number by which texts are spread, so that one is compared with few others.
 #![tactic(auto)]
 
-ghost use Rattle.std.specs.Prelude.{◌≡◌, ◌+◌, ◌*◌, ◌-◌, ◌≤◌, ◌<◌, ◌/◌, min, length};
+ghost use Rattle.std.specs.Prelude.{◌≡◌, ◌+◌, ◌*◌, ◌-◌, ◌≤◌, ◌<◌, cond, length};
 ghost use Rattle.draft.specs.Bytes.{unsigned_at, byte_at};
-ghost use Rattle.spread.specs.Buckets.{mixed, five, short, three, folded, lanes, long, rest, mixed_of, whole_of, scaled_by, bucket_of, whole_bucket_of};
-
-// A byte as a number: the caller has no fit of the element to show.
-fn byte(x: u8) -> usize
-    ensures { (result ≡ x) × (result < 256) }
-{
-    x as usize
-}
+ghost use Rattle.spread.specs.Buckets.{mixed, five, short, three, folded, lanes, long, rest, scaled_by, bucket_of, whole_bucket_of};
 
 // The number of the four bytes at i, the lowest first.
 fn four(t: &[u8], i: usize) -> usize
     requires { i + 4 ≤ length t.now }
     ensures { (result ≡ unsigned_at t.now i) × (result < 4294967296) }
 {
-    byte(t[i]) + byte(t[i + 1]) * 256 + byte(t[i + 2]) * 65536 + byte(t[i + 3]) * 16777216
+    u32::from_le_bytes([t[i], t[i + 1], t[i + 2], t[i + 3]]) as usize
 }
 
 // The byte at i, or 0.
 fn byte_or_none(t: &[u8], i: usize) -> usize
     ensures { (result ≡ byte_at t.now i) × (result < 256) }
 {
-    if i < t.len() {
-        return byte(t[i]);
+    match t.get(i) {
+        Some(b) => usize::from(*b),
+        None => 0,
     }
-    0
 }
 
 // The bytes of a text of fewer than four, as one number.
@@ -98,14 +91,12 @@ fn fold_lanes(t: &[u8], n: usize) -> usize
     let mut b = 0;
     let mut c = 0;
     let mut d = 0;
-    let mut i = 0;
-    while i < n {
+    for i in 0..n {
         let at = i * 16;
         a = fold(a, four(t, at));
         b = fold(b, four(t, at + 4));
         c = fold(c, four(t, at + 8));
         d = fold(d, four(t, at + 12));
-        i += 1;
     }
     fold(fold(fold(a, b), c), d)
 }
@@ -135,40 +126,23 @@ fn mix_rest(t: &[u8], n: usize) -> usize
     fold_long(t, n) % 4294967296
 }
 
-// The sixteens within the first 64 of n bytes.
-fn sixteens(n: usize) -> usize
-    ensures { (result ≡ min (n / 16) 4) × (result * 16 ≤ n) }
-{
-    let q = n / 16;
-    if q < 4 { q } else { 4 }
-}
-
-// A text by at most its first 64 bytes and its last sixteen: a long one costs little.
-fn mix_text(t: &[u8]) -> usize
-    ensures { (result ≡ mixed_of t.now) × (result < 4294967296) }
+// A text by its first n sixteens and its last, if it is long.
+fn mix_text(t: &[u8], n: usize) -> usize
+    requires { n * 16 ≤ length t.now }
+    ensures { (result ≡ cond (short (length t.now)) (three t.now (length t.now - 4)) (rest t.now n)) × (result < 4294967296) }
 {
     if is_short(t.len()) {
         return mix_three(t);
     }
-    mix_rest(t, sixteens(t.len()))
+    mix_rest(t, n)
 }
 
-// A text by all its bytes.
-fn mix_whole(t: &[u8]) -> usize
-    ensures { (result ≡ whole_of t.now) × (result < 4294967296) }
-{
-    if is_short(t.len()) {
-        return mix_three(t);
-    }
-    mix_rest(t, t.len() / 16)
-}
-
-// The bucket of a text, of so many.
+// The bucket of a text, of so many, by at most its first 64 bytes and its last sixteen: a long one costs little.
 pub fn bucket(t: &[u8], salt: usize, buckets: usize) -> usize
     requires { (salt < 4294967296) × (0 < buckets) × (buckets ≤ 4096) }
     ensures { (result ≡ bucket_of buckets salt t.now) × (result < buckets) }
 {
-    scale(mix_text(t), salt, buckets)
+    scale(mix_text(t, (t.len() / 16).min(4)), salt, buckets)
 }
 
 // The same by all its bytes.
@@ -176,5 +150,5 @@ pub fn bucket_whole(t: &[u8], salt: usize, buckets: usize) -> usize
     requires { (salt < 4294967296) × (0 < buckets) × (buckets ≤ 4096) }
     ensures { (result ≡ whole_bucket_of buckets salt t.now) × (result < buckets) }
 {
-    scale(mix_whole(t), salt, buckets)
+    scale(mix_text(t, t.len() / 16), salt, buckets)
 }

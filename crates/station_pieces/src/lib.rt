@@ -1,21 +1,15 @@
 // A message in pieces for a station: into the station's share of one table. The share is lent on to the functions that take a whole table; a message
 // begins with `pieces::start`, which takes none.
-#![tactic(auto)]
+#![tactic(auto, using(crate::proofs::Piecing::station_piecing))]
 
 ghost use Rattle.std.specs.Prelude.{length};
 ghost use Rattle.station_pieces.specs.Steps.{NextFor, EndFor};
 
 use pieces::State;
-use shares::{Share, Station};
+use shares::{NotSplit, Station};
 
-// What a call answers: the state, or 22. After 22 the state before the call still stands.
-#[derive(Drop)]
-pub enum Answer {
-    Stands(State),
-    NotSplit,
-}
-
-// Takes the next piece. The room and the share are those of the calls before it.
+// Takes the next piece, and answers with the state, or with 22; then the state before the call still stands. The room and the share are those of the
+// calls before it.
 pub fn next(
     state: State,
     piece: &[u8],
@@ -24,16 +18,11 @@ pub fn next(
     split: usize,
     station: Station,
     limit: usize,
-) -> Answer
+) -> Result<State, NotSplit>
     ensures { NextFor limit state piece.now station split room.old table.old room.new table.new result }
 {
-    let share = shares::share_of(table.len(), split, station);
-    match share {
-        Share::Words { first, end } => {
-            Answer::Stands(pieces::next(state, piece, room, &mut table[first..end], limit))
-        }
-        Share::NotSplit => Answer::NotSplit,
-    }
+    let share = shares::share_of(table.len(), split, station)?;
+    Ok(pieces::next(state, piece, room, &mut table[share], limit))
 }
 
 // No more pieces come.
@@ -44,14 +33,9 @@ pub fn end(
     split: usize,
     station: Station,
     limit: usize,
-) -> Answer
+) -> Result<State, NotSplit>
     ensures { EndFor limit state (length room.now) station split table.old table.new result }
 {
-    let share = shares::share_of(table.len(), split, station);
-    match share {
-        Share::Words { first, end } => {
-            Answer::Stands(pieces::end(state, room, &mut table[first..end], limit))
-        }
-        Share::NotSplit => Answer::NotSplit,
-    }
+    let share = shares::share_of(table.len(), split, station)?;
+    Ok(pieces::end(state, room, &mut table[share], limit))
 }

@@ -1,42 +1,25 @@
 // Reading for a station: a message, or a card of a job, into the station's share of one table. The share is lent on to the functions that read into
 // a whole table.
-#![tactic(auto)]
+#![tactic(auto, using(crate::proofs::Reading::station_reading))]
 
 ghost use Rattle.station_reading.specs.Answers.{ReadFor, CardFor};
 
-use shares::{Share, Station};
+use job::{Accepted, JobFault};
+use shares::{NotSplit, Station};
 
-// What reading a message for a station answers: as for a whole table, or 22.
-#[derive(Drop)]
-pub enum Answer {
-    Answered(read_answer::Answer),
-    NotSplit,
-}
-
-// What reading a card for a station answers.
-#[derive(Drop)]
-pub enum CardAnswer {
-    Answered(job::Answer),
-    NotSplit,
-}
-
-// Reads a message into a station's share of a table that is split at a row. Every word of the share is settled, and no other is changed.
+// Reads a message into a station's share of a table that is split at a row, or answers with 22. Every word of the share is settled, and no other is
+// changed.
 pub fn read(
     message: &[u8],
     table: &mut [u32],
     split: usize,
     station: Station,
     limit: usize,
-) -> Answer
+) -> Result<read_answer::Answer, NotSplit>
     ensures { ReadFor limit message.now station split table.old table.new result }
 {
-    let share = shares::share_of(table.len(), split, station);
-    match share {
-        Share::Words { first, end } => {
-            Answer::Answered(reader::read(message, &mut table[first..end], limit))
-        }
-        Share::NotSplit => Answer::NotSplit,
-    }
+    let share = shares::share_of(table.len(), split, station)?;
+    Ok(reader::read(message, &mut table[share], limit))
 }
 
 // Reads a card of a job file, likewise.
@@ -46,14 +29,9 @@ pub fn read_card(
     table: &mut [u32],
     split: usize,
     station: Station,
-) -> CardAnswer
+) -> Result<Result<Accepted, JobFault>, NotSplit>
     ensures { CardFor file.now number station split table.old table.new result }
 {
-    let share = shares::share_of(table.len(), split, station);
-    match share {
-        Share::Words { first, end } => {
-            CardAnswer::Answered(job::read_card(file, number, &mut table[first..end]))
-        }
-        Share::NotSplit => CardAnswer::NotSplit,
-    }
+    let words = shares::share_of(table.len(), split, station)?;
+    Ok(job::read_card(file, number, &mut table[words]))
 }

@@ -1,6 +1,6 @@
 // What a call for a station answered, reported to programs in C and Rust: as for the call without stations; or 22, and then every number that they lend
 // is 0, but the words of a state are as they were. A station is the number 4 or 5.
-#![tactic(auto)]
+#![tactic(auto, using(crate::proofs::Telling::telling, crate::proofs::Telling::lying_there))]
 
 ghost use Rattle.std.specs.Prelude.{◌≡◌};
 ghost use Rattle.shares.specs.Share.{station_of, split_for, share_for};
@@ -13,9 +13,11 @@ ghost use Rattle.read_reports.specs.Numbers.{report, card_report};
 ghost use Rattle.write_reports.specs.Numbers as writing;
 ghost use Rattle.station_reports.specs.Numbers.{lying, lying_of, PieceKept, StationPlaced};
 
-use shares::Share;
-use station_reading::{Answer, CardAnswer};
-use station_tables::{LookupAnswer, PositionAnswer, WriteAnswer};
+use job::{Accepted, JobFault};
+use lookup_answer::{Refusal, Value};
+use pieces::State;
+use placing::Placed;
+use shares::NotSplit;
 
 // Where a station's share of a table of so many words lies: its first word and how many words it has.
 pub fn share(words: usize, split: usize, station: u8, first: &mut u64, size: &mut u64) -> u8
@@ -27,37 +29,42 @@ pub fn share(words: usize, split: usize, station: u8, first: &mut u64, size: &mu
         shares::station_of(station),
     );
     match share {
-        Share::Words { first: a, end: e } => {
-            *first = a as u64;
-            *size = (e - a) as u64;
+        Ok(part) => {
+            *first = part.start as u64;
+            *size = (part.end - part.start) as u64;
             0
         }
-        Share::NotSplit => {
+        Err(refusal) => {
             *first = 0;
             *size = 0;
-            22
+            refusal.into()
         }
     }
 }
 
 // Of a message.
-pub fn message(answer: Answer, rows: &mut u64, used: &mut u64, place: &mut u64) -> u8
+pub fn message(
+    answer: Result<read_answer::Answer, NotSplit>,
+    rows: &mut u64,
+    used: &mut u64,
+    place: &mut u64,
+) -> u8
     ensures { report result rows.new used.new place.new ≡ report_of answer }
 {
     match answer {
-        Answer::Answered(own) => read_reports::message(own, rows, used, place),
-        Answer::NotSplit => {
+        Ok(own) => read_reports::message(own, rows, used, place),
+        Err(refusal) => {
             *rows = 0;
             *used = 0;
             *place = 0;
-            22
+            refusal.into()
         }
     }
 }
 
 // Of a card of a job file.
 pub fn card(
-    answer: CardAnswer,
+    answer: Result<Result<Accepted, JobFault>, NotSplit>,
     rows: &mut u64,
     used: &mut u64,
     place: &mut u64,
@@ -66,56 +73,56 @@ pub fn card(
     ensures { card_report result rows.new used.new place.new body.new ≡ card_report_of answer }
 {
     match answer {
-        CardAnswer::Answered(own) => read_reports::card(own, rows, used, place, body),
-        CardAnswer::NotSplit => {
+        Ok(own) => read_reports::card(own, rows, used, place, body),
+        Err(refusal) => {
             *rows = 0;
             *used = 0;
             *place = 0;
             *body = 0;
-            22
+            refusal.into()
         }
     }
 }
 
 // Of a message in pieces, whose state is six words.
-pub fn piece(answer: station_pieces::Answer, words: &mut [u64; 6]) -> u8
+pub fn piece(answer: Result<State, NotSplit>, words: &mut [u64; 6]) -> u8
     ensures { PieceKept answer words.old words.new result }
 {
     match answer {
-        station_pieces::Answer::Stands(after) => piece_reports::keep(after, words),
-        station_pieces::Answer::NotSplit => 22,
+        Ok(after) => piece_reports::keep(after, words),
+        Err(refusal) => refusal.into(),
     }
 }
 
 // Of a table written.
-pub fn written(answer: WriteAnswer, size: &mut u64) -> u8
+pub fn written(answer: Result<write_answer::Answer, NotSplit>, size: &mut u64) -> u8
     ensures { writing.report result size.new ≡ write_report_of answer }
 {
     match answer {
-        WriteAnswer::Answered(own) => write_reports::written(own, size),
-        WriteAnswer::NotSplit => {
+        Ok(own) => write_reports::written(own, size),
+        Err(refusal) => {
             *size = 0;
-            22
+            refusal.into()
         }
     }
 }
 
 // Of a table written by a plan.
-pub fn planned(answer: station_plans::Answer, size: &mut u64) -> u8
+pub fn planned(answer: Result<plan_writer::Answer, NotSplit>, size: &mut u64) -> u8
     ensures { writing.plan_report result size.new ≡ plans.report_of answer }
 {
     match answer {
-        station_plans::Answer::Answered(own) => write_reports::by_plan::planned(own, size),
-        station_plans::Answer::NotSplit => {
+        Ok(own) => write_reports::by_plan::planned(own, size),
+        Err(refusal) => {
             *size = 0;
-            22
+            refusal.into()
         }
     }
 }
 
 // Of a member.
 pub fn member(
-    answer: LookupAnswer,
+    answer: Result<Result<Value, Refusal>, NotSplit>,
     sort: &mut u8,
     number: &mut i64,
     decimal: &mut f64,
@@ -125,7 +132,7 @@ pub fn member(
     ensures { reported result sort.new number.new decimal.new offset.new size.new ≡ lookup_report_of answer }
 {
     match answer {
-        LookupAnswer::Answered(own) => {
+        Ok(own) => {
             lookup_reports::member(
                 lookup_answer::report_of(own),
                 sort,
@@ -135,28 +142,28 @@ pub fn member(
                 size,
             )
         }
-        LookupAnswer::NotSplit => {
+        Err(refusal) => {
             *sort = 0;
             *number = 0;
             *decimal = 0.0;
             *offset = 0;
             *size = 0;
-            22
+            refusal.into()
         }
     }
 }
 
 // Of a position.
-pub fn position(answer: PositionAnswer, x: &mut f64, y: &mut f64, turn: &mut f64) -> u8
+pub fn position(answer: Result<Placed, NotSplit>, x: &mut f64, y: &mut f64, turn: &mut f64) -> u8
     ensures { StationPlaced answer result (at x.new y.new turn.new) }
 {
     match answer {
-        PositionAnswer::Answered(placed) => lookup_reports::position(placed, x, y, turn),
-        PositionAnswer::NotSplit => {
+        Ok(placed) => lookup_reports::position(placed, x, y, turn),
+        Err(refusal) => {
             *x = 0.0;
             *y = 0.0;
             *turn = 0.0;
-            22
+            refusal.into()
         }
     }
 }

@@ -1,35 +1,16 @@
 // A station's share as a table that stands: written, and looked up in. The share is lent on to the functions that take a whole table.
-#![tactic(auto)]
+#![tactic(auto, using(crate::proofs::Answering::station_answering))]
 
 ghost use Rattle.std.specs.Prelude.{◌≡◌};
-ghost use Rattle.shares.specs.Share.{on_share};
+ghost use Rattle.shares.specs.Share.{no_share, on_share};
 ghost use Rattle.station_tables.specs.Answers.{WroteFor, lookup_answer, position_answer};
 
-use shares::{Share, Station};
+use lookup_answer::{Refusal, Value};
+use placing::Placed;
+use shares::{NotSplit, Station};
 
-// What writing a share answers: as for a whole table, or 22.
-#[derive(Drop)]
-pub enum WriteAnswer {
-    Answered(write_answer::Answer),
-    NotSplit,
-}
-
-// What looking up a member in a share answers.
-#[derive(Drop)]
-pub enum LookupAnswer {
-    Answered(lookup_answer::Answer),
-    NotSplit,
-}
-
-// What looking for a position in a share answers.
-#[derive(Drop)]
-pub enum PositionAnswer {
-    Answered(placing::Placed),
-    NotSplit,
-}
-
-// Writes a station's share of a table that is split at a row: so many stated rows from the share's first on. Every byte of the output is settled;
-// after 22 none is changed.
+// Writes a station's share of a table that is split at a row, or answers with 22: so many stated rows from the share's first on. Every byte of the
+// output is settled; after 22 none is changed.
 pub fn write(
     table: &[u32],
     split: usize,
@@ -38,16 +19,11 @@ pub fn write(
     text: &[u8],
     limit: usize,
     output: &mut [u8],
-) -> WriteAnswer
+) -> Result<write_answer::Answer, NotSplit>
     ensures { WroteFor limit table.now station split rows text.now output.old output.new result }
 {
-    let share = shares::share_of(table.len(), split, station);
-    match share {
-        Share::Words { first, end } => {
-            WriteAnswer::Answered(writer::write(&table[first..end], rows, text, limit, output))
-        }
-        Share::NotSplit => WriteAnswer::NotSplit,
-    }
+    let share = shares::share_of(table.len(), split, station)?;
+    Ok(writer::write(&table[share], rows, text, limit, output))
 }
 
 // Looks up a member of the Struct of row r of a share.
@@ -59,16 +35,11 @@ pub fn lookup(
     text: &[u8],
     r: usize,
     key: &[u8],
-) -> LookupAnswer
-    ensures { result ≡ on_share station split table.now (lookup_answer rows text.now r key.now) LookupAnswer.NotSplit }
+) -> Result<Result<Value, Refusal>, NotSplit>
+    ensures { result ≡ on_share station split table.now (lookup_answer rows text.now r key.now) (Err no_share) }
 {
-    let share = shares::share_of(table.len(), split, station);
-    match share {
-        Share::Words { first, end } => {
-            LookupAnswer::Answered(lookup::lookup(&table[first..end], rows, text, r, key))
-        }
-        Share::NotSplit => LookupAnswer::NotSplit,
-    }
+    let share = shares::share_of(table.len(), split, station)?;
+    Ok(lookup::lookup(&table[share], rows, text, r, key))
 }
 
 // The position in the Struct of row r of a share.
@@ -79,14 +50,9 @@ pub fn position_of(
     rows: usize,
     text: &[u8],
     r: usize,
-) -> PositionAnswer
-    ensures { result ≡ on_share station split table.now (position_answer rows text.now r) PositionAnswer.NotSplit }
+) -> Result<Placed, NotSplit>
+    ensures { result ≡ on_share station split table.now (position_answer rows text.now r) (Err no_share) }
 {
-    let share = shares::share_of(table.len(), split, station);
-    match share {
-        Share::Words { first, end } => {
-            PositionAnswer::Answered(position::position_of(&table[first..end], rows, text, r))
-        }
-        Share::NotSplit => PositionAnswer::NotSplit,
-    }
+    let share = shares::share_of(table.len(), split, station)?;
+    Ok(position::position_of(&table[share], rows, text, r))
 }

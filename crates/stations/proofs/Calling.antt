@@ -5,16 +5,14 @@ use mathlib.Core.Logic.{◌↔◌}
 use mathlib.Core.List.{List}
 use Prim.Native.Nat.{ℕ, ◌*◌, ◌/◌}
 use native.Mathlib.Omega.{arith}
+use Rattle.std.specs.Prelude.{Ok, Err}
 use lib.ListN.{length, drop}
 use Rattle.shares.specs.declared.Station.{Station}
 use Rattle.shares.specs.declared.Station.TheVariants.{Four, Five}
-use Rattle.shares.specs.Share.{splits, share_of, on_share, table_on}
+use Rattle.shares.specs.Share.{no_share, splits, share_of, on_share, table_on}
 use Rattle.shares.proofs.Lent.{below}
 use Rattle.shares.proofs.Sharing.{in_rows, given_there, same_length as kept-length, words_behind, unsplit_words, unsplit_told, tables_commute, told_stays}
-use Rattle.station_reading.specs.declared.Answer.TheVariants as answer
-use Rattle.station_reading.specs.declared.CardAnswer.TheVariants as card
 use Rattle.station_reading.specs.Answers.{read_answer, read_words, card_answer, card_words}
-use Rattle.station_pieces.specs.declared.Answer.TheVariants as piece
 use Rattle.station_pieces.specs.Steps.{next_answer, next_room, next_words, end_answer, end_words}
 use Rattle.stations.specs.Calls.{Asked, a_message, a_card, a_piece, an_end, Told, of_message, of_card, of_piece, of_end, Called, reads, reads_card, takes, ends, not_split}
 use Rattle.stations.proofs.Keeping.{read_keeps, card_keeps, next_keeps, end_keeps}
@@ -71,13 +69,13 @@ module _ {station : Station} {split : ℕ} {T T' : List ℕ} where
   leaves (ends d) = d.table
 
   pub says : {q : Asked} {a : Told} → Called station split T T' q a → a ≡ on_share station split T (given q) (not_split q)
-  says (reads {limit = limit} {s = s} d) = ap of_message d.says ∙ told_by_lem of_message station split T (read_answer limit s) answer.NotSplit
-  says (reads_card {s = s} {n = n} d) = ap of_card d.says ∙ told_by_lem of_card station split T (card_answer s n) card.NotSplit
+  says (reads {limit = limit} {s = s} d) = ap of_message d.says ∙ told_by_lem of_message station split T (read_answer limit s) (Err no_share)
+  says (reads_card {s = s} {n = n} d) = ap of_card d.says ∙ told_by_lem of_card station split T (card_answer s n) (Err no_share)
   says (takes {limit = limit} {state = state} {p = p} {R = R} d) =
       rw (d.says, d.room)
-      (told_both of_piece station split T (next_answer limit state p R) piece.NotSplit (next_room limit state p R) R)
+      (told_both of_piece station split T (next_answer limit state p R) (Err no_share) (next_room limit state p R) R)
   says (ends {limit = limit} {state = state} {bytes = bytes} d) =
-      ap of_end d.says ∙ told_by_lem of_end station split T (end_answer limit state bytes) piece.NotSplit
+      ap of_end d.says ∙ told_by_lem of_end station split T (end_answer limit state bytes) (Err no_share)
 
 -- 22 is told of no call on a share
 not_given : (q : Asked) (W : List ℕ) → given q W ≡ not_split q → ⊥

@@ -7,15 +7,14 @@ use native.Mathlib.Omega.{arith}
 use lib.ListN.{length, drop, replicate, length-append, length-drop, length-replicate}
 use lib.Dec.{ltb}
 use borrow.Author.Tests.{ltb-true}
+use Rattle.std.specs.Prelude.{Ok, Err}
 use Rattle.text.proofs.Comparing.{both}
 use Rattle.draft.specs.Bytes.{part}
 use Rattle.draft.specs.Limits.{allowed}
 use Rattle.read_answer.specs.Answers.{reading}
 use Rattle.rereading.specs.Rereading.{refused_with_one, table_tried, table_read}
 use Rattle.rereading.proofs.Words.{length_table}
-use Rattle.records.specs.declared.Found.{Found}
-use Rattle.records.specs.declared.Found.TheVariants.{Body, Missing}
-use Rattle.records.specs.Job.{body_of}
+use Rattle.records.specs.Job.{body_of, Found, body_at, missing_at}
 use Rattle.job.specs.Cards.{table_for}
 use Rattle.pieces.specs.declared.State.{State}
 use Rattle.pieces.specs.declared.State.TheVariants.{More, Accepted, Refused}
@@ -32,8 +31,8 @@ unfolding card_words
 card_keeps s n W = go (body_of s n)
   where
     go : (f : Found) → length (table_for s (length W) f) ≡ length W
-    go (Body start size) = length_table (length W) (reading 32 (part s start size) (length W))
-    go (Missing m p) = length-replicate (length W) 0
+    go (Ok body) = length_table (length W) (reading 32 (part s body.start body.length) (length W))
+    go (Err none) = length-replicate (length W) 0
 
 pick_keeps : (b : Bool) (xs ys : List ℕ) (n : ℕ) → (b ≡ true → length xs ≡ n) → length ys ≡ n → length (cond b xs ys) ≡ n
 pick_keeps true xs ys n p q = p refl

@@ -3,9 +3,10 @@ use mathlib.Core.Path.{◌≡◌, refl, sym, ◌∙◌, ap}
 use mathlib.Core.Bool.{true}
 use mathlib.Core.List.{List}
 use Prim.Native.Nat.{ℕ}
+use Rattle.std.specs.Prelude.{Ok, Err}
 use lib.ListN.{length}
 use Rattle.shares.specs.declared.Station.{Station}
-use Rattle.shares.specs.Share.{splits, size_of, share_of}
+use Rattle.shares.specs.Share.{no_share, splits, size_of, share_of}
 use Rattle.shares.proofs.Sharing.{share_size, given_there, own_words}
 use Rattle.read_answer.specs.Answers as reader
 use Rattle.read_answer.specs.Answers.{reading}
@@ -16,21 +17,12 @@ use Rattle.pieces.specs.Steps.{at_first, state_went, Went, state_closed}
 use Rattle.pieces.specs.Runs as run
 use Rattle.pieces.specs.Runs.{Runs}
 use Rattle.write_answer.specs.Answers.{answer_of}
-use Rattle.station_reading.specs.declared.Answer.{Answer}
-use Rattle.station_reading.specs.declared.Answer.TheVariants as answer
-use Rattle.station_reading.specs.declared.CardAnswer.{CardAnswer}
-use Rattle.station_reading.specs.declared.CardAnswer.TheVariants as card
-use Rattle.station_reading.specs.Answers.{read_answer, read_words, ReadFor, card_answer, card_words, CardFor}
-use Rattle.station_pieces.specs.declared.Answer.{Answer as PieceAnswer}
-use Rattle.station_pieces.specs.declared.Answer.TheVariants.{Stands, NotSplit}
-use Rattle.station_pieces.specs.Steps.{next_answer, next_room, next_words, NextFor, end_answer, end_words, EndFor}
+use Rattle.station_reading.specs.Answers.{Answer, CardAnswer, read_answer, read_words, ReadFor, card_answer, card_words, CardFor}
+use Rattle.station_pieces.specs.Steps.{Answer as PieceAnswer, next_answer, next_room, next_words, NextFor, end_answer, end_words, EndFor}
 use Rattle.plan_writer.specs.Answers as planner
-use Rattle.station_plans.specs.declared.Answer.{Answer as PlanAnswer}
-use Rattle.station_plans.specs.declared.Answer.TheVariants as plan
+use Rattle.station_plans.specs.Answers.{Answer as PlanAnswer}
 use Rattle.station_plans.specs.Answers as planned
-use Rattle.station_tables.specs.declared.WriteAnswer.{WriteAnswer}
-use Rattle.station_tables.specs.declared.WriteAnswer.TheVariants as write
-use Rattle.station_tables.specs.Answers.{write_answer, written_bytes, WroteFor}
+use Rattle.station_tables.specs.Answers.{WriteAnswer, write_answer, written_bytes, WroteFor}
 use Rattle.stations.specs.Owned.{OwnRead, OwnCard, OwnPiece, OwnEnd, OwnWrite, OwnPlanned}
 use Rattle.stations.specs.Turns.{Turns, none, piece}
 use Rattle.stations.proofs.Keeping.{read_keeps, card_keeps, next_keeps, end_keeps}
@@ -44,7 +36,7 @@ module _ (station : Station) (split : ℕ) (T : List ℕ) (ok : splits split (le
         let n : length (share_of station split T) ≡ size_of station split (length T) = share_size station split T ok in
         record {
           own = reader.answer_of (reading limit s (size_of station split (length T)));
-          is = d.says ∙ given_there station split T ok (read_answer limit s) answer.NotSplit ∙ rw n;
+          is = d.says ∙ given_there station split T ok (read_answer limit s) (Err no_share) ∙ rw n;
           did =
               record {
                 says = refl;
@@ -62,7 +54,7 @@ module _ (station : Station) (split : ℕ) (T : List ℕ) (ok : splits split (le
         let n : length (share_of station split T) ≡ size_of station split (length T) = share_size station split T ok in
         record {
           own = answer_for s (size_of station split (length T)) (body_of s number);
-          is = d.says ∙ given_there station split T ok (card_answer s number) card.NotSplit ∙ rw n;
+          is = d.says ∙ given_there station split T ok (card_answer s number) (Err no_share) ∙ rw n;
           did =
               record {
                 says = refl;
@@ -79,7 +71,7 @@ module _ (station : Station) (split : ℕ) (T : List ℕ) (ok : splits split (le
     own_piece limit state p R d =
         record {
           own = at_first limit (length R) (state_went limit state p R (length (share_of station split T)));
-          is = d.says ∙ given_there station split T ok (next_answer limit state p R) NotSplit;
+          is = d.says ∙ given_there station split T ok (next_answer limit state p R) (Err no_share);
           did =
               record {
                 says = refl;
@@ -97,7 +89,7 @@ module _ (station : Station) (split : ℕ) (T : List ℕ) (ok : splits split (le
     own_end limit state bytes d =
         record {
           own = at_first limit bytes (state_closed state);
-          is = d.says ∙ given_there station split T ok (end_answer limit state bytes) NotSplit;
+          is = d.says ∙ given_there station split T ok (end_answer limit state bytes) (Err no_share);
           did =
               record {
                 says = refl;
@@ -114,7 +106,7 @@ module _ (station : Station) (split : ℕ) (T : List ℕ) (ok : splits split (le
   own_write limit rows s out d =
       record {
         own = answer_of limit (share_of station split T) rows s (length out);
-        is = d.says ∙ given_there station split T ok (write_answer limit rows s (length out)) write.NotSplit;
+        is = d.says ∙ given_there station split T ok (write_answer limit rows s (length out)) (Err no_share);
         did = record { says = refl; leaves = d.leaves ∙ given_there station split T ok (written_bytes limit rows s (length out)) out };
       }
 
@@ -125,13 +117,13 @@ module _ (station : Station) (split : ℕ) (T : List ℕ) (ok : splits split (le
   own_planned limit rows s p out d =
       record {
         own = planner.answer_of limit (share_of station split T) rows s p (length out);
-        is = d.says ∙ given_there station split T ok (planned.write_answer limit rows s p (length out)) plan.NotSplit;
+        is = d.says ∙ given_there station split T ok (planned.write_answer limit rows s p (length out)) (Err no_share);
         did = record { says = refl; leaves = d.leaves ∙ given_there station split T ok (planned.written_bytes limit rows s p (length out)) out };
       }
 
 -- a piece that was answered with a state
 own_state :
-    {limit : ℕ} {state between : State} {p R W R' W' : List ℕ} → OwnPiece limit state p R W R' W' (Stands between) → Went limit state p R W R' W' between
+    {limit : ℕ} {state between : State} {p R W R' W' : List ℕ} → OwnPiece limit state p R W R' W' (Ok between) → Went limit state p R W R' W' between
 own_state {limit} {state} {between} {p} {R} {W} {R'} {W'} o =
     let e : o.own ≡ between = sym (cc) in
     rw e at o.did

@@ -1,15 +1,10 @@
 -- The calls that a station may make on the table, each with its promise: what is asked, and what is told. Assumes nothing.
-use Rattle.std.specs.Prelude.{List, ℕ}
+use Rattle.std.specs.Prelude.{List, ℕ, Err}
 use Rattle.shares.specs.declared.Station.{Station}
+use Rattle.shares.specs.Share.{no_share}
 use Rattle.pieces.specs.declared.State.{State}
-use Rattle.station_reading.specs.declared.Answer.{Answer}
-use Rattle.station_reading.specs.declared.Answer.TheVariants as answer
-use Rattle.station_reading.specs.declared.CardAnswer.{CardAnswer}
-use Rattle.station_reading.specs.declared.CardAnswer.TheVariants as card
-use Rattle.station_reading.specs.Answers.{ReadFor, CardFor}
-use Rattle.station_pieces.specs.declared.Answer.{Answer as PieceAnswer}
-use Rattle.station_pieces.specs.declared.Answer.TheVariants as piece
-use Rattle.station_pieces.specs.Steps.{NextFor, EndFor}
+use Rattle.station_reading.specs.Answers.{Answer, CardAnswer, ReadFor, CardFor}
+use Rattle.station_pieces.specs.Steps.{Answer as PieceAnswer, NextFor, EndFor}
 
 -- a message, with a limit of nesting; a card of a job file, by its number; a piece, with a limit, the state before it and the room; the end, with
 -- a limit, the state and the room's length
@@ -40,7 +35,7 @@ pub data Called (station : Station) (split : ℕ) (T T' : List ℕ) : Asked → 
 
 -- what is told with 22: that, and the room as it was
 abbrev pub not_split : Asked → Told
-not_split (a_message limit s) = of_message answer.NotSplit
-not_split (a_card s n) = of_card card.NotSplit
-not_split (a_piece limit state p R) = of_piece piece.NotSplit R
-not_split (an_end limit state bytes) = of_end piece.NotSplit
+not_split (a_message limit s) = of_message (Err no_share)
+not_split (a_card s n) = of_card (Err no_share)
+not_split (a_piece limit state p R) = of_piece (Err no_share) R
+not_split (an_end limit state bytes) = of_end (Err no_share)

@@ -14,8 +14,7 @@ pub const MOST_ROWS: usize = 4096;
 pub fn room_of(words: usize) -> usize
     ensures { result ≡ room_of 4096 words }
 {
-    let rows = words / 4;
-    if rows < MOST_ROWS { rows } else { MOST_ROWS }
+    (words / 4).min(MOST_ROWS)
 }
 
 // Where word j of row r stands.
@@ -60,9 +59,5 @@ pub fn get_row(table: &[u32], room: usize, r: usize) -> Row
 pub fn clear(words: &mut [u32])
     ensures { words.new ≡ replicate (length words.old) 0 }
 {
-    let mut i = 0;
-    while i < words.len() {
-        words[i] = 0;
-        i += 1;
-    }
+    words.fill(0);
 }

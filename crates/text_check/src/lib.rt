@@ -14,6 +14,7 @@ use eights::eight_below;
 use runs::{past_front, past_more};
 use steps::{STEPS, eight_steps, step};
 
+// Stays: a turn passes one to four bytes, by the character, so no iterator over the bytes fits.
 // Whether the bytes are well-formed UTF-8. One character a turn; a byte below 128 is one, and is not looked up.
 fn walk(table: &[u8; 256], s: &[u8]) -> bool
     requires { table.now ≡ class_table }
@@ -41,6 +42,7 @@ pub fn is_utf8_bytewise(s: &[u8]) -> bool
     walk(&CLASSES, s)
 }
 
+// Stays: a turn passes one byte, eight, or a run, so no iterator over the bytes fits.
 // Whether the bytes are well-formed UTF-8, where those before `from` are characters. Eight bytes a turn: a run of bytes below 128 is passed
 // at once, where a character may begin, and others are stepped over with no branch, since widths that vary make one hard to foresee.
 fn walk_runs(table: &[u8; 256], words: &[u64; 12], s: &[u8], from: usize) -> bool

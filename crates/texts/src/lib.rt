@@ -35,16 +35,14 @@ pub fn scan(
     requires { Strings room (length table.now) count strings.now × (length text.now ≤ 65536) × (count ≤ length firsts.old) × (count ≤ length nexts.old) × (heads.old ≡ replicate (length heads.old) 0) × (0 < length heads.old) × (length heads.old ≤ 4096) }
     ensures { Scanned (numbered_text (row_at room table.now) strings.now text.now) count firsts.new result }
 {
-    let mut j = 0;
     let mut sum: usize = 0;
-    while j < count {
+    for j in 0..count {
         let f = buckets::find_or_add(table, room, strings, text, heads, nexts, j);
         firsts[j] = f as u16;
         sum += new_cost(table, room, strings, text, f, j);
         if 65536 < sum {
             return false;
         }
-        j += 1;
     }
     true
 }

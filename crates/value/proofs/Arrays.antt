@@ -12,7 +12,7 @@ use Rattle.draft.specs.Bytes.{unsigned_at}
 use Rattle.draft.specs.Read.{floor, item as item_of, value, tag_of}
 use Rattle.draft.proofs.Naming.{number_some}
 use Rattle.codebook.specs.Words.{book_of}
-use Rattle.item.specs.declared.Step.{Step}
+use Rattle.item.specs.Contract.{Step, step_number}
 use Rattle.item.specs.Contract.{Closed, Did, refused_at}
 use Rattle.member_keys.specs.Contract.{Prepared, Done}
 use Rattle.heads.specs.Items.{holds_items, head_of, entries}
@@ -25,7 +25,7 @@ value_ended s deep at W l f = record { did = value_short s deep at (book_of W) l
 
 -- the head of an Array or a Struct was read, or refused
 module _ (s : List ℕ) (room deep at r : ℕ) {head : Step} (f : head ≡ head_of (length s) room deep at r) where
-  module _ (z : head.number ≡ 0) where
+  module _ (z : step_number head ≡ 0) where
     pub head_level : 0 < deep
     head_level = (begun s room deep at r f z).level
 
@@ -42,10 +42,10 @@ module _ (s : List ℕ) (room deep at r : ℕ) {head : Step} (f : head ≡ head_
     head_ready p = contents_ready (begun s room deep at r f z) p
 
   module _ (W : List ℕ) {T N : List ℕ} (h : at < length s) {b : Bool} (o : b ≡ holds_items (get_or s at 0)) (t : b ≡ true) where
-    pub head_stops : {T' W' N' : List ℕ} → (head.number ≡ 0 → ⊥) → Done (value s room deep at r (book_of W)) s room (at + 1) r T T' W' N N' head
+    pub head_stops : {T' W' N' : List ℕ} → (step_number head ≡ 0 → ⊥) → Done (value s room deep at r (book_of W)) s room (at + 1) r T T' W' N N' head
     head_stops n = record { did = value_head s deep at (book_of W) h o t f n; after = after_not n }
 
-    module _ (z : head.number ≡ 0) (p : Prepared s at r room T W N) {m : ℕ} (i : m ≡ unsigned_at s (at + 1)) {T₁ T₂ W' N' : List ℕ} {step result : Step} where
+    module _ (z : step_number head ≡ 0) (p : Prepared s at r room T W N) {m : ℕ} (i : m ≡ unsigned_at s (at + 1)) {T₁ T₂ W' N' : List ℕ} {step result : Step} where
       pub struct_got : get_or s at 0 ≡ 83 → Done (entries s room true (value s room (deep - 1)) m (at + 5) (r + 1) (book_of W)) s room (at + 5 + min m 1) (r + 1) T T₁ W' N N' step → Closed step 10 m r room T₁ T₂ result → Done (value s room deep at r (book_of W)) s room (at + 1) r T T₂ W' N N' result
       struct_got e d c =
           let g = begun s room deep at r f z in

@@ -15,9 +15,10 @@ use Rattle.draft.specs.Read.{Reading, got, refused, Reader, floor, over, alike, 
 use Rattle.codebook.specs.Words.{book_of}
 use Rattle.table.proofs.Rows.{length_put_rows}
 use Rattle.table.proofs.Stored.{first_row, row_other}
-use Rattle.item.specs.declared.Step.{Step}
+use Rattle.item.proofs.Stepping.{wrote_by, did_next, did_ends, pair_first, pair_both}
+use Rattle.item.specs.Contract.{Step, step_number, step_at, step_row}
 use Rattle.item.specs.Contract.{answer, read_to, Leaves, Did, Closed, Ends}
-use Rattle.item.proofs.Readings.{did_next, did_ends, pair_first, pair_both, over_closed}
+use Rattle.item.proofs.Readings.{over_closed}
 use Rattle.keys.specs.Notes.{owner_of, named, keys_of, Noted, Keeps, Joins}
 use Rattle.keys.proofs.Keeping.{keys_first, key_below, noted_move, keeps_none, keeps_then, keeps_moved}
 use Rattle.member_keys.specs.Contract.{Prepared, After, Joined, Done, KeyDone, KeyIf}
@@ -27,7 +28,7 @@ use Rattle.value.proofs.Taking.{scalar_takes}
 use Rattle.value.proofs.Turns.{Turn, turn_first, after, again_by, refused_by, turn_done}
 
 -- nothing is kept of what was refused
-pub after_not : {t t' : ℕ → Text} {N N' : List ℕ} {first : ℕ} {step : Step} → (step.number ≡ 0 → ⊥) → After t t' N N' first step
+pub after_not : {t t' : ℕ → Text} {N N' : List ℕ} {first : ℕ} {step : Step} → (step_number step ≡ 0 → ⊥) → After t t' N N' first step
 after_not n = record { keeps = λ e. absurd (n e); behind = λ e. absurd (n e) }
 
 -- a Value that holds no others leaves the notes
@@ -40,13 +41,13 @@ after_scalar s at book {room = room} {r = r} {T = T} {T'} {N = N} d p =
 
 -- an item's own row, stored behind the rows of what it holds: that row is no key
 module _ (s : List ℕ) {o : Reading} {bytes room from r : ℕ} {T T₁ T₂ W' N N' : List ℕ} {step result : Step} {k b : ℕ} (d : Did o bytes room from (r + 1) T T₁ W' step) (c : Closed step k b r room T₁ T₂ result) (a : Noted (named s room T) N r) (f : After (named s room T) (named s room T₁) N N' (r + 1) step) where
-  same_text : (e : step.number ≡ 0) (q : ℕ) → 0 < owner_of N' q → named s room T₂ q ≡ named s room T₁ q
+  same_text : (e : step_number step ≡ 0) (q : ℕ) → 0 < owner_of N' q → named s room T₂ q ≡ named s room T₁ q
   unfolding named
   same_text e q h =
       let g = did_next d e in
       let z = f.keeps e in
       let l = key_below z.noted q h in
-      rw (c.wrote e, row_other room T₁ r q (row k 0 b step.row) (omega (arith, g.next, g.fits)) (omega (arith, g.fits)) (λ i. omega (arith, ap (owner_of N') i, z.owners r (omega arith), a.blank r (omega arith))))
+      rw (wrote_by c e, row_other room T₁ r q (row k 0 b (step_row step)) (omega (arith, g.next, g.fits)) (omega (arith, g.fits)) (λ i. omega (arith, ap (owner_of N') i, z.owners r (omega arith), a.blank r (omega arith))))
 
   after_closed : After (named s room T) (named s room T₂) N N' r result
   after_closed =
@@ -101,8 +102,8 @@ first_is s room r T T' (x ∷ rows) e h k l = rw (e, first_row room T r x rows k
 
 -- a key and its value: the key is noted, and the keys of others stay what they were
 member_joined :
-    (s : List ℕ) {o : Reading} {bytes room from r : ℕ} {T₁ T₂ W₂ N N₁ N₂ : List ℕ} {t : ℕ → Text} {owner : ℕ} {key step : Step} → key.number ≡ 0 → Did o bytes room from key.row T₁ T₂ W₂ step → 0 < owner → owner ≤ r
-    → Joined t (named s room T₁) N N₁ owner r key → After (named s room T₁) (named s room T₂) N₁ N₂ key.row step → Joined t (named s room T₂) N N₂ owner r step
+    (s : List ℕ) {o : Reading} {bytes room from r : ℕ} {T₁ T₂ W₂ N N₁ N₂ : List ℕ} {t : ℕ → Text} {owner : ℕ} {key step : Step} → step_number key ≡ 0 → Did o bytes room from (step_row key) T₁ T₂ W₂ step → 0 < owner → owner ≤ r
+    → Joined t (named s room T₁) N N₁ owner r key → After (named s room T₁) (named s room T₂) N₁ N₂ (step_row key) step → Joined t (named s room T₂) N N₂ owner r step
 member_joined s {r = r} {owner = owner} e d p q j i =
     let x = j.joins e in
     record {
@@ -120,13 +121,13 @@ member_joined s {r = r} {owner = owner} e d p q j i =
     }
 
 -- how far a reading got that was accepted
-further : {o : Reading} {bytes room from to r : ℕ} {T T' W' : List ℕ} {step : Step} → Did o bytes room from r T T' W' step → (step.number ≡ 0 → to ≤ step.at) → Did o bytes room to r T T' W' step
+further : {o : Reading} {bytes room from to r : ℕ} {T T' W' : List ℕ} {step : Step} → Did o bytes room from r T T' W' step → (step_number step ≡ 0 → to ≤ (step_at step)) → Did o bytes room to r T T' W' step
 further {o} {bytes} {room} {from} {to} {r} {T} {T'} {W'} {step} d h = record { says = d.says; leaves = go o d.says d.leaves }
   where
     go : (o : Reading) → step ≡ answer r o → Leaves o bytes room from r T T' W' → Leaves o bytes room to r T T' W'
     go (refused m p) e l = tt
     go (got rows at book) e l =
-        record { wrote = l.wrote; ahead = rw (ap (λ (x : Step). x.at) e) at (h (ap (λ (x : Step). x.number) e)); within = l.within; fits = l.fits; holds = l.holds }
+        record { wrote = l.wrote; ahead = rw (ap (λ (x : Step). step_at x) e) at (h (ap (λ (x : Step). step_number x) e)); within = l.within; fits = l.fits; holds = l.holds }
 
 least : (n : ℕ) {from at : ℕ} → from ≤ at → (0 < n → from < at) → from + min n 1 ≤ at
 least zero h k = omega arith
@@ -137,23 +138,23 @@ module _ {s : List ℕ} {f : Reader} {n at₀ r₀ room : ℕ} {T₀ W₀ N₀ :
   key_did : Did (key_of s room i.turn.seen at r (book_of W)) (length s) room (at + 1) r T T₁ W₁ key
   key_did = rw (i.are refl) at k.did
 
-  pair_stops : {T' W' : List ℕ} → (key.number ≡ 0 → ⊥) → Did (member s room f i.turn.seen at r (book_of W)) (length s) room (at + 1) r T T' W' key
+  pair_stops : {T' W' : List ℕ} → (step_number key ≡ 0 → ⊥) → Did (member s room f i.turn.seen at r (book_of W)) (length s) room (at + 1) r T T' W' key
   unfolding member
   pair_stops z = pair_first (key_of s room i.turn.seen) f at (book_of W) key_did z
 
-  module _ (e : key.number ≡ 0) {T₂ W₂ : List ℕ} {step : Step} (d : Did (f key.at key.row (book_of W₁)) (length s) room (key.at + 1) key.row T₁ T₂ W₂ step) where
+  module _ (e : step_number key ≡ 0) {T₂ W₂ : List ℕ} {step : Step} (d : Did (f (step_at key) (step_row key) (book_of W₁)) (length s) room ((step_at key) + 1) (step_row key) T₁ T₂ W₂ step) where
     pair_did : Did (member s room f i.turn.seen at r (book_of W)) (length s) room (at + 1) r T T₂ W₂ step
     unfolding member
     pair_did = pair_both (key_of s room i.turn.seen) f at (book_of W) key_did e d
 
-    module _ (h : 0 < left) (o : 0 < r₀) {N₂ : List ℕ} (a : After (named s room T₁) (named s room T₂) N₁ N₂ key.row step) (z : step.number ≡ 0) where
+    module _ (h : 0 < left) (o : 0 < r₀) {N₂ : List ℕ} (a : After (named s room T₁) (named s room T₂) N₁ N₂ (step_row key) step) (z : step_number step ≡ 0) where
       on : r₀ ≤ r
       on = omega (arith, i.turn.next)
 
-      joined : Joins (named s room T) (named s room T₂) N N₂ r₀ r step.row
+      joined : Joins (named s room T) (named s room T₂) N N₂ r₀ r (step_row step)
       joined = (member_joined s e d o on k.joined a).joins z
 
-      pair_keeps : Keeps (named s room T₀) (named s room T₂) N₀ N₂ r₀ step.row
+      pair_keeps : Keeps (named s room T₀) (named s room T₂) N₀ N₂ r₀ (step_row step)
       pair_keeps =
           record {
             noted = joined.noted;
@@ -161,13 +162,13 @@ module _ {s : List ℕ} {f : Reader} {n at₀ r₀ room : ℕ} {T₀ W₀ N₀ :
             keys = λ o p l. joined.others o p (omega (arith, on)) (λ q. omega arith) ∙ i.keeps.keys o p l;
           }
 
-      pair_keys : keys_of (named s room T₂) N₂ r₀ step.row ≡ keeping s room i.turn.seen (did_next pair_did z).rows
+      pair_keys : keys_of (named s room T₂) N₂ r₀ (step_row step) ≡ keeping s room i.turn.seen (did_next pair_did z).rows
       unfolding keeping
       pair_keys =
           let g = did_next pair_did z in
           joined.mine ∙ rw (i.are refl, first_is s room r T T₂ g.rows g.wrote (omega (arith, joined.on, g.next)) (omega (arith, joined.on, g.fits)) i.table)
 
-      pair_again : Going s true f n at₀ r₀ room T₀ W₀ N₀ (left - 1) step.at step.row T₂ W₂ N₂
+      pair_again : Going s true f n at₀ r₀ room T₀ W₀ N₀ (left - 1) (step_at step) (step_row step) T₂ W₂ N₂
       unfolding again_by after
       pair_again =
           let g = did_next pair_did z in
@@ -179,7 +180,7 @@ module _ {s : List ℕ} {f : Reader} {n at₀ r₀ room : ℕ} {T₀ W₀ N₀ :
   unfolding alike
   value_did = d
 
-  value_again : 0 < left → {N₂ : List ℕ} → After (named s room T) (named s room T₂) N N₂ r step → step.number ≡ 0 → Going s false f n at₀ r₀ room T₀ W₀ N₀ (left - 1) step.at step.row T₂ W₂ N₂
+  value_again : 0 < left → {N₂ : List ℕ} → After (named s room T) (named s room T₂) N N₂ r step → step_number step ≡ 0 → Going s false f n at₀ r₀ room T₀ W₀ N₀ (left - 1) (step_at step) (step_row step) T₂ W₂ N₂
   unfolding again_by after
   value_again h a z =
       let g = did_next value_did z in
@@ -211,14 +212,14 @@ module _ {s : List ℕ} {f : Reader} {n at₀ r₀ room : ℕ} {T₀ W₀ N₀ :
 
   module _ {T₁ W₁ N₁ : List ℕ} {key : Step} where
     -- a key is refused
-    pub key_stops : {keyed : Bool} → Going s keyed f n at₀ r₀ room T₀ W₀ N₀ left at r T W N → 0 < left → KeyIf keyed s room r₀ at r T T₁ W W₁ N N₁ key → (key.number ≡ 0 → ⊥) → {T' W' N' : List ℕ} → Done (entries s room keyed f n at₀ r₀ (book_of W₀)) s room (at₀ + min n 1) r₀ T₀ T' W' N₀ N' key
+    pub key_stops : {keyed : Bool} → Going s keyed f n at₀ r₀ room T₀ W₀ N₀ left at r T W N → 0 < left → KeyIf keyed s room r₀ at r T T₁ W W₁ N N₁ key → (step_number key ≡ 0 → ⊥) → {T' W' N' : List ℕ} → Done (entries s room keyed f n at₀ r₀ (book_of W₀)) s room (at₀ + min n 1) r₀ T₀ T' W' N₀ N' key
     unfolding entries
     key_stops {keyed = true} i h k z = record { did = further (refused_by i.turn h (pair_stops i (k.some refl) {T' = T₁} {W' = W₁} z) z) (λ e. absurd (z e)); after = after_not z }
-    key_stops {keyed = false} i h k z = absurd (z (ap (λ (x : Step). x.number) (k.none refl).says))
+    key_stops {keyed = false} i h k z = absurd (z (ap (λ (x : Step). step_number x) (k.none refl).says))
 
     module _ {T₂ W₂ : List ℕ} {step : Step} where
       -- a value is refused
-      pub value_stops : {keyed : Bool} → Going s keyed f n at₀ r₀ room T₀ W₀ N₀ left at r T W N → 0 < left → KeyIf keyed s room r₀ at r T T₁ W W₁ N N₁ key → key.number ≡ 0 → Did (f key.at key.row (book_of W₁)) (length s) room (key.at + 1) key.row T₁ T₂ W₂ step → (step.number ≡ 0 → ⊥) → {T' W' N' : List ℕ} → Done (entries s room keyed f n at₀ r₀ (book_of W₀)) s room (at₀ + min n 1) r₀ T₀ T' W' N₀ N' step
+      pub value_stops : {keyed : Bool} → Going s keyed f n at₀ r₀ room T₀ W₀ N₀ left at r T W N → 0 < left → KeyIf keyed s room r₀ at r T T₁ W W₁ N N₁ key → step_number key ≡ 0 → Did (f (step_at key) (step_row key) (book_of W₁)) (length s) room ((step_at key) + 1) (step_row key) T₁ T₂ W₂ step → (step_number step ≡ 0 → ⊥) → {T' W' N' : List ℕ} → Done (entries s room keyed f n at₀ r₀ (book_of W₀)) s room (at₀ + min n 1) r₀ T₀ T' W' N₀ N' step
       unfolding entries
       value_stops {keyed = true} i h k e d z = record { did = further (refused_by i.turn h (pair_did i (k.some refl) e d) z) (λ e. absurd (z e)); after = after_not z }
       value_stops {keyed = false} i h k e d z =
@@ -226,7 +227,7 @@ module _ {s : List ℕ} {f : Reader} {n at₀ r₀ room : ℕ} {T₀ W₀ N₀ :
           record { did = further (refused_by i.turn h (value_did i (rw (q.says, q.table, q.book) at d)) z) (λ e. absurd (z e)); after = after_not z }
 
       -- a value is read
-      pub goes_on : {keyed : Bool} → Going s keyed f n at₀ r₀ room T₀ W₀ N₀ left at r T W N → 0 < left → (keyed ≡ true → 0 < r₀) → KeyIf keyed s room r₀ at r T T₁ W W₁ N N₁ key → key.number ≡ 0 → Did (f key.at key.row (book_of W₁)) (length s) room (key.at + 1) key.row T₁ T₂ W₂ step → {N₂ : List ℕ} → After (named s room T₁) (named s room T₂) N₁ N₂ key.row step → step.number ≡ 0 → Going s keyed f n at₀ r₀ room T₀ W₀ N₀ (left - 1) step.at step.row T₂ W₂ N₂
+      pub goes_on : {keyed : Bool} → Going s keyed f n at₀ r₀ room T₀ W₀ N₀ left at r T W N → 0 < left → (keyed ≡ true → 0 < r₀) → KeyIf keyed s room r₀ at r T T₁ W W₁ N N₁ key → step_number key ≡ 0 → Did (f (step_at key) (step_row key) (book_of W₁)) (length s) room ((step_at key) + 1) (step_row key) T₁ T₂ W₂ step → {N₂ : List ℕ} → After (named s room T₁) (named s room T₂) N₁ N₂ (step_row key) step → step_number step ≡ 0 → Going s keyed f n at₀ r₀ room T₀ W₀ N₀ (left - 1) (step_at step) (step_row step) T₂ W₂ N₂
       goes_on {keyed = true} i h o k e d a z = pair_again i (k.some refl) e d h (o refl) a z
       goes_on {keyed = false} i h o k e d a z =
           let q = k.none refl in

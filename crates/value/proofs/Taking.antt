@@ -8,12 +8,11 @@ use lib.ListN.{length, length-append, get_or}
 use lib.Dec.{leb, ltb, eqb}
 use Rattle.draft.specs.declared.Refusal.{Refusal}
 use Rattle.draft.specs.declared.Refusal.TheVariants.{Ended, UnexpectedByte, NoRow}
-use Rattle.draft.specs.declared.Verdict.{Verdict}
-use Rattle.draft.specs.declared.Verdict.TheVariants.{Fine, Bad}
+use Rattle.draft.specs.Verdict.{Verdict}
+use Rattle.std.specs.Prelude.{Ok, Err}
 use Rattle.draft.specs.declared.Content.{Content}
 use Rattle.draft.specs.declared.Content.TheVariants as content
-use Rattle.draft.specs.declared.Entry.{Entry}
-use Rattle.draft.specs.declared.Entry.TheVariants.{Unset, Text}
+use Rattle.std.specs.Prelude.{Some, None}
 use Rattle.draft.specs.declared.Tag.{Tag}
 use Rattle.draft.specs.declared.Tag.TheVariants.{Plain, String, Array, Struct, Unknown}
 use Rattle.draft.specs.declared.Plain.{Plain as PlainItem}
@@ -22,7 +21,7 @@ use Rattle.draft.specs.declared.Form.{Form}
 use Rattle.draft.specs.declared.Form.TheVariants.{Regular, Recorded, Recalled}
 use Rattle.draft.specs.declared.Row.{Row}
 use Rattle.draft.specs.Content.{verdict, name_rule}
-use Rattle.draft.specs.Codebook.{Book}
+use Rattle.draft.specs.Codebook.{Entry, Book}
 use Rattle.draft.specs.Read.{Reading, got, refused, Reader, opened, pair, then, behind, over, judged, contents, long_item, recalled, string_item, if_string, string, only, first_text, string_by, name, plain_item, item, floor, tag_of}
 
 abbrev Takes : ℕ → Reading → Type 0
@@ -34,8 +33,8 @@ pick_takes at true o m q i = i
 pick_takes at false o m q i = tt
 
 judged_takes : (at : ℕ) (v : Verdict) (q : ℕ) (o : Reading) → Takes at o → Takes at (judged v q o)
-judged_takes at Fine q o i = i
-judged_takes at (Bad m) q o i = tt
+judged_takes at (Ok tt) q o i = i
+judged_takes at (Err m) q o i = tt
 
 over_takes : (k b r at : ℕ) (o : Reading) → Takes (at + 1) o → Takes at (over k b r o)
 over_takes k b r at (refused m q) i = tt
@@ -62,8 +61,8 @@ module _ (s : List ℕ) (room : ℕ) where
   contents_takes c o n at r book h = judged_takes at (verdict c s o n) at _ (omega arith)
 
   recalled_takes : (e : Entry) (at r : ℕ) (book : Book) → Takes at (recalled s room e at r book)
-  recalled_takes Unset at r book = tt
-  recalled_takes (Text o n) at r book = omega arith
+  recalled_takes None at r book = tt
+  recalled_takes (Some x) at r book = omega arith
 
   string_item_takes : (f : Form) (at r : ℕ) (book : Book) → Takes at (string_item s room f at r book)
   string_item_takes Regular at r book = opened_takes 5 at r _ (contents_takes _ _ _ at r _ (omega arith))

@@ -13,9 +13,10 @@ use Rattle.draft.specs.Table.{put_rows}
 use Rattle.draft.specs.Read.{Reading, got, refused, Reader, Texts, items}
 use Rattle.codebook.specs.Words.{book_of}
 use Rattle.table.proofs.Rows.{put_append}
-use Rattle.item.specs.declared.Step.{Step}
+use Rattle.item.proofs.Stepping.{Got, did_next, did_not}
+use Rattle.item.specs.Contract.{Step, step_number, step_at, step_row}
 use Rattle.item.specs.Contract.{read_to, Did}
-use Rattle.item.proofs.Readings.{Got, did_next, did_not, done, did_no}
+use Rattle.item.proofs.Readings.{done, did_no}
 
 -- a turn of the loop over a container's items
 module _ (f : Texts → Reader) (more : Texts → List Row → Texts) (seen : Texts) (acc : List Row) (at r : ℕ) (book : Book) where
@@ -50,7 +51,7 @@ unfolding put_rows
 turn_first {r = r} h k = record { seen = []; acc = []; same = refl; next = sym (add-zero r); wrote = refl; ahead = omega arith; within = h; fits = k }
 
 module _ {f : Texts → Reader} {more : Texts → List Row → Texts} {n at₀ r₀ bytes room : ℕ} {T₀ W₀ : List ℕ} {left at r : ℕ} {T W : List ℕ} (i : Turn f more n at₀ r₀ bytes room T₀ W₀ left at r T W) where
-  unfoldable pub after : {step : Step} {T' W' : List ℕ} → 0 < left → Got (f i.seen at r (book_of W)) bytes room (at + 1) r T T' W' step → Turn f more n at₀ r₀ bytes room T₀ W₀ (left - 1) step.at step.row T' W'
+  unfoldable pub after : {step : Step} {T' W' : List ℕ} → 0 < left → Got (f i.seen at r (book_of W)) bytes room (at + 1) r T T' W' step → Turn f more n at₀ r₀ bytes room T₀ W₀ (left - 1) (step_at step) (step_row step) T' W'
   after h g =
       let l : length (i.acc ++ g.rows) ≡ length i.acc + length g.rows = length-append i.acc g.rows in
       record {
@@ -64,10 +65,10 @@ module _ {f : Texts → Reader} {more : Texts → List Row → Texts} {n at₀ r
         fits = g.fits;
       }
 
-  unfoldable pub again_by : {step : Step} {T' W' : List ℕ} → 0 < left → Did (f i.seen at r (book_of W)) bytes room (at + 1) r T T' W' step → step.number ≡ 0 → Turn f more n at₀ r₀ bytes room T₀ W₀ (left - 1) step.at step.row T' W'
+  unfoldable pub again_by : {step : Step} {T' W' : List ℕ} → 0 < left → Did (f i.seen at r (book_of W)) bytes room (at + 1) r T T' W' step → step_number step ≡ 0 → Turn f more n at₀ r₀ bytes room T₀ W₀ (left - 1) (step_at step) (step_row step) T' W'
   again_by h d e = after h (did_next d e)
 
-  pub refused_by : {step : Step} {T' T'' W' W'' : List ℕ} → 0 < left → Did (f i.seen at r (book_of W)) bytes room (at + 1) r T T' W' step → (step.number ≡ 0 → ⊥) → Did (items f more n [] [] at₀ r₀ (book_of W₀)) bytes room at₀ r₀ T₀ T'' W'' step
+  pub refused_by : {step : Step} {T' T'' W' W'' : List ℕ} → 0 < left → Did (f i.seen at r (book_of W)) bytes room (at + 1) r T T' W' step → (step_number step ≡ 0 → ⊥) → Did (items f more n [] [] at₀ r₀ (book_of W₀)) bytes room at₀ r₀ T₀ T'' W'' step
   refused_by h d e =
       let z = did_not d e in
       did_no z.why z.says (i.same ∙ items_refused f more i.seen i.acc at r₀ (book_of W) left h (ap (λ (x : ℕ). f i.seen at x (book_of W)) (sym i.next) ∙ z.reading))
@@ -81,7 +82,7 @@ module _ {f : Texts → Reader} {more : Texts → List Row → Texts} {n at₀ r
       })
 
 -- each accepted item takes a byte, so that fewer are left
-pub turn_less : (at : ℕ) {o : Reading} {bytes room r : ℕ} {T T' W' : List ℕ} {step : Step} → Did o bytes room (at + 1) r T T' W' step → step.number ≡ 0 → bytes - step.at < bytes - at
+pub turn_less : (at : ℕ) {o : Reading} {bytes room r : ℕ} {T T' W' : List ℕ} {step : Step} → Did o bytes room (at + 1) r T T' W' step → step_number step ≡ 0 → bytes - (step_at step) < bytes - at
 turn_less at d e = let g = did_next d e in omega (arith, g.ahead, g.within)
 
 -- small steps on

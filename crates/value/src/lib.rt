@@ -3,8 +3,6 @@
 // each Array and Struct, and the bytes left at each item. The keys of all Structs are noted in the lent words `notes`.
 // Items that hold no others are read in the loops, without a call of the cycle, by `scalar::read_scalar`, which the compiler makes part of
 // them while it is small; so `read_value` calls what that calls: `read_sized`, called once, would become part of it.
-// Before a call in the cycle the slice is copied, `let t = s;`: `s` itself came in as two words stored singly,
-// and to lend it on from where it lies loads both at once, which waits for the stores; the copy is made of registers.
 #![tactic(auto)]
 
 ghost use Rattle.std.specs.Prelude.{◌≡◌, true, false, ◌+◌, ◌<◌, min, length, get_or};
@@ -14,7 +12,7 @@ ghost use Rattle.member_keys.specs.Contract.{Prepared, Done};
 ghost use Rattle.heads.specs.Items.{entries};
 
 use draft::Refusal;
-use item::Step;
+use item::{Reached, Step};
 
 // The Value at `at`.
 #[cycle(read_pairs_read_value_read_values)]
@@ -35,24 +33,19 @@ pub fn read_value(
         return item::refuse(Refusal::Ended, at);
     }
     if heads::holds_items(s[at]) {
-        let head = heads::read_head(s, at, row, deep, room);
-        if head.number != 0 {
-            return head;
-        }
-        let t = s;
+        heads::read_head(s, at, row, deep, room)?;
         let n = item::unsigned(s, at + 1);
         if s[at] == b'S' {
-            let step = read_pairs(t, at + 5, row + 1, deep - 1, n, room, table, book, notes);
+            let step = read_pairs(s, at + 5, row + 1, deep - 1, n, room, table, book, notes);
             return item::close(step, 10, n as u32, row, room, table);
         }
-        let step = read_values(t, at + 5, row + 1, deep - 1, n, room, table, book, notes);
+        let step = read_values(s, at + 5, row + 1, deep - 1, n, room, table, book, notes);
         return item::close(step, 9, n as u32, row, room, table);
     }
-    let t = s;
     if scalar::is_fixed(s[at]) {
-        return scalar::read_fixed(t, at, row, room, table, book);
+        return scalar::read_fixed(s, at, row, room, table, book);
     }
-    scalar::step_of(scalar::read_sized(t, at, row, room, table, book))
+    scalar::step_of(scalar::read_sized(s, at, row, room, table, book))
 }
 
 // n values, one after the other.
@@ -79,29 +72,21 @@ fn read_values(
             return item::refuse(Refusal::Ended, next);
         }
         if heads::holds_items(s[next]) {
-            let t = s;
-            let step = read_value(t, next, free, deep, room, table, book, notes);
-            if step.number != 0 {
-                return step;
-            }
+            let step = read_value(s, next, free, deep, room, table, book, notes)?;
             next = step.at;
             free = step.row;
             left -= 1;
         } else {
-            let step = scalar::read_scalar(s, next, free, room, table, book);
-            if step.number != 0 {
-                return step;
-            }
+            let step = scalar::read_scalar(s, next, free, room, table, book)?;
             next = step.at;
             free = step.row;
             left -= 1;
         }
     }
-    Step {
-        number: 0,
+    Ok(Reached {
         at: next,
         row: free,
-    }
+    })
 }
 
 // n pairs, one after the other: each a key, and its value. Their Struct is known to the notes by the row where they begin.
@@ -124,38 +109,27 @@ fn read_pairs(
     let mut next = at;
     let mut free = row;
     while 0 < pairs {
-        let key = member_keys::read_key(s, next, free, room, table, book, notes, row);
-        if key.number != 0 {
-            return key;
-        }
+        let key = member_keys::read_key(s, next, free, room, table, book, notes, row)?;
         let here = key.at;
         if s.len() <= here {
             return item::refuse(Refusal::Ended, here);
         }
         if heads::holds_items(s[here]) {
-            let t = s;
-            let step = read_value(t, here, key.row, deep, room, table, book, notes);
-            if step.number != 0 {
-                return step;
-            }
+            let step = read_value(s, here, key.row, deep, room, table, book, notes)?;
             next = step.at;
             free = step.row;
             pairs -= 1;
         } else {
-            let step = scalar::read_scalar(s, here, key.row, room, table, book);
-            if step.number != 0 {
-                return step;
-            }
+            let step = scalar::read_scalar(s, here, key.row, room, table, book)?;
             next = step.at;
             free = step.row;
             pairs -= 1;
         }
     }
-    Step {
-        number: 0,
+    Ok(Reached {
         at: next,
         row: free,
-    }
+    })
 }
 
 // The Array at `at`.

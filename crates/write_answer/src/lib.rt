@@ -10,21 +10,18 @@ use draft::Refusal;
 // The most bytes that a message may have.
 pub const MOST_BYTES: usize = 65536;
 
-#[derive(Drop)]
-pub enum Answer {
-    Written { length: usize },
-    Refused(Refusal),
-}
+// How long the form is that is written, or why none is.
+pub type Answer = Result<usize, Refusal>;
 
 // The answer for a form that needs n bytes of an output that has so much room.
 pub fn answer_for(n: usize, room: usize) -> Answer
     ensures { result ≡ answer_for n room }
 {
     if MOST_BYTES < n {
-        return Answer::Refused(Refusal::FormTooLong);
+        return Err(Refusal::FormTooLong);
     }
     if room < n {
-        return Answer::Refused(Refusal::OutputTooShort);
+        return Err(Refusal::OutputTooShort);
     }
-    Answer::Written { length: n }
+    Ok(n)
 }

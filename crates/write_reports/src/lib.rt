@@ -11,11 +11,11 @@ pub fn written(answer: write_answer::Answer, size: &mut u64) -> u8
     ensures { report result size.new ≡ writers.report_of answer }
 {
     match answer {
-        write_answer::Answer::Written { length: n } => {
+        Ok(n) => {
             *size = n as u64;
             0
         }
-        write_answer::Answer::Refused(refusal) => {
+        Err(refusal) => {
             *size = 0;
             draft::number(refusal)
         }

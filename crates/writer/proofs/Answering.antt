@@ -12,9 +12,8 @@ use Rattle.draft.specs.Table.{room_of, row_at, from}
 use Rattle.draft.specs.Writable.{writable_to}
 use Rattle.draft.specs.Written.{written, rows_of}
 use Rattle.message.specs.Filled.{needed, filled, Filled}
-use Rattle.write_answer.specs.declared.Answer.{Answer}
-use Rattle.write_answer.specs.declared.Answer.TheVariants.{Written}
-use Rattle.write_answer.specs.Answers.{given, answer_for, answer_to, form_of, answer_of, output_of, Did}
+use Rattle.std.specs.Prelude.{Ok}
+use Rattle.write_answer.specs.Answers.{Answer, given, answer_for, answer_to, form_of, answer_of, output_of, Did}
 use Rattle.writer.specs.Contract.{RefusedWith}
 
 -- what is told of a form is enough for the answer, and what is left is what the answer says
@@ -31,7 +30,7 @@ module _ (form : List ℕ) (room : ℕ) where
   unfolding filled
   output_filled = go (leb (length form) 65536) (leb (length form) room)
     where
-      go : (x y : Bool) → output_of (given x FormTooLong (given y OutputTooShort (Written (length form)))) form room ≡ cond x (cond y (form ++ replicate (room - length form) 0) (replicate room 0)) (replicate room 0)
+      go : (x y : Bool) → output_of (given x FormTooLong (given y OutputTooShort (Ok (length form)))) form room ≡ cond x (cond y (form ++ replicate (room - length form) 0) (replicate room 0)) (replicate room 0)
       go true true = refl
       go true false = refl
       go false y = refl

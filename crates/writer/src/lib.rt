@@ -15,7 +15,7 @@ fn refuse(output: &mut [u8], refusal: Refusal) -> Answer
     ensures { RefusedWith refusal output.old output.new result }
 {
     copying::clear(output);
-    Answer::Refused(refusal)
+    Err(refusal)
 }
 
 // What `write` does by a limit that may be stated.

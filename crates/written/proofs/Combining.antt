@@ -7,12 +7,12 @@ use native.Mathlib.Omega.{arith}
 use native.Mathlib.Nat.{add-zero}
 use lib.ListN.{length, length-append}
 use borrow.Author.Tests.{eq-eqb, le-leb, lt-ltb}
+use Rattle.std.proofs.Common.{Some}
 use Rattle.draft.specs.declared.Row.{Row}
-use Rattle.draft.specs.declared.Verdict.{Verdict}
-use Rattle.draft.specs.declared.Verdict.TheVariants.{Fine}
+use Rattle.draft.specs.Verdict.{Verdict}
+use Rattle.std.specs.Prelude.{Ok}
 use Rattle.draft.specs.declared.Content.{Content as ContentOf}
 use Rattle.draft.specs.declared.Content.TheVariants as content
-use Rattle.draft.specs.declared.Extent.TheVariants.{Until}
 use Rattle.draft.specs.Content.{verdict, key_rule}
 use Rattle.draft.specs.Read.{Texts, text_of}
 use Rattle.draft.specs.Writable.{Walk, pair as walk_pair, items, alike, nothing, closed, over, holding as walk-holding, integer_item, boolean_item, sized, content_item, counted, only, string as walk-string, string_by, member}
@@ -34,24 +34,24 @@ first_kind_lem (stands_more (means k e i) t) h = k
 module _ (row : ℕ → Row) (rows : ℕ) (s : List ℕ) where
   -- wherever the cells stand, inside the rows, f walks to their end
   pub record WalkedBy (f : Walk) (cs : List Cell) : Type 0 where
-    pub walks : (r : ℕ) → Stands row s r cs → r + length cs ≤ rows → f r ≡ Until (r + length cs)
+    pub walks : (r : ℕ) → Stands row s r cs → r + length cs ≤ rows → f r ≡ Some (r + length cs)
 
   -- the same, of a walk that sees the first row
   pub record WalkedAt (f : Row → Walk) (cs : List Cell) : Type 0 where
-    pub walks : (r : ℕ) → Stands row s r cs → r + length cs ≤ rows → f (row r) r ≡ Until (r + length cs)
+    pub walks : (r : ℕ) → Stands row s r cs → r + length cs ≤ rows → f (row r) r ≡ Some (r + length cs)
 
   -- the same of a run of n items, behind those whose texts were seen
   pub record RunBy (f : Texts → Walk) (more : Texts → ℕ → Texts) (n : ℕ) (seen : Texts) (cs : List Cell) : Type 0 where
-    pub walks : (r : ℕ) → Stands row s r cs → r + length cs ≤ rows → items f more n seen r ≡ Until (r + length cs)
+    pub walks : (r : ℕ) → Stands row s r cs → r + length cs ≤ rows → items f more n seen r ≡ Some (r + length cs)
 
-  pub closed_is : (x : Row) {r n : ℕ} → x.end ≡ n → r ≡ n → closed x (Until r) ≡ Until n
+  pub closed_is : (x : Row) {r n : ℕ} → x.end ≡ n → r ≡ n → closed x (Some r) ≡ Some n
   closed_is x {r} {n} e i = rw (i, eq-eqb x.end n e)
 
   pub content_fits : (c : ContentOf) {t : List ℕ} → Keeps c t → sized c (length t) ≡ true → WalkedAt (content_item s c) (content_cell c t ∷ [])
   unfolding content_item verdict
   content_fits c {t} k z = record { walks = λ r h i. go r (stands_head h) }
     where
-      go : (r : ℕ) → Means s r (row r) (content_cell c t) → content_item s c (row r) r ≡ Until (r + 1)
+      go : (r : ℕ) → Means s r (row r) (content_cell c t) → content_item s c (row r) r ≡ Some (r + 1)
       go r (means h e (says_contents i j l)) =
           let b : (row r).b ≡ length t = long s (row r).a (row r).b j ∙ ap length l in
           rw (b, z) (rw (← b, le-leb _ _ j, l, k) (closed_is (row r) (e ∙ rw add-zero) refl))
@@ -59,13 +59,13 @@ module _ (row : ℕ → Row) (rows : ℕ) (s : List ℕ) where
   pub integer_fits : {n : ℕ} → WalkedAt integer_item (cell 4 0 (number n) ∷ [])
   integer_fits {n} = record { walks = λ r h i. go r (stands_head h) }
     where
-      go : (r : ℕ) → Means s r (row r) (cell 4 0 (number n)) → integer_item (row r) r ≡ Until (r + 1)
+      go : (r : ℕ) → Means s r (row r) (cell 4 0 (number n)) → integer_item (row r) r ≡ Some (r + 1)
       go r (means h e (says_number i a b)) = rw b (closed_is (row r) (e ∙ rw add-zero) refl)
 
   pub boolean_fits : {n : ℕ} → n ≤ 1 → WalkedAt boolean_item (cell 5 0 (number n) ∷ [])
   boolean_fits {n} l = record { walks = λ r h i. go r (stands_head h) }
     where
-      go : (r : ℕ) → Means s r (row r) (cell 5 0 (number n)) → boolean_item (row r) r ≡ Until (r + 1)
+      go : (r : ℕ) → Means s r (row r) (cell 5 0 (number n)) → boolean_item (row r) r ≡ Some (r + 1)
       go r (means h e (says_number i a b)) = rw (a, le-leb n 1 l, b) (closed_is (row r) (e ∙ rw add-zero) refl)
 
   -- an item's own row, over what it holds
@@ -74,7 +74,7 @@ module _ (row : ℕ → Row) (rows : ℕ) (s : List ℕ) where
       → WalkedAt (λ x r. over x (f (r + 1))) (cell k m (holding b) ∷ cs)
   over_fits k b {f} {m} {cs} g i = record { walks = λ r h l. go r (stands_head h) (g.walks (r + 1) (stands_tail h) (omega arith)) }
     where
-      go : (r : ℕ) → Means s r (row r) (cell k m (holding b)) → f (r + 1) ≡ Until (r + 1 + length cs) → over (row r) (f (r + 1)) ≡ Until (r + suc (length cs))
+      go : (r : ℕ) → Means s r (row r) (cell k m (holding b)) → f (r + 1) ≡ Some (r + 1 + length cs) → over (row r) (f (r + 1)) ≡ Some (r + suc (length cs))
       go r (means h e (says_holding j l a n)) z = rw (a, z) (closed_is (row r) (omega (arith, e, i)) (omega arith))
 
   pub held_fits :
@@ -83,8 +83,8 @@ module _ (row : ℕ → Row) (rows : ℕ) (s : List ℕ) where
   held_fits k b {f} {m} {cs} g i = record { walks = λ r h l. go r (stands_head h) ((over_fits k b g i).walks r h l) }
     where
       go :
-          (r : ℕ) → Means s r (row r) (cell k m (holding b)) → over (row r) (f (r + 1)) ≡ Until (r + suc (length cs))
-          → walk-holding b (row r) (f (r + 1)) ≡ Until (r + suc (length cs))
+          (r : ℕ) → Means s r (row r) (cell k m (holding b)) → over (row r) (f (r + 1)) ≡ Some (r + suc (length cs))
+          → walk-holding b (row r) (f (r + 1)) ≡ Some (r + suc (length cs))
       go r (means h e (says_holding j l a n)) z = rw (eq-eqb _ _ n) z
 
   -- what only one kind of row begins
@@ -128,8 +128,8 @@ module _ (row : ℕ → Row) (rows : ℕ) (s : List ℕ) where
     counted_fits k {n} {m} {cs} g i = record { walks = λ r h l. go r (stands_head h) (g.walks (r + 1) (stands_tail h) (omega arith)) }
       where
         go :
-            (r : ℕ) → Means s r (row r) (cell k m (holding n)) → items f more n [] (r + 1) ≡ Until (r + 1 + length cs)
-            → counted f more (row r) r ≡ Until (r + suc (length cs))
+            (r : ℕ) → Means s r (row r) (cell k m (holding n)) → items f more n [] (r + 1) ≡ Some (r + 1 + length cs)
+            → counted f more (row r) r ≡ Some (r + suc (length cs))
         go r (means h e (says_holding j l a b)) z = rw (a, b, z) (closed_is (row r) (omega (arith, e, i)) (omega arith))
 
   pub text_fits : {t : List ℕ} → Keeps content.Text t → WalkedAt (content_item s content.Text) (content_cell content.Text t ∷ [])
@@ -145,7 +145,7 @@ module _ (row : ℕ → Row) (rows : ℕ) (s : List ℕ) where
 
   -- a String that keeps a rule: an Other's name, a Struct's key
   pub string_by_fits :
-      (rule : List ℕ → Verdict) {t : List ℕ} → Keeps content.Text t → rule t ≡ Fine → WalkedBy (string_by row rows s rule) (content_cell content.Text t ∷ [])
+      (rule : List ℕ → Verdict) {t : List ℕ} → Keeps content.Text t → rule t ≡ Ok tt → WalkedBy (string_by row rows s rule) (content_cell content.Text t ∷ [])
   unfolding string_by
   string_by_fits rule k n = record { walks = λ r h l. rw ((string_fits k).walks r h l, text_there (stands_head h), n) }
 
@@ -158,7 +158,7 @@ module _ (row : ℕ → Row) (rows : ℕ) (s : List ℕ) where
   alike_fits seen g = g
 
   pub member_fits :
-      {f : Walk} (seen : Texts) {t : List ℕ} {cs : List Cell} → Keeps content.Text t → key_rule seen t ≡ Fine → WalkedBy f cs
+      {f : Walk} (seen : Texts) {t : List ℕ} {cs : List Cell} → Keeps content.Text t → key_rule seen t ≡ Ok tt → WalkedBy f cs
       → WalkedBy (member row rows s f seen) (content_cell content.Text t ∷ cs)
   unfolding member
   member_fits seen k n g = pair_fits (string_by_fits (key_rule seen) k n) g

@@ -9,9 +9,9 @@ use lib.Dec.{leb}
 use lib.ListN.{length, length-append}
 use lib.Seq.{take-append_seam}
 use borrow.Author.Tests.{leb-true, le-leb, eq-eqb}
+use Rattle.std.proofs.Common.{Some}
 use Rattle.text.proofs.Comparing.{both}
 use Rattle.draft.specs.declared.Row.{Row}
-use Rattle.draft.specs.declared.Extent.TheVariants.{Until}
 use Rattle.draft.specs.Bytes.{Below}
 use Rattle.draft.specs.Table.{room_of, row_at}
 use Rattle.draft.specs.Codebook.{Book}
@@ -55,7 +55,7 @@ abbrev row_in : ℕ → List ℕ → ℕ → Row
 row_in most T = row_at (room_of most (length T)) T
 
 module _ (bytes most deep : ℕ) (T : List ℕ) (rows : ℕ) (s : List ℕ) where
-  tests : writable_within bytes most deep T rows s ≡ true → Within bytes most T rows s × (call_or_response (row_in most T) rows s deep 0 ≡ Until rows)
+  tests : writable_within bytes most deep T rows s ≡ true → Within bytes most T rows s × (call_or_response (row_in most T) rows s deep 0 ≡ Some rows)
   unfolding writable_within
   tests e =
       let f = both (leb (length s) bytes) _ e in
@@ -100,8 +100,8 @@ module _ (bytes most deep : ℕ) (T : List ℕ) (rows : ℕ) (s : List ℕ) wher
       let d = g.derived in
       let n : length g.cells ≡ rows = sym (counts g.meaning) ∙ rows_length most T rows in
       let h = message_fits (row_in most T) rows s d.derivation b (kept d.legal (measured d.derivation).honest) in
-      let e : call_or_response (row_in most T) rows s deep 0 ≡ Until (0 + length g.cells) = h.walks 0 (realises_stands rows g.meaning) (omega (arith, n)) in
-      let i : call_or_response (row_in most T) rows s deep 0 ≡ Until rows = e ∙ ap Until (omega (arith, n)) in
+      let e : call_or_response (row_in most T) rows s deep 0 ≡ Some (0 + length g.cells) = h.walks 0 (realises_stands rows g.meaning) (omega (arith, n)) in
+      let i : call_or_response (row_in most T) rows s deep 0 ≡ Some rows = e ∙ ap Some (omega (arith, n)) in
       let a : leb (length s) bytes ≡ true = le-leb (length s) bytes (omega (arith, w.text)) in
       let c : leb 1 rows ≡ true = le-leb 1 rows (omega (arith, w.some_row)) in
       let f : leb rows most ≡ true = le-leb rows most (omega (arith, w.few)) in

@@ -8,7 +8,7 @@ use lib.Dec.{leb}
 use lib.ListN.{length}
 use borrow.Author.Tests.{le-leb, lt-ltb}
 use Rattle.draft.specs.declared.Row.{Row}
-use Rattle.draft.specs.declared.Verdict.TheVariants.{Fine}
+use Rattle.std.specs.Prelude.{Ok}
 use Rattle.draft.specs.declared.Content.TheVariants as content
 use Rattle.draft.specs.declared.Item.{Item}
 use Rattle.draft.specs.declared.Item.TheVariants as item
@@ -122,7 +122,7 @@ module _ (row : ℕ → Row) (rows : ℕ) (s : List ℕ) where
         (pairs_fit ps (below_back xs ys (rw e at b)) (kept_back fs gs (rw g at k))) f
 
     pair_fit :
-        {d : ℕ} (seen : Texts) {t xs : List ℕ} {cs : List Cell} {fs : List Sent} → Pair d t xs cs fs → key_rule seen t ≡ Fine → Below 256 xs → Kept fs
+        {d : ℕ} (seen : Texts) {t xs : List ℕ} {cs : List Cell} {fs : List Sent} → Pair d t xs cs fs → key_rule seen t ≡ Ok tt → Below 256 xs → Kept fs
         → WalkedBy row rows s (member row rows s (value row rows s d) seen) cs
     pair_fit seen (pair {xs = xs} {ys} {f = f} {fs} x v e) n b k =
         member_fits row rows s seen (keeps_text x k) n (value_fits v (below_back xs ys (rw e at b)) (kept_back (f ∷ []) fs k))
@@ -149,7 +149,7 @@ module _ (row : ℕ → Row) (rows : ℕ) (s : List ℕ) where
 
   -- a fault's Struct that keeps its rule
   fault_fits :
-      {d : ℕ} {xs : List ℕ} {cs : List Cell} {fs : List Sent} → Struct d xs cs fs → fault_rule (held_cells (below cs)) ≡ Fine → Below 256 xs → Kept fs
+      {d : ℕ} {xs : List ℕ} {cs : List Cell} {fs : List Sent} → Struct d xs cs fs → fault_rule (held_cells (below cs)) ≡ Ok tt → Below 256 xs → Kept fs
       → WalkedBy row rows s (fault_struct row rows s d) cs
   unfolding fault_struct
   fault_fits {d} {cs = cs} x j b k =

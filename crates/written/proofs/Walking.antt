@@ -8,15 +8,14 @@ use native.Mathlib.Omega.{arith}
 use lib.Dec.{eqb, leb, ltb}
 use lib.ListN.{length, length-append}
 use borrow.Author.Tests.{eqb-true, leb-true}
+use Rattle.std.proofs.Common.{Option, Some}
 use Rattle.draft.specs.declared.Row.{Row}
-use Rattle.draft.specs.declared.Verdict.{Verdict}
-use Rattle.draft.specs.declared.Verdict.TheVariants.{Fine}
+use Rattle.draft.specs.Verdict.{Verdict}
+use Rattle.std.specs.Prelude.{Ok}
 use Rattle.draft.specs.declared.Content.{Content as ContentOf}
 use Rattle.draft.specs.declared.Content.TheVariants as content
 use Rattle.draft.specs.declared.Item.{Item}
 use Rattle.draft.specs.declared.Item.TheVariants as item
-use Rattle.draft.specs.declared.Extent.{Extent}
-use Rattle.draft.specs.declared.Extent.TheVariants.{Until}
 use Rattle.draft.specs.Bytes.{part}
 use Rattle.draft.specs.Rows.{below, kind_of, item_of}
 use Rattle.draft.specs.Content.{name_rule, key_rule, fault_rule}
@@ -69,7 +68,7 @@ writes_string {t} h k =
     }
 
 writes_string_by :
-    (rule : List ℕ → Verdict) {t : List ℕ} → length t < 4294967296 → Keeps content.Text t → rule t ≡ Fine → Writes (OneBy rule) (content_cell content.Text t ∷ [])
+    (rule : List ℕ → Verdict) {t : List ℕ} → length t < 4294967296 → Keeps content.Text t → rule t ≡ Ok tt → Writes (OneBy rule) (content_cell content.Text t ∷ [])
 writes_string_by rule {t} h k n = writes_as (λ xs fs x. go xs fs x) (writes_string h k)
   where
     go : (xs : List ℕ) (fs : List Sent) → OneString xs (content_cell content.Text t ∷ []) fs → OneBy rule xs (content_cell content.Text t ∷ []) fs
@@ -154,16 +153,16 @@ module _ (row : ℕ → Row) (rows : ℕ) (s : List ℕ) where
 
   -- whatever f accepts, P derives
   record Sound (f : Walk) (P : Production) : Type 0 where
-    walked : (r to : ℕ) → f r ≡ Until to → Walked P r to
+    walked : (r to : ℕ) → f r ≡ Some to → Walked P r to
 
   -- the same, where a row of kind k stands
   record SoundAt (k : ℕ) (f : Row → Walk) (P : Production) : Type 0 where
-    walked : (r to : ℕ) → (row r).kind ≡ k → f (row r) r ≡ Until to → Walked P r to
+    walked : (r to : ℕ) → (row r).kind ≡ k → f (row r) r ≡ Some to → Walked P r to
 
   -- an item of one row
-  one : {P : Production} {r to : ℕ} {c : Cell} → leaf (row r) r ≡ Until to → ((row r).end ≡ r + 1 → Means s r (row r) c) → (Words → Writes P (c ∷ [])) → Walked P r to
+  one : {P : Production} {r to : ℕ} {c : Cell} → leaf (row r) r ≡ Some to → ((row r).end ≡ r + 1 → Means s r (row r) c) → (Words → Writes P (c ∷ [])) → Walked P r to
   one {r = r} {to} {c} e m w =
-      let f = closed_by (row r) (Until (r + 1)) e in
+      let f = closed_by (row r) (Some (r + 1)) e in
       let i : r + 1 ≡ to = until_same f.1 in
       record { cells = c ∷ []; ends = sym i; stands = stands_one (m (f.0 ∙ sym i)); writes = w }
 
@@ -173,7 +172,7 @@ module _ (row : ℕ → Row) (rows : ℕ) (s : List ℕ) where
       →
       (length (text_of s (row r)) < 4294967296 → sized c (length (text_of s (row r))) ≡ true → Keeps c (text_of s (row r)) → Writes P
       (content_cell c (text_of s (row r)) ∷ []))
-      → (row r).kind ≡ kind_of c → content_item s c (row r) r ≡ Until to → Walked P r to
+      → (row r).kind ≡ kind_of c → content_item s c (row r) r ≡ Some to → Walked P r to
   content_at c r to make k e =
       let x = row r in
       let g = content_by s c x r e in
@@ -224,8 +223,8 @@ module _ (row : ℕ → Row) (rows : ℕ) (s : List ℕ) where
 
   -- an item's own row, over what it holds
   over_walked :
-      {P Q : Production} (k b : ℕ) {r to : ℕ} {o : Extent} → has_number k ≡ false → has_content k ≡ false → (row r).kind ≡ k → (row r).b ≡ b
-      → over (row r) o ≡ Until to → (o ≡ Until to → Walked P (r + 1) to)
+      {P Q : Production} (k b : ℕ) {r to : ℕ} {o : Option ℕ} → has_number k ≡ false → has_content k ≡ false → (row r).kind ≡ k → (row r).b ≡ b
+      → over (row r) o ≡ Some to → (o ≡ Some to → Walked P (r + 1) to)
       → (Words → (cs : List Cell) → Writes P cs → Writes Q (cell k (length cs) (holding b) ∷ cs)) → Walked Q r to
   over_walked k b {r} {to} {o} h i j l e p make =
       let f = over_by (row r) o e in
@@ -241,14 +240,14 @@ module _ (row : ℕ → Row) (rows : ℕ) (s : List ℕ) where
   -- the same, of a settled number of things
   held_walked :
       {P Q : Production} (k b : ℕ) {f : Walk} {r to : ℕ} → has_number k ≡ false → has_content k ≡ false → (row r).kind ≡ k → Sound f P
-      → ((cs : List Cell) → Writes P cs → Writes Q (cell k (length cs) (holding b) ∷ cs)) → walk-holding b (row r) (f (r + 1)) ≡ Until to → Walked Q r to
+      → ((cs : List Cell) → Writes P cs → Writes Q (cell k (length cs) (holding b) ∷ cs)) → walk-holding b (row r) (f (r + 1)) ≡ Some to → Walked Q r to
   held_walked k b {f} {r} {to} h i j p make e =
       let g = holding_by b (row r) (f (r + 1)) e in
       over_walked k b h i j g.0 g.1 (p.walked (r + 1) to) (λ w. make)
 
   -- n items, one after the other, behind those whose texts were seen
   record SoundOn (f : Texts → Walk) (more : Texts → ℕ → Texts) (n : ℕ) (seen : Texts) (Q : Production) : Type 0 where
-    walked : (r to : ℕ) → items f more n seen r ≡ Until to → Walked Q r to
+    walked : (r to : ℕ) → items f more n seen r ≡ Some to → Walked Q r to
 
   no_items : {f : Texts → Walk} {more : Texts → ℕ → Texts} {seen : Texts} (Q : Production) → Writes Q [] → SoundOn f more zero seen Q
   unfolding items
@@ -362,7 +361,7 @@ module _ (row : ℕ → Row) (rows : ℕ) (s : List ℕ) where
 
   item_sound :
       (d : ℕ) (nest : Nest) → SoundAt 9 (array_item nest) (Array d) → SoundAt 10 (struct_item row rows s nest) (Struct d)
-      → (r to : ℕ) (i : Item) → HasKind i (row r).kind → walk-item row rows s i nest (row r) r ≡ Until to → Walked (Value d) r to
+      → (r to : ℕ) (i : Item) → HasKind i (row r).kind → walk-item row rows s i nest (row r) r ≡ Some to → Walked (Value d) r to
   item_sound d nest p q r to item.Call j e = unfit_until e
   item_sound d nest p q r to item.Response j e = unfit_until e
   item_sound d nest p q r to item.Fault j e = unfit_until e
@@ -416,7 +415,7 @@ module _ (row : ℕ → Row) (rows : ℕ) (s : List ℕ) where
             let i : f.middle ≡ to = until_same h.1 in
             let w = (only_sound 10 (struct_sound d)).walked r to (f.is ∙ h.1) in
             let z : f.middle ≡ r + length w.cells = i ∙ w.ends in
-            let k : fault_rule (held_cells (below w.cells)) ≡ Fine = rw (z, held_under w.stands) at h.0 in
+            let k : fault_rule (held_cells (below w.cells)) ≡ Ok tt = rw (z, held_under w.stands) at h.0 in
             record {
               cells = w.cells;
               ends = w.ends;
@@ -426,7 +425,7 @@ module _ (row : ℕ → Row) (rows : ℕ) (s : List ℕ) where
       }
 
   first_sound :
-      (d r to : ℕ) (i : Item) → HasKind i (row r).kind → first row rows s i d (row r) r ≡ Until to → Walked (CallOrResponse d) r to
+      (d r to : ℕ) (i : Item) → HasKind i (row r).kind → first row rows s i d (row r) r ≡ Some to → Walked (CallOrResponse d) r to
   unfolding has_number has_content
   first_sound d r to item.Call j e =
       held_walked {P = CallBody d} {Q = CallOrResponse d} 1 2 refl refl j (pair_sound (CallBody d) call_join string_sound (only_sound 9 (array_sound d))) (λ cs w. writes_call w) e
@@ -443,7 +442,7 @@ module _ (row : ℕ → Row) (rows : ℕ) (s : List ℕ) where
   first_sound d r to item.Unknown j e = unfit_until e
 
   -- what is walked is derived
-  pub walked : (d r to : ℕ) → call_or_response row rows s d r ≡ Until to → Walked (CallOrResponse d) r to
+  pub walked : (d r to : ℕ) → call_or_response row rows s d r ≡ Some to → Walked (CallOrResponse d) r to
   unfolding call_or_response
   walked d r to e =
       let f = fit_by (ltb r rows) _ e in

@@ -1,0 +1,2 @@
+-- The laws of `ascii`.
+pub mod Each

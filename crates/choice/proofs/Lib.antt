@@ -1,2 +1,0 @@
--- The laws of `choice`.
-pub mod Handing

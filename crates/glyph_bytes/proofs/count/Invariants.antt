@@ -1,0 +1,6 @@
+use Rattle.std.proofs.Common.{◌+◌}
+use Rattle.glyph_bytes.proofs.Bytes.{Counting}
+use Rattle.glyph_bytes.proofs.count.Given as goal
+
+abbrev pub invariant-loop-i : goal.invariant-loop-i
+invariant-loop-i l = Counting l.s l.at (l.at + l.i) l.value

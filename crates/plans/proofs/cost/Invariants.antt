@@ -1,0 +1,7 @@
+use Rattle.draft.specs.Table.{row_at}
+use Rattle.buckets.specs.Numbered.{numbered_text}
+use Rattle.plans.proofs.Costing.{Costing}
+use Rattle.plans.proofs.cost.Given as goal
+
+abbrev pub invariant-loop-j : goal.invariant-loop-j
+invariant-loop-j l = Costing (numbered_text (row_at l.room l.table) l.strings l.text) l.plan l.count l.j l.sum

@@ -1,0 +1,7 @@
+use Rattle.draft.specs.Table.{row_at}
+use Rattle.sorting.specs.Sorting.{key_text}
+use Rattle.sorting.proofs.Settling.{Sorting}
+use Rattle.sorting.proofs.sort_few.Given as goal
+
+abbrev pub invariant-loop-i : goal.invariant-loop-i
+invariant-loop-i l = Sorting (key_text l.room (row_at l.room l.table) l.text) l.initial.rows l.i l.rows

@@ -1,0 +1,12 @@
+use lib.ListN.{length}
+use Rattle.shares.proofs.Lent.{no_share_only}
+use Rattle.station_pieces.proofs.Piecing.{end_there, end_nowhere}
+use Rattle.station_pieces.proofs.end.Goals as goal
+
+pub returns-in_err-share : goal.returns-in_err-share
+returns-in_err-share c =
+    rw (no_share_only c.from_residual.result c.from_residual.ensures.0)
+    (end_nowhere c.args.station c.args.split c.args.table.now c.share_of.ensures c.in_err-share.was c.args.limit c.args.state (length c.args.room.now))
+
+pub returns : goal.returns
+returns c = end_there c.args.station c.args.split c.args.table.now c.share_of.ensures c.in_ok-share.was c.args.limit c.args.state (length c.args.room.now) c.end.ensures

@@ -1,0 +1,11 @@
+use Rattle.shares.proofs.Lent.{no_share_only}
+use Rattle.station_pieces.proofs.Piecing.{piece_there, piece_nowhere}
+use Rattle.station_pieces.proofs.next.Goals as goal
+
+pub returns-in_err-share : goal.returns-in_err-share
+returns-in_err-share c =
+    rw (no_share_only c.from_residual.result c.from_residual.ensures.0)
+    (piece_nowhere c.args.station c.args.split c.args.table.now c.share_of.ensures c.in_err-share.was c.args.limit c.args.state c.args.piece.now c.args.room.now)
+
+pub returns : goal.returns
+returns c = piece_there c.args.station c.args.split c.args.table.now c.share_of.ensures c.in_ok-share.was c.args.limit c.args.state c.args.piece.now c.args.room.now c.next.ensures

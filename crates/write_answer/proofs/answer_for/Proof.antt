@@ -1,9 +1,0 @@
-use Rattle.write_answer.proofs.Lengths.{answer_long, answer_short, answer_written}
-use Rattle.write_answer.proofs.answer_for.Statement.{statement}
-use Rattle.write_answer.proofs.answer_for.Tie as tie
-
-pub answer_for_spec : {M : Type 1} → statement M
-answer_for_spec = tie.close (tie.spec
-    (λ c. search answer_long)  -- returns
-    (λ c. search answer_short)  -- returns-2
-    (λ c. search answer_written))  -- returns-3
