@@ -2,7 +2,8 @@
 // or brings: `lines` settles what is handed to it.
 #![tactic(auto)]
 
-ghost use Rattle.std.specs.Prelude.{◌≤◌, length, IfOk};
+ghost use Rattle.std.specs.Prelude.{◌≡◌, ◌≤◌, length, IfOk};
+ghost use Rattle.console.specs.declared.NoInput.TheVariants.{Failed};
 
 use std::env::{Env, FillError};
 use std::fs::File;
@@ -23,6 +24,8 @@ pub enum NoInput {
 }
 
 impl From<io::Error> for NoInput {
+    ghost from_gives = { λ error n. n ≡ Failed error };
+
     fn from(error: io::Error) -> NoInput {
         NoInput::Failed(error)
     }

@@ -32,8 +32,7 @@ use Rattle.draft.specs.Read.{text_of}
 use Rattle.draft.specs.Writable.{Walk, floor, then, ruled, closed, leaf, over, integer_item, content_item, only, string, string_by, pair, other_item, array_item, struct_item, item, items, alike, member, keeping, value, nested}
 use Rattle.keys.specs.Notes.{named, keys_of, Noted, Keeps, Joins}
 use Rattle.keys.proofs.Keeping.{keys_first, noted_move, keeps_none, keeps_then}
-use Rattle.row_ends.proofs.Ending.{over_none}
-use Rattle.extents.specs.Asked.{Ready, Known, Walkable}
+use Rattle.extents.specs.Asked.{Ready, Known}
 use Rattle.extents.proofs.Walking.{only_past, only_not, only_here}
 use Rattle.key_rows.specs.Contract.{Prepared, Walked, Done, KeyDone, KeyIf}
 use Rattle.key_rows.proofs.Keying.{until_one, no_end, fit_end, ruled_end, closed_end, content_end, only_end, string_end}
@@ -125,10 +124,7 @@ module _ {s : List ℕ} {room rows : ℕ} {T : List ℕ} {good r : ℕ} {N : Lis
       whole_is : {o e : Option ℕ} → o ≡ run s room rows T (deep - 1) (eqb x.kind 10) n (r + 1) → e ≡ over x o → e ≡ holder s room rows T deep x r
       whole_is i g = contents_less (row_at room T) rows s x.kind h deep x r z (eqb x.kind 10) refl (rw f at i) g
 
-      pub contents_no : {e : Option ℕ} {N' N'' : List ℕ} → Done (run s room rows T (deep - 1) (eqb x.kind 10) n (r + 1)) (named s room T) N N' (r + 1) None → e ≡ None → Done (holder s room rows T deep x r) (named s room T) N N'' r e
-      contents_no d i = stopped (whole_is d.says (over_none x)) i
-
-      pub contents_done : {next : ℕ} {e : Option ℕ} {N' : List ℕ} → Done (run s room rows T (deep - 1) (eqb x.kind 10) n (r + 1)) (named s room T) N N' (r + 1) (Some next) → e ≡ over x (Some next) → Done (holder s room rows T deep x r) (named s room T) N N' r e
+      pub contents_done : {o e : Option ℕ} {N' : List ℕ} → Done (run s room rows T (deep - 1) (eqb x.kind 10) n (r + 1)) (named s room T) N N' (r + 1) o → e ≡ over x o → Done (holder s room rows T deep x r) (named s room T) N N' r e
       contents_done d g = record { says = whole_is d.says g; walked = over_walked p.noted x d.walked g }
 
 -- where the loop over items stands; a Struct's keys are noted for the row `first`
@@ -353,4 +349,4 @@ kind_holds k k' h e = rw e h
 pub row_below : {rows room words r : ℕ} → Ready rows room words → r < rows → r < 4096
 row_below h l = omega (arith, h.stated, h.most)
 
-pub ruleset walked = (contents_ready, contents_none, contents_no, contents_done, going_first, going_on, going_ready, going_done, item_ready, item_known, holds_item, key_fails, rows_end, contents_stop, contents_again, scalar_stop, scalar_again, none_stop, single, kind_past, kind_not, kind_here, kind_holds, array_holds, struct_holds, array_walked, struct_walked, row_below)
+pub ruleset walked = (contents_ready, contents_none, contents_done, going_first, going_on, going_ready, going_done, item_ready, item_known, holds_item, key_fails, rows_end, contents_stop, contents_again, scalar_stop, scalar_again, none_stop, single, kind_past, kind_not, kind_here, kind_holds, array_holds, struct_holds, array_walked, struct_walked, row_below)

@@ -32,7 +32,7 @@ use Rattle.draft.specs.Rows.{item_of}
 use Rattle.draft.specs.Content.{name_rule}
 use Rattle.draft.specs.Bytes.{part}
 use Rattle.draft.specs.Read.{text_of}
-use Rattle.draft.specs.Writable.{Walk, Nest, floor, under, over, content_item, string, string_by, name, pair, array_item, struct_item, item, value, nested}
+use Rattle.draft.specs.Writable.{Walk, Nest, floor, under, over, content_item, string, string_by, name, pair, item, value, nested}
 use Rattle.row_ends.proofs.Ending.{ending}
 use Rattle.extents.specs.Asked.{Checked, Known}
 use Rattle.extents.proofs.Walking.{walking, only_there, known_kind}

@@ -78,7 +78,7 @@ fn walk_other(
     requires { Walkable text.now room rows table.now good × (r < 4096) }
     ensures { result ≡ other_item (row_at room table.now) rows text.now row r }
 {
-    let next = walk_name_and_binary(table, room, rows, text, good, r + 1)?;
+    let next = walk_name_and_binary(table, room, rows, text, good, r + 1);
     row_ends::close_holding(2, row, next)
 }
 
@@ -114,7 +114,7 @@ fn walk_contents(
         keyed,
         r + 1,
         notes,
-    )?;
+    );
     row_ends::close_over(row, next)
 }
 

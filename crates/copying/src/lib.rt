@@ -12,10 +12,25 @@ pub fn clear(out: &mut [u8])
     out.fill(0);
 }
 
-// Bytes to the front.
+// Bytes to the front, one after the other.
+fn copy_singly(out: &mut [u8], t: &[u8])
+    requires { length t.now ≤ length out.old }
+    ensures { Front t.now out.old out.new }
+{
+    for i in 0..t.len() {
+        out[i] = t[i];
+    }
+}
+
+// Bytes to the front. Most texts have 8 to 16: the first eight and the last are all of them, with no loop.
 pub fn copy(out: &mut [u8], t: &[u8])
     requires { length t.now ≤ length out.old }
     ensures { Front t.now out.old out.new }
 {
-    out[..t.len()].copy_from_slice(t);
+    if t.len() < 8 || 16 < t.len() {
+        copy_singly(out, t);
+        return;
+    }
+    eight_bytes::copy_eight(out, t, 0);
+    eight_bytes::copy_eight(out, t, t.len() - 8);
 }

@@ -1,8 +1,8 @@
 -- Blanks and digits from a place on. Assumes nothing.
-use Rattle.std.proofs.Common.{◌≡◌, refl, sym, ◌∙◌, ap, Bool, true, false, List, [], ◌∷◌, ℕ, zero, suc, ◌+◌, ◌-◌, ◌*◌, ◌≤◌, ◌<◌, min, length, get_or, take, drop, arith, add_comm, add-one, length-drop, drop-cons}
+use Rattle.std.proofs.Common.{◌≡◌, refl, ◌∙◌, ap, true, false, List, [], ◌∷◌, ℕ, zero, suc, ◌+◌, ◌-◌, ◌*◌, ◌≤◌, ◌<◌, min, length, get_or, take, drop, arith, add_comm, add-one, length-drop, drop-cons}
 use Rattle.std.specs.Char.{is_ascii_digit}
 use Rattle.std.specs.List.{prefix_len}
-use Rattle.std.proofs.lemmas.List.{take_all, get_or-drop}
+use Rattle.std.proofs.lemmas.List.{take_all}
 use Rattle.std.proofs.lemmas.List.Sums.{prefix_len-le-length}
 use Rattle.lexical.specs.Digits.{digit, digit_value}
 use Rattle.glyph.specs.Numbers.{is_blank, blanks, past, digits, decimal}
@@ -14,9 +14,6 @@ from s at = take (length s - at) (drop at s)
 
 from_drop : (s : List ℕ) (at : ℕ) → from s at ≡ drop at s
 from_drop s at = take_all (length s - at) (drop at s) (omega (arith, length-drop at s))
-
-from_byte : (s : List ℕ) (at i : ℕ) → get_or (from s at) i 0 ≡ get_or s (at + i) 0
-from_byte s at i = ap (λ (l : List ℕ). get_or l i 0) (from_drop s at) ∙ get_or-drop at s i 0
 
 pub from_length : (s : List ℕ) (at : ℕ) → length (from s at) ≡ length s - at
 from_length s at = ap length (from_drop s at) ∙ length-drop at s
@@ -81,39 +78,29 @@ decimal_more s i n e h = rw (drop-cons s i 0 h, e, add-one)
 cut : (n d : ℕ) → min (min n 2147483649 * 10 + d) 2147483649 ≡ min (n * 10 + d) 2147483649
 cut n d = omega arith
 
--- the i-th byte from a place on, as a digit
-digit_there : (s : List ℕ) (at i : ℕ) {b : Bool} → is_ascii_digit (get_or (from s at) i 0) ≡ b → digit (get_or s (at + i) 0) ≡ b
+pub count_again : {s : List ℕ} {at i v w : ℕ} → Counting s at i v → i < length s → is_ascii_digit (get_or s i 0) ≡ true → w ≡ min (v * 10 + (get_or s i 0 - 48)) 2147483649 → Counting s at (i + 1) w
 unfolding digit
-digit_there s at i e = ap is_ascii_digit (sym (from_byte s at i)) ∙ e
-
-pub count_again : {s : List ℕ} {at v w : ℕ} (i : ℕ) → Counting s at (at + i) v → i < length (from s at) → is_ascii_digit (get_or (from s at) i 0) ≡ true → w ≡ min (v * 10 + (get_or (from s at) i 0 - 48)) 2147483649 → Counting s at (at + (i + 1)) w
-count_again {s} {at} {v} {w} i k h e g =
-    let t : digit (get_or s (at + i) 0) ≡ true = digit_there s at i e in
-    let l : at + i < length s = omega (arith, from_length s at) in
-    let again : Counting s at (at + i + 1) w =
+count_again {s} {i = i} k h e g =
     record {
-      n = k.n * 10 + digit_value (get_or s (at + i) 0);
-      ends = k.ends ∙ omega (arith, digits_more s (at + i) t l);
-      same = k.same ∙ decimal_more s (at + i) k.n t l;
-      is = g ∙ rw (from_byte s at i, k.is) (cut k.n (digit_value (get_or s (at + i) 0)));
-      ahead = omega arith;
+      n = k.n * 10 + digit_value (get_or s i 0);
+      ends = k.ends ∙ omega (arith, digits_more s i e h);
+      same = k.same ∙ decimal_more s i k.n e h;
+      is = g ∙ rw k.is (cut k.n (digit_value (get_or s i 0)));
+      ahead = omega (arith, k.ahead);
       within = omega arith;
-    } in
-    let e : at + i + 1 ≡ at + (i + 1) = omega arith in
-    rw (← e) again
+    }
 
 count_stops : {s : List ℕ} {at i v : ℕ} → Counting s at i v → digit (get_or s i 0) ≡ false → Counted s at i v
 count_stops {s} {at} {i} {v} k t =
     record { ends = omega (arith, k.ends, digits_none s i t); is = k.is ∙ rw (k.same, decimal_none s i k.n t); ahead = k.ahead; within = k.within }
 
-pub count_done : {s : List ℕ} {at v : ℕ} (i : ℕ) → Counting s at (at + i) v → is_ascii_digit (get_or (from s at) i 0) ≡ false → Counted s at (at + i) v
-count_done {s} {at} i k e = count_stops k (digit_there s at i e)
-
-pub count_end : {s : List ℕ} {at v : ℕ} (i : ℕ) → Counting s at (at + i) v → length (from s at) ≤ i → Counted s at (length s) v
+pub count_done : {s : List ℕ} {at i v : ℕ} → Counting s at i v → is_ascii_digit (get_or s i 0) ≡ false → Counted s at i v
 unfolding digit
-count_end {s} {at} i k h =
-    let e : at + i ≡ length s = omega (arith, k.within, from_length s at) in
-    rw (← e) (count_stops k (rw (get_d_past s (at + i) (omega arith))))
+count_done k e = count_stops k e
+
+pub count_end : {s : List ℕ} {at i v : ℕ} → Counting s at i v → length s ≤ i → Counted s at i v
+unfolding digit
+count_end {s} {i = i} k h = count_stops k (rw (get_d_past s i h))
 
 -- what is below the cut
 pub count_small : {s : List ℕ} {at i v : ℕ} → Counting s at i v → v ≤ 2147483649

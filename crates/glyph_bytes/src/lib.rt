@@ -159,20 +159,17 @@ fn onward(value: usize, more: u8) -> usize
     (value * 10 + more as usize).min(2147483649)
 }
 
+// Stays: a `while`: a `for` over the places, or over the bytes with `enumerate`, took 1.5 and 1.9 times as long for an integer of 65,000 digits.
 // The digits at a place, the number cut at 2,147,483,649, which is out of range for integers of both signs and past the end of any message.
 pub fn count(s: &[u8], at: usize) -> Digits
     requires { at ≤ length s.now }
     ensures { Counted s.now at result.end result.value }
 {
+    let mut i = at;
     let mut value = 0;
-    for (i, b) in s[at..].iter().enumerate() {
-        if !b.is_ascii_digit() {
-            return Digits { end: at + i, value };
-        }
-        value = onward(value, *b - b'0');
+    while i < s.len() && s[i].is_ascii_digit() {
+        value = onward(value, s[i] - b'0');
+        i += 1;
     }
-    Digits {
-        end: s.len(),
-        value,
-    }
+    Digits { end: i, value }
 }

@@ -1,17 +1,25 @@
 -- Messages of both editions, read: the examples of documents 003 and 000 in the letters that document 02 names, and what the decisions on it
 -- say. One table of cases, and what is to be shown of it. Assumes nothing.
-use Rattle.std.specs.Prelude.{cond, List, [], ◌∷◌, ℕ, eqb, length}
+use Rattle.std.specs.Prelude.{List, [], ◌∷◌, ℕ, Ok, Err, length}
 use Prim.Native.String.{String}
 use Rattle.draft.specs.declared.Row.{Row}
 use Rattle.draft.specs.Bytes.{bytes}
 use Rattle.draft.specs.Rows.{row}
-use Rattle.glyph.specs.declared.Refusal.{Refusal}
-use Rattle.glyph.specs.declared.Refusal.TheVariants.{Ended, UnexpectedByte, BadText, TooDeep, NoRow, TooLong, RepeatedKey, BadLimit, OutOfRange}
 use Rattle.glyph.specs.declared.Edition.{Edition}
 use Rattle.glyph.specs.declared.Edition.TheVariants.{New, Old}
 use Rattle.glyph.specs.Read.{Reading}
-use Rattle.glyph.specs.Answers.{reading, answer_of, Answer, accepted_as, refused_as}
+use Rattle.glyph.specs.Refusals.{number_of}
+use Rattle.glyph.specs.Answers.{reading, answer_of, Answer}
 use Rattle.glyph_demands.specs.Answered.{rows_in}
+
+-- an answer by its numbers: how many rows and bytes were read, or a refusal's number and its place
+pub data Told : Type 0 where
+  Accepted : ℕ → ℕ → Told
+  Refused : ℕ → ℕ → Told
+
+abbrev told : Answer → Told
+told (Ok x) = Accepted x.rows x.used
+told (Err x) = Refused (number_of x.refusal) x.place
 
 -- an edition, a limit of nesting, a message, a table's number of words, and what reading gives: the answer and the rows
 pub record Case : Type 0 where
@@ -19,34 +27,21 @@ pub record Case : Type 0 where
   pub limit : ℕ
   pub sent : List ℕ
   pub words : ℕ
-  pub answer : Answer
+  pub answer : Told
   pub rows : List Row
 
--- the refusal of a number that the papers give
-abbrev refusal_of : ℕ → Refusal
-refusal_of n =
-    cond (eqb n 1) Ended
-    (cond (eqb n 3) UnexpectedByte
-    (cond (eqb n 5) BadText
-    (cond (eqb n 8) TooDeep
-    (cond (eqb n 9) NoRow
-    (cond (eqb n 10) TooLong
-    (cond (eqb n 20) RepeatedKey
-    (cond (eqb n 25) OutOfRange
-    BadLimit)))))))
-
 abbrev accepted : Edition → String → ℕ → List Row → Case
-accepted e s used rows = record { edition = e; limit = 8; sent = bytes s; words = 64; answer = accepted_as (length rows) used; rows = rows }
+accepted e s used rows = record { edition = e; limit = 8; sent = bytes s; words = 64; answer = Accepted (length rows) used; rows = rows }
 
 abbrev refused : Edition → String → ℕ → ℕ → Case
-refused e s number place = record { edition = e; limit = 8; sent = bytes s; words = 64; answer = refused_as (refusal_of number) place; rows = [] }
+refused e s number place = record { edition = e; limit = 8; sent = bytes s; words = 64; answer = Refused number place; rows = [] }
 
 -- with another limit and another table
 abbrev refused_with : ℕ → ℕ → String → ℕ → ℕ → Case
-refused_with limit words s number place = record { edition = Old; limit = limit; sent = bytes s; words = words; answer = refused_as (refusal_of number) place; rows = [] }
+refused_with limit words s number place = record { edition = Old; limit = limit; sent = bytes s; words = words; answer = Refused number place; rows = [] }
 
 abbrev accepted_with : ℕ → ℕ → String → ℕ → List Row → Case
-accepted_with limit words s used rows = record { edition = Old; limit = limit; sent = bytes s; words = words; answer = accepted_as (length rows) used; rows = rows }
+accepted_with limit words s used rows = record { edition = Old; limit = limit; sent = bytes s; words = words; answer = Accepted (length rows) used; rows = rows }
 
 -- each character of a text here stands for the byte of its number: `ð` for 240, `ÿ` for 255
 unfoldable pub cases : List Case
@@ -177,7 +172,7 @@ cases =
 
 -- the answer and the rows
 pub data Outcome : Type 0 where
-  outcome : Answer → List Row → Outcome
+  outcome : Told → List Row → Outcome
 
 -- what a table of cases says
 abbrev pub expected : List Case → List Outcome
@@ -185,7 +180,7 @@ expected [] = []
 expected (c ∷ cs) = outcome c.answer c.rows ∷ expected cs
 
 abbrev outcome_of : Reading → Outcome
-outcome_of o = outcome (answer_of o) (rows_in o)
+outcome_of o = outcome (told (answer_of o)) (rows_in o)
 
 -- and what reading gives
 abbrev pub given : List Case → List Outcome

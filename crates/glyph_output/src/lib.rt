@@ -76,6 +76,18 @@ fn put_few(out: &mut [u8], most: usize, at: usize, n: u32) -> usize
     }
 }
 
+// One below 100,000,000.
+fn put_some(out: &mut [u8], most: usize, at: usize, n: u32) -> usize
+    requires { Open most (length out.old) at × (n < 100000000) }
+    ensures { Adds (digits_before 10 n []) most out.old at out.new result }
+{
+    if n < 10000 {
+        return put_few(out, most, at, n);
+    }
+    let next = put_few(out, most, at, n / 10000);
+    put_four(out, most, next, n % 10000)
+}
+
 // Any number, four digits at a time.
 fn put_digits(out: &mut [u8], most: usize, at: usize, n: u32) -> usize
     requires { Open most (length out.old) at }
@@ -84,7 +96,7 @@ fn put_digits(out: &mut [u8], most: usize, at: usize, n: u32) -> usize
     if n < 10000 {
         return put_few(out, most, at, n);
     }
-    let next = put_digits(out, most, at, n / 10000);
+    let next = put_some(out, most, at, n / 10000);
     put_four(out, most, next, n % 10000)
 }
 

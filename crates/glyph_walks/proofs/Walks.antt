@@ -13,7 +13,6 @@ use Rattle.draft.specs.declared.Row.{Row}
 use Rattle.draft.specs.Strings.{Text as TextOf}
 use Rattle.draft.specs.Table.{row_at}
 use Rattle.draft.specs.Writable.{Walk, closed, leaf, over, integer_item}
-use Rattle.row_ends.proofs.Ending.{over_none}
 use Rattle.extents.specs.Asked.{Walkable}
 use Rattle.keys.specs.Notes.{named, Noted}
 use Rattle.keys.proofs.Keeping.{noted_move, keeps_none, keeps_then}
@@ -140,11 +139,8 @@ module _ (e : Edition) {s : List ℕ} {room rows : ℕ} {T : List ℕ} {good r :
             let o = l ∙ held_same (row_at room T) rows s keyed (object (row_at room T) rows s e (deep - 1) Any) n (r + 1) ∙ rw (q, i) in
             g ∙ rw (nested_less (row_at room T) rows s e deep z, o) (sym (held_run (row_at room T) rows s e x r h (deep - 1) (sym m ∙ f)))
 
-        pub container_no : {k : Option ℕ} {N' N'' : List ℕ} → Done (run s room rows T e (deep - 1) keyed n (r + 1)) (named s room T) N N' (r + 1) None → k ≡ None → Done (here s room rows T e deep x r) (named s room T) N N'' r k
-        container_no d y = stopped (here_is_run d.says (over_none x)) y
-
-        pub container_done : {next : ℕ} {k : Option ℕ} {N' : List ℕ} → Done (run s room rows T e (deep - 1) keyed n (r + 1)) (named s room T) N N' (r + 1) (Some next) → k ≡ over x (Some next) → Done (here s room rows T e deep x r) (named s room T) N N' r k
-        container_done {next} d g = record { says = here_is_run d.says g; walked = below_walked a.noted d.walked (λ j u. over_end x (Some next) (sym g ∙ u)) }
+        pub container_done : {o k : Option ℕ} {N' : List ℕ} → Done (run s room rows T e (deep - 1) keyed n (r + 1)) (named s room T) N N' (r + 1) o → k ≡ over x o → Done (here s room rows T e deep x r) (named s room T) N N' r k
+        container_done {o} d g = record { says = here_is_run d.says g; walked = below_walked a.noted d.walked (λ j u. over_end x o (sym g ∙ u)) }
 
 -- ---- the loop over the objects of a list or the pairs of a dict
 
@@ -206,6 +202,6 @@ met_walkable a = record { ready = a.ready; checked = a.checked }
 pub prepared_walkable : {s : List ℕ} {room rows : ℕ} {T : List ℕ} {good r : ℕ} {N : List ℕ} → Prepared s room rows T good r N → Walkable s room rows T good
 prepared_walkable a = record { ready = a.ready; checked = a.checked }
 
-pub ruleset walks = (object_none, object_says, leaf_says, container_ready, container_floor, container_not, container_no, container_done, going_first, going_on, going_ready, going_done, entry_key, entry_past, entry_met, container_stops, container_again, leaf_stops, leaf_again, here_is, held_so, met_walkable, prepared_walkable)
+pub ruleset walks = (object_none, object_says, leaf_says, container_ready, container_floor, container_not, container_done, going_first, going_on, going_ready, going_done, entry_key, entry_past, entry_met, container_stops, container_again, leaf_stops, leaf_again, here_is, held_so, met_walkable, prepared_walkable)
 
 pub ruleset objects = (object_missing, object_walked, object_leaf, here_is, held_so)

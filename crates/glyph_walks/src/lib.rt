@@ -38,7 +38,7 @@ fn walk_leaf(
         5 => row_ends::walk_boolean(row, r),
         8 => extents::walk_content(text, Content::Binary, row, r, good),
         11 => extents::walk_content(text, Content::Text, row, r, good),
-        13 => row_ends::close_holding(0, row, r + 1),
+        13 => row_ends::close_holding(0, row, Some(r + 1)),
         _ => None,
     }
 }
@@ -77,7 +77,7 @@ fn walk_container(
         keyed,
         r + 1,
         notes,
-    )?;
+    );
     row_ends::close_over(row, next)
 }
 

@@ -147,13 +147,13 @@ fn is_among(table: &[u32], room: usize, rows: usize, m: Member, n: usize, first:
 {
     let mut here = first;
     for _ in 0..n {
-        let Some(other) = member_among(rows, here) else {
+        if rows <= here || rows <= here + 1 {
             return false;
-        };
-        if other == m {
+        }
+        if member_at(here) == m {
             return true;
         }
-        here = end_of(table, room, other.value as usize);
+        here = end_of(table, room, here + 1);
     }
     false
 }

@@ -14,6 +14,9 @@ ghost use Rattle.plan_writer.specs.Answers.{chosen, Did};
 
 use draft::Refusal;
 
+// The most bytes that a message may have.
+pub const MOST_BYTES: usize = write_answer::MOST_BYTES;
+
 // Why nothing is written: as without a plan, or because the plan isn't taken.
 #[derive(Clone, Copy)]
 pub enum PlanRefusal {
@@ -113,7 +116,7 @@ fn write_within(
     requires { allowed limit ≡ true }
     ensures { Did limit table.now rows text.now plan.now output.old output.new result }
 {
-    if write_answer::MOST_BYTES < text.len() {
+    if MOST_BYTES < text.len() {
         return refuse(output, PlanRefusal::Refused(Refusal::TooLong));
     }
     if shape::writable_to(table, rows, text, limit) {

@@ -15,14 +15,16 @@ fn close(row: Row, next: usize) -> Option<usize>
     if end == next { Some(next) } else { None }
 }
 
-pub fn close_over(row: Row, next: usize) -> Option<usize>
-    ensures { result ≡ over row (Some next) }
+// What holds others ends nowhere if they do not fit.
+pub fn close_over(row: Row, next: Option<usize>) -> Option<usize>
+    ensures { result ≡ over row next }
 {
-    if row.a == 0 { close(row, next) } else { None }
+    let end = next?;
+    if row.a == 0 { close(row, end) } else { None }
 }
 
-pub fn close_holding(b: u32, row: Row, next: usize) -> Option<usize>
-    ensures { result ≡ holding b row (Some next) }
+pub fn close_holding(b: u32, row: Row, next: Option<usize>) -> Option<usize>
+    ensures { result ≡ holding b row next }
 {
     if row.b == b {
         close_over(row, next)

@@ -2,11 +2,8 @@
 use mathlib.Core.Path.{◌≡◌, refl, sym, ◌∙◌}
 use mathlib.Core.Bool.{Bool, false}
 use mathlib.Core.List.{List}
-use Prim.Native.Nat.{ℕ, zero, suc, ◌+◌, ◌*◌, ◌-◌, ◌/◌, ◌≤◌, ◌<◌}
+use Prim.Native.Nat.{ℕ, ◌+◌, ◌*◌, ◌-◌, ◌≤◌, ◌<◌}
 use native.Mathlib.Omega.{arith}
-use native.Mathlib.Nat.{mul-le-mul_right}
-use mir.Syntax.{w64}
-use mir.Val.{Fits}
 use lib.ListN.{length, replicate}
 use borrow.Author.Tests.{lt-ltb, le-ltb, le-leb, lt-leb}
 use Rattle.std.proofs.Common.{Option, Some, None, nat_eq}
@@ -22,7 +19,7 @@ use Rattle.draft.specs.Table.{room_of, row_at, from}
 use Rattle.draft.specs.Content.{fault_rule}
 use Rattle.draft.specs.Read.{held_rows}
 use Rattle.draft.specs.Writable.{only, string, struct_item, nested, fault_struct, first, call_or_response, wholly, writable_within, writable, writable_to}
-use Rattle.extents.specs.Asked.{Ready, Checked, Walkable}
+use Rattle.extents.specs.Asked.{Ready, Walkable}
 use Rattle.extents.proofs.Walking.{only_there}
 use Rattle.keys.proofs.Keeping.{noted_blank, noted_move}
 use Rattle.key_rows.specs.Contract.{Entries, Prepared}

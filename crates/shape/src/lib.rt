@@ -75,15 +75,15 @@ fn walk_call_or_response(
     let item = draft::item_of(row.kind);
     match item {
         Item::Call => {
-            let next = walk_method_and_array(table, room, rows, text, good, deep, r + 1, notes)?;
+            let next = walk_method_and_array(table, room, rows, text, good, deep, r + 1, notes);
             row_ends::close_holding(2, row, next)
         }
         Item::Response => {
-            let next = containers::walk_value(table, room, rows, text, good, deep, r + 1, notes)?;
+            let next = containers::walk_value(table, room, rows, text, good, deep, r + 1, notes);
             row_ends::close_holding(1, row, next)
         }
         Item::Fault => {
-            let next = walk_fault_struct(table, room, rows, text, good, deep, r + 1, notes)?;
+            let next = walk_fault_struct(table, room, rows, text, good, deep, r + 1, notes);
             row_ends::close_holding(1, row, next)
         }
         _ => None,

@@ -47,7 +47,10 @@ fn list(rt: &HostRuntime, message: &[u8], table: &mut [u32], listing: &mut [u8])
 fn run(rt: &HostRuntime, line: &[u8], room: &mut [u8], listing: &mut [u8]) {
     match line.strip_prefix(b"8 words ") {
         Some(line) => list(rt, unescape(line, room), &mut [0u32; 8], listing),
-        None => list(rt, unescape(line, room), &mut [0u32; 16384], listing),
+        None => {
+            let mut table = [0u32; 16384];
+            list(rt, unescape(line, room), &mut table, listing)
+        }
     }
 }
 

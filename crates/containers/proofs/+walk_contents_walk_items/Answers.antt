@@ -6,14 +6,11 @@ use Rattle.containers.proofs.+walk_contents_walk_items.Goals.{walk_items-in-Inte
 pub walk_contents-returns-then-deep-eq0 : goal.walk_contents-returns-then-deep-eq0
 walk_contents-returns-then-deep-eq0 t c = search walked
 
-pub walk_contents-walk_items-requires : goal.walk_contents-walk_items-requires
-walk_contents-walk_items-requires t c = (search rules, search walked)
-
-pub walk_contents-returns-in_err-next : goal.walk_contents-returns-in_err-next
-walk_contents-returns-in_err-next t c = search (walked, c.in_err-next.ensures)
+pub walk_contents-walk_items-next-requires : goal.walk_contents-walk_items-next-requires
+walk_contents-walk_items-next-requires t c = (search rules, search walked)
 
 pub walk_contents-returns : goal.walk_contents-returns
-walk_contents-returns t c = search (walked, c.in_ok-next.ensures)
+walk_contents-returns t c = search walked
 
 pub walk_items-loop-i-init : goal.walk_items-loop-i-init
 walk_items-loop-i-init t c = record { going = search walked; same = refl }

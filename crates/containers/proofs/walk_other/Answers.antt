@@ -1,8 +1,5 @@
 use Rattle.containers.proofs.Nesting.{nesting}
 use Rattle.containers.proofs.walk_other.Goals as goal
 
-pub returns-in_err-next : goal.returns-in_err-next
-returns-in_err-next c = search (nesting, c.in_err-next.ensures)
-
 pub returns : goal.returns
-returns c = search (nesting, c.in_ok-next.ensures)
+returns c = search nesting

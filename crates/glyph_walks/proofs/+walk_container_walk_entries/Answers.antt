@@ -10,14 +10,11 @@ walk_container-returns-then-deep-eq0 t c =
       | walk_container-then-deep-eq0-via-else-deep-eq0+then-not-may_hold w ↦ search walks
     ]
 
-pub walk_container-walk_entries-requires : goal.walk_container-walk_entries-requires
-walk_container-walk_entries-requires t c = (search rules, search walks)
-
-pub walk_container-returns-in_err-next : goal.walk_container-returns-in_err-next
-walk_container-returns-in_err-next t c = search (walks, c.in_err-next.ensures)
+pub walk_container-walk_entries-next-requires : goal.walk_container-walk_entries-next-requires
+walk_container-walk_entries-next-requires t c = (search rules, search walks)
 
 pub walk_container-returns : goal.walk_container-returns
-walk_container-returns t c = search (walks, c.in_ok-next.ensures)
+walk_container-returns t c = search walks
 
 pub walk_entries-loop-i-init : goal.walk_entries-loop-i-init
 walk_entries-loop-i-init t c = record { going = search walks; same = refl }

@@ -1,5 +1,4 @@
-use Rattle.std.proofs.Common.{rules}
-use Rattle.shape.proofs.Calling.{faults, fault_there, fault_fine}
+use Rattle.shape.proofs.Calling.{faults}
 use Rattle.shape.proofs.walk_fault_struct.Goals as goal
 
 pub returns-in_err-next : goal.returns-in_err-next

@@ -1,10 +1,10 @@
 use Rattle.std.proofs.Common.{rules}
 use Rattle.glyph_output.proofs.Adding.{adding}
 use Rattle.glyph_output.proofs.Leaves.{leaves}
-use Rattle.glyph_output.proofs.+put_digits.Goals as goal
+use Rattle.glyph_output.proofs.put_some.Goals as goal
 
 pub put_four-requires : goal.put_four-requires
-put_four-requires t c = (search adding, search rules)
+put_four-requires c = (search adding, search rules)
 
 pub returns : goal.returns
-returns t c = search (rules, leaves)
+returns c = search (rules, leaves)
