@@ -22,12 +22,17 @@ fn copy_singly(out: &mut [u8], t: &[u8])
     }
 }
 
-// Bytes to the front. Most texts have 8 to 16: the first eight and the last are all of them, with no loop.
+// Bytes to the front. Most texts have 8 to 16: the first eight and the last are all of them, with no loop. Of fewer than eight there is none
+// either, once it is compiled: they have a call of their own.
 pub fn copy(out: &mut [u8], t: &[u8])
     requires { length t.now ≤ length out.old }
     ensures { Front t.now out.old out.new }
 {
-    if t.len() < 8 || 16 < t.len() {
+    if t.len() < 8 {
+        copy_singly(out, t);
+        return;
+    }
+    if 16 < t.len() {
         copy_singly(out, t);
         return;
     }

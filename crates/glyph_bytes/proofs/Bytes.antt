@@ -1,38 +1,44 @@
 -- Blanks and digits from a place on. Assumes nothing.
-use Rattle.std.proofs.Common.{◌≡◌, refl, ◌∙◌, ap, true, false, List, [], ◌∷◌, ℕ, zero, suc, ◌+◌, ◌-◌, ◌*◌, ◌≤◌, ◌<◌, min, length, get_or, take, drop, arith, add_comm, add-one, length-drop, drop-cons}
+use Rattle.std.proofs.Common.{◌≡◌, refl, ◌∙◌, true, false, List, [], ◌∷◌, ℕ, zero, suc, ◌+◌, ◌-◌, ◌*◌, ◌≤◌, ◌<◌, min, length, get_or, drop, arith, add-one, drop-cons}
+use lib.ListN.{drop_of_length-le}
 use Rattle.std.specs.Char.{is_ascii_digit}
-use Rattle.std.specs.List.{prefix_len}
-use Rattle.std.proofs.lemmas.List.{take_all}
-use Rattle.std.proofs.lemmas.List.Sums.{prefix_len-le-length}
 use Rattle.lexical.specs.Digits.{digit, digit_value}
 use Rattle.glyph.specs.Numbers.{is_blank, blanks, past, digits, decimal}
 use Rattle.glyph_bytes.specs.Places.{Skipped, Counted}
 
--- the bytes from a place on, as the code takes them
-abbrev pub from : List ℕ → ℕ → List ℕ
-from s at = take (length s - at) (drop at s)
+-- where skipping blanks stands
+pub record Skipping (s : List ℕ) (at i : ℕ) : Type 0 where
+  pub same : past s at ≡ past s i
+  pub ahead : at ≤ i
+  pub within : i ≤ length s
 
-from_drop : (s : List ℕ) (at : ℕ) → from s at ≡ drop at s
-from_drop s at = take_all (length s - at) (drop at s) (omega (arith, length-drop at s))
-
-pub from_length : (s : List ℕ) (at : ℕ) → length (from s at) ≡ length s - at
-from_length s at = ap length (from_drop s at) ∙ length-drop at s
-
--- the blanks in front are those that pass the test one after the other
-blanks_are : (s : List ℕ) → blanks s ≡ prefix_len is_blank s
+blanks_more : (s : List ℕ) (i : ℕ) → is_blank (get_or s i 0) ≡ true → i < length s → blanks (drop i s) ≡ suc (blanks (drop (i + 1) s))
 unfolding blanks
-blanks_are [] = refl
-blanks_are (x ∷ s) = rw (blanks_are s, add_comm, add-one)
+blanks_more s i e h = rw (drop-cons s i 0 h, e, add-one)
 
-pub skipped : {s : List ℕ} {at n : ℕ} → at ≤ length s → n ≡ prefix_len is_blank (from s at) → Skipped s at (at + n)
-unfolding past
-skipped {s} {at} {n} h e =
-    let f : n ≡ prefix_len is_blank (drop at s) = e ∙ ap (prefix_len is_blank) (from_drop s at) in
-    record {
-      is = rw (blanks_are (drop at s), f);
-      ahead = omega arith;
-      within = omega (arith, prefix_len-le-length is_blank (drop at s), length-drop at s);
-    }
+blanks_none : (s : List ℕ) (i : ℕ) → is_blank (get_or s i 0) ≡ false → i < length s → blanks (drop i s) ≡ 0
+unfolding blanks
+blanks_none s i e h = rw (drop-cons s i 0 h, e)
+
+blanks_end : (s : List ℕ) (i : ℕ) → length s ≤ i → blanks (drop i s) ≡ 0
+unfolding blanks
+blanks_end s i h = rw (drop_of_length-le s {i = i} h)
+
+pub skip_first : {s : List ℕ} {at : ℕ} → at ≤ length s → Skipping s at at
+skip_first h = record { same = refl; ahead = omega arith; within = h }
+
+module _ {s : List ℕ} {at i : ℕ} (k : Skipping s at i) where
+  pub skip_again : i < length s → is_blank (get_or s i 0) ≡ true → Skipping s at (i + 1)
+  unfolding past
+  skip_again h e = record { same = k.same ∙ omega (arith, blanks_more s i e h); ahead = omega (arith, k.ahead); within = omega arith }
+
+  pub skip_done : i < length s → is_blank (get_or s i 0) ≡ false → Skipped s at i
+  unfolding past
+  skip_done h e = record { is = omega (arith, k.same, blanks_none s i e h); ahead = k.ahead; within = k.within }
+
+  pub skip_end : length s ≤ i → Skipped s at (length s)
+  unfolding past
+  skip_end h = record { is = omega (arith, k.same, k.within, blanks_end s i h); ahead = omega (arith, k.ahead); within = omega arith }
 
 -- no test of a byte holds past the end, since none holds of 0
 pub get_d_past : (s : List ℕ) (i : ℕ) → length s ≤ i → get_or s i 0 ≡ 0

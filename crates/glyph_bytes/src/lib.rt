@@ -2,7 +2,6 @@
 #![tactic(auto)]
 
 ghost use Rattle.std.specs.Prelude.{◌≡◌, ◌+◌, ◌*◌, ◌≤◌, ◌<◌, min, eqb, length, get_or};
-ghost use Rattle.std.specs.List.{prefix_len};
 ghost use Rattle.glyph.specs.Letters.{letter_of, wanted, many_kind, keyed_by, three_kind, name_want, attributes_want};
 ghost use Rattle.glyph.specs.Numbers.{is_blank};
 ghost use Rattle.glyph_bytes.specs.Places.{Skipped, Stands, Open, Counted};
@@ -114,19 +113,19 @@ pub fn attributes_want(three: Three) -> Want
     }
 }
 
+// Stays: an arm for each, which becomes one test of a bit: with `matches!` a run of blanks takes longer to pass (docs/LOOK-BACK.md).
 #[tactic(auto, unfolding(glyph::specs::Numbers::is_blank))]
 fn is_blank(b: u8) -> bool
     ensures { result ≡ is_blank b }
 {
-    matches!(b, b' ' | b'\t' | b'\x0b' | b'\r' | b'\n')
-}
-
-// How many blanks stand in front.
-fn blanks(s: &[u8]) -> usize
-    ensures value { result ≡ prefix_len is_blank s.now }
-    ensures within { result ≤ length s.now }
-{
-    s.iter().take_while(|b| is_blank(**b)).count()
+    match b {
+        b' ' => true,
+        b'\t' => true,
+        b'\x0b' => true,
+        b'\r' => true,
+        b'\n' => true,
+        _ => false,
+    }
 }
 
 // The place past the blanks at a place.
@@ -134,7 +133,12 @@ pub fn past_blanks(s: &[u8], at: usize) -> usize
     requires { at ≤ length s.now }
     ensures { Skipped s.now at result }
 {
-    at + blanks(&s[at..])
+    for i in at..s.len() {
+        if !is_blank(s[i]) {
+            return i;
+        }
+    }
+    s.len()
 }
 
 // No `;` stands there.
@@ -159,7 +163,7 @@ fn onward(value: usize, more: u8) -> usize
     (value * 10 + more as usize).min(2147483649)
 }
 
-// Stays: a `while`: a `for` over the places, or over the bytes with `enumerate`, took 1.5 and 1.9 times as long for an integer of 65,000 digits.
+// Stays: a `while`: with a `for` over the places an integer of many digits takes longer to read (docs/LOOK-BACK.md).
 // The digits at a place, the number cut at 2,147,483,649, which is out of range for integers of both signs and past the end of any message.
 pub fn count(s: &[u8], at: usize) -> Digits
     requires { at ≤ length s.now }

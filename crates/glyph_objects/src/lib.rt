@@ -167,7 +167,8 @@ fn read_many(
     })
 }
 
-// The `;` behind the three objects that were read; then the row of what holds them.
+// The `;` behind the three objects that were read; then the row of what holds them. It is to be compiled into its one caller.
+#[inline]
 fn end_three(
     s: &[u8],
     before: Reached,

@@ -5,7 +5,7 @@
 
 ghost use Rattle.std.specs.Prelude.{◌≡◌, ◌+◌, ◌*◌, ◌≤◌, ◌<◌, length};
 ghost use Rattle.draft.specs.Table.{row_at};
-ghost use Rattle.member.specs.Members.{member_of, is_struct, has_key, member_in, members_from, members, find as findIn, is_among};
+ghost use Rattle.member.specs.Members.{member_of, is_struct, has_key, member_in, members_from, members, find as findIn, same_member, is_among};
 
 // A member: the row of its key and the row of its value.
 #[repr(C)]
@@ -140,6 +140,15 @@ pub fn count(table: &[u32], room: usize, rows: usize, r: usize) -> usize
     }
 }
 
+// Whether a member is the one whose key is row r.
+#[tactic(auto, unfolding(crate::specs::Members::same_member))]
+fn is_at(m: Member, r: usize) -> bool
+    requires { r < 4096 }
+    ensures { result ≡ same_member (member_of r (r + 1)) m }
+{
+    m.key as usize == r && m.value as usize == r + 1
+}
+
 // Whether m is among n members, whose first key is row `first`.
 fn is_among(table: &[u32], room: usize, rows: usize, m: Member, n: usize, first: usize) -> bool
     requires { (rows ≤ room) × (room ≤ 4096) × (room * 4 ≤ length table.now) }
@@ -147,10 +156,10 @@ fn is_among(table: &[u32], room: usize, rows: usize, m: Member, n: usize, first:
 {
     let mut here = first;
     for _ in 0..n {
-        if rows <= here || rows <= here + 1 {
+        let Some(_) = member_among(rows, here) else {
             return false;
-        }
-        if member_at(here) == m {
+        };
+        if is_at(m, here) {
             return true;
         }
         here = end_of(table, room, here + 1);
